@@ -11,9 +11,11 @@ use Rattle.orc_syntax.specs.declared.tree.Operator.{Operator}
 use Rattle.orc_syntax.specs.declared.tree.Operator.TheVariants as operators
 use Rattle.orc_syntax.specs.Tree.{Label, Link, Seq, Par, Prune, Other, Sort, leaf, variable, call, operation, val, Item, Tree, Define, Source, post}
 
+-- the bytes that a borrow shows
 abbrev pub text_of : Bor (List ℕ) → List ℕ
 text_of b = b.now
 
+-- what the code's values stand for: a name, an operator, what stands at a node, and a node
 abbrev pub label : Name → Label
 label n = record { text = n.text.now; span = n.span }
 

@@ -19,6 +19,7 @@ abbrev pub more : ℕ → List Task → List Task
 more zero ts = ts
 more (suc n) ts = visit 0 ∷ say (codes ", ") ∷ more n ts
 
+-- all arguments of a call, the last one first
 abbrev pub given : ℕ → List Task → List Task
 given zero ts = ts
 given (suc n) ts = more n (visit 0 ∷ ts)
@@ -62,12 +63,13 @@ says [] = []
 says (visit n ∷ ts) = []
 says (say t ∷ ts) = says ts ++ t
 
--- the rest
+-- the tasks from the first expression on
 abbrev pub visits : List Task → List Task
 visits [] = []
 visits (visit n ∷ ts) = visit n ∷ ts
 visits (say t ∷ ts) = visits ts
 
+-- the tasks once the next expression is known to be of this node
 abbrev pub entered : List Task → Sort → List Task
 entered [] s = []
 entered (visit n ∷ ts) s = parts n s ts

@@ -11,6 +11,7 @@ pub record Count : Type 0 where
   pub operators : ℕ
   pub half : Bool
 
+-- nothing stands before the place
 abbrev pub none : Count
 none = record { levels = 0; outside = []; operators = 0; half = false }
 
@@ -30,6 +31,7 @@ counted c (Arrow s) =
     else record { levels = c.levels; outside = c.outside; operators = c.operators + 1; half = true }
 counted c _ = c
 
+-- and after these tokens
 abbrev pub counted_on : Count → List Lexeme → Count
 counted_on c [] = c
 counted_on c (t ∷ ts) = counted_on (counted c t.sort) ts

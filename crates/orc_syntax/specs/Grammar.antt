@@ -10,7 +10,7 @@ use Rattle.orc_lex.specs.Tokens.{Word, One, Join, Arrow, Open, Close, Comma, Ass
 use Rattle.orc_syntax.specs.Tree as trees
 use Rattle.orc_syntax.specs.Tree.{Label, Link, Seq, Par, Prune, Other, Tree, Leaf, Variable, Call, Operation, Trees, Nil, Cons, Define, Source}
 
--- an operator as it is written: one sign, or two round a variable
+-- an operator as it is written: one sign, or two with a variable between them
 pub data Sign : Type 0 where
   Single : (j : Joint) → (at : Span) → Sign
   Double : (s : Side) → (first : Span) → (x : Label) → (second : Span) → Sign

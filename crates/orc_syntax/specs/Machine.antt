@@ -26,6 +26,7 @@ pub data Joining : Type 0 where
   Op : (link : Link) → Joining
   Bind : (x : Label) → Joining
 
+-- how tightly it binds; a `val` least
 abbrev pub level_of : Joining → ℕ
 level_of (Op l) = level l
 level_of (Bind x) = 0
@@ -38,7 +39,8 @@ abbrev pub sort_by : Joining → trees.Sort
 sort_by (Op l) = operation l
 sort_by (Bind x) = trees.val x
 
--- what waits for an expression to end
+-- what waits for an expression to end: a joining with the start of its left side, a bracket, a call with its arguments so far, the `val x =` of a G,
+-- the `def f(a, b) =` of a body
 pub data Frame : Type 0 where
   Before : (j : Joining) → (start : ℕ) → Frame
   Bracket : (start : ℕ) → Frame
@@ -88,6 +90,7 @@ pub record State : Type 0 where
 abbrev pub state : Mode → Context → List Item → List Frame → State
 state mode c ns k = record { mode = mode; context = c; nodes = ns; frames = k }
 
+-- what joining leaves: the last operand, the nodes, and the frames that still wait
 pub record Reduced : Type 0 where
   pub operand : Operand
   pub nodes : List Item
@@ -96,7 +99,7 @@ pub record Reduced : Type 0 where
 abbrev pub reduced : Operand → List Item → List Frame → Reduced
 reduced o ns k = record { operand = o; nodes = ns; frames = k }
 
--- joins what binds at least as tightly as m
+-- joins what waits on top of the frames and binds at least as tightly as m, with the operand o as the right side of the topmost
 abbrev pub reduce : ℕ → Operand → List Item → List Frame → Reduced
 reduce m o ns [] = reduced o ns []
 reduce m o ns (Before j start ∷ k) =
@@ -148,6 +151,7 @@ push l c r = state Want c r.nodes (Before (Op l) r.operand.start ∷ r.frames)
 abbrev pub called : Label → ℕ → ℕ → Context → List Item → List Frame → State
 called x count end c ns k = state (Have (operand x.span.start end)) c (ns ++ item (call x count) (span x.span.start end) ∷ []) k
 
+-- a bracket closes, behind an expression all of whose operators are joined
 abbrev pub close : ℕ → Context → List Item → List Frame → Result State What
 close end c ns [] = Err wants.End
 close end c ns (Before j start ∷ k) = Err wants.End
@@ -156,6 +160,7 @@ close end c ns (Arguments x count ∷ k) = Ok (called x (count + 1) end c ns k)
 close end c ns (Bound x start ∷ k) = Err wants.Expression
 close end c ns (Body f ∷ k) = Err wants.Expression
 
+-- a comma, behind an expression all of whose operators are joined
 abbrev pub another : Context → List Item → List Frame → Result State What
 another c ns [] = Err wants.End
 another c ns (Before j start ∷ k) = Err wants.End
@@ -253,6 +258,7 @@ head (Separated f) _ at c ns k = Err wants.Name
 head (Closed f) Assign at c ns k = Ok (state Want c ns (Body f ∷ k))
 head (Closed f) _ at c ns k = Err wants.Assign
 
+-- what one more token does, by what has just been read
 abbrev pub advance : Mode → Sort → Span → Context → List Item → List Frame → Result State What
 advance Want sort at c ns k = begin sort at c ns k
 advance First sort at c ns k = first sort at c ns k
@@ -274,6 +280,7 @@ abbrev pub then_run : (State → Result State Refusal) → ℕ → Result State 
 then_run go at (Ok s) = go s
 then_run go at (Err what) = Err (at, what)
 
+-- what these tokens make of a state, or the first one that is refused
 abbrev pub run : List Lexeme → State → Result State Refusal
 run [] s = Ok s
 run (t ∷ ts) s = then_run (run ts) t.span.start (step s t)
@@ -283,6 +290,7 @@ pub record Posted : Type 0 where
   pub definitions : List Defined
   pub main : List Item
 
+-- the program, where nothing waits behind its last operand
 abbrev pub whole : Context → Reduced → Result Posted What
 whole c r = elim r.frames [
   | [] ↦ Ok (record { definitions = c.definitions; main = r.nodes })

@@ -3,6 +3,7 @@ use Rattle.std.specs.Prelude.{◌≤◌, List, [], ◌∷◌, Some}
 use Rattle.orc_lex.specs.declared.token.Span.{Span}
 use Rattle.orc_syntax.specs.Tree.{Link, Seq, Prune, Tree, Leaf, Variable, Call, Operation, Val, Trees, Nil, Cons, Define, Source, span_of}
 
+-- the inner span begins no earlier and ends no later than the outer one
 abbrev pub IsInside : Span → Span → Type 0
 IsInside inner outer = (outer.start ≤ inner.start) × (inner.end ≤ outer.end)
 

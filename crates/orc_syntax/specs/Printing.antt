@@ -6,6 +6,7 @@ use Rattle.orc_lex.specs.declared.token.Plain.TheVariants.{Number, Truth, Signal
 use Rattle.orc_syntax.specs.Tree.{Label, Link, Seq, Par, Prune, Other, Tree, Leaf, Variable, Call, Operation, Val, Trees, Nil, Cons, Define, Source}
 use Rattle.orc_syntax.specs.Grammar.{level, left_level, right_level}
 
+-- a literal or `stop`
 abbrev pub plain_text : Plain → List ℕ
 plain_text (Number z) = signed_decimal z
 plain_text (Truth true) = codes "true"
@@ -49,6 +50,7 @@ abbrev pub other_names : List Label → List ℕ
 other_names [] = []
 other_names (x ∷ xs) = codes ", " ++ (x.text ++ other_names xs)
 
+-- names with commas between them
 abbrev pub names : List Label → List ℕ
 names [] = []
 names (x ∷ xs) = x.text ++ other_names xs

@@ -74,12 +74,13 @@ nodes r = map item r.nodes.items
 abbrev pub stack : Reader → List machine.Frame
 stack r = over [] r.frames.items
 
--- What a step leaves is what the machine says, unless memory runs out.
+-- An error is what the machine says was wanted, unless memory runs out; the reader knows no depth.
 abbrev pub Fails : {Y : Type 0} → StepError → Result Y What → Type 0
 Fails errors.Memory r = Unit {0}
 Fails errors.Deep r = ⊥
 Fails (errors.Wanted what) r = r ≡ Err what
 
+-- a step's result and the reader that it leaves are the state that the machine says
 abbrev pub Leaves : Result Mode StepError → Reader → Result machine.State What → Type 0
 Leaves (Ok m) r s = s ≡ Ok (machine.state (mode m) (context r) (nodes r) (stack r))
 Leaves (Err e) r s = Fails e s
@@ -94,6 +95,7 @@ Makes (Err (errors.Wanted what)) p = ⊥
 abbrev pub ends : Ast → machine.Posted
 ends a = record { definitions = map definition a.definitions.items; main = map item a.main.nodes.items }
 
+-- the tree is the one that the machine says
 abbrev pub Ends : Result Ast StepError → Result machine.Posted What → Type 0
 Ends (Ok a) r = r ≡ Ok (ends a)
 Ends (Err e) r = Fails e r

@@ -1,4 +1,6 @@
-//! How deep a place of a definition or main expression is.
+//! How deep a place of a definition or main expression is: the limits on brackets, `val`s and operators (S5).
+//!
+//! They bound how deep the written-out terms nest. They are counted token by token beside the reader, which itself knows no limit.
 
 ghost use Rattle.std.specs.Prelude.{◌≡◌, if◌then◌else◌, nat_lt};
 ghost use Rattle.orc_lex.specs.declared.token.Joint.{Joint};
@@ -13,19 +15,24 @@ use orc_lex::token::Kind;
 use orc_rules::limits::{MOST_BRACKETS, MOST_OPERATORS};
 use std::alloc::Global;
 
-/// The brackets that are open, the `val`s and the operators that stand before a place.
+// In contracts `count_of` is what a `Depth` has counted, and `none` that nothing was. `Counts result old new token` says that the token was counted,
+// or is one too many, or memory was refused.
+
+/// The brackets that are open, the `val`s and the operators that stand before a place of a definition or main expression.
 #[derive(Drop)]
 pub struct Depth {
-    /// Open brackets and `val`s, without what stands in brackets that are closed.
+    /// Open brackets and `val`s, without what stands in brackets that are closed. At most `MOST_BRACKETS`.
     levels: usize,
-    /// The levels before each open bracket.
+    /// The levels before each open bracket, the innermost last.
     outside: Vec<usize>,
+    /// The operators, those in closed brackets too. At most `MOST_OPERATORS`.
     operators: usize,
     /// The first sign of an operator with a variable has come, and not yet its second.
     half: bool,
 }
 
 impl Depth {
+    /// The start of a definition or main expression.
     pub fn new(alloc: Global) -> Depth
         ensures { count_of result ≡ none }
     {
@@ -47,7 +54,7 @@ impl Depth {
         self.half = false;
     }
 
-    /// Where a definition has become whole, nothing stands before what comes.
+    /// Begins to count again where a definition has become whole: where more definitions are whole, `defined_now`, than there were, `defined`.
     #[inline(always)]
     pub fn begin_part(&mut self, defined: usize, defined_now: usize)
         ensures { count_of self.new ≡ (if nat_lt defined defined_now then none else count_of self.old) }
@@ -57,6 +64,7 @@ impl Depth {
         }
     }
 
+    // An operator of one sign.
     #[inline(always)]
     fn operate(&mut self) -> Result<(), StepError>
         ensures { (joint : Joint) → Counts result (count_of self.old) (count_of self.new) (tokens.Join joint) }
@@ -68,7 +76,7 @@ impl Depth {
         Ok(())
     }
 
-    // The first or the second sign of an operator with a variable.
+    // The first or the second sign of an operator with a variable. The first one counts for both.
     #[inline(always)]
     fn sign(&mut self) -> Result<(), StepError>
         ensures { (side : Side) → Counts result (count_of self.old) (count_of self.new) (tokens.Arrow side) }
@@ -99,6 +107,7 @@ impl Depth {
         Ok(())
     }
 
+    // A `val`. What follows it nests in it, up to the end of the enclosing brackets.
     #[inline(always)]
     fn bind(&mut self) -> Result<(), StepError>
         ensures { Counts result (count_of self.old) (count_of self.new) tokens.Val }
@@ -110,7 +119,7 @@ impl Depth {
         Ok(())
     }
 
-    // A bracket closes.
+    // A bracket closes, and with it the `val`s inside.
     #[inline(always)]
     #[tactic(auto, using(crate::proofs::Views::counts))]
     fn close(&mut self)
@@ -118,11 +127,13 @@ impl Depth {
     {
         match self.outside.pop() {
             Some(levels) => self.levels = levels,
+            // Not reached: the reader refuses a closing bracket that closes nothing.
             None => self.levels = 0,
         }
     }
 
-    /// Counts one more token, unless it is one too many.
+    /// Counts one more token, which the reader has taken. `Deep` where it is a bracket, `val` or operator too many; `Memory` where a growth was
+    /// refused.
     #[inline(always)]
     pub fn count(&mut self, kind: Kind) -> Result<(), StepError>
         ensures { Counts result (count_of self.old) (count_of self.new) (sort kind.entry) }

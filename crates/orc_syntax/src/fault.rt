@@ -7,28 +7,28 @@ use orc_lex::token::{Span, What};
 use std::error::Error;
 use std::fmt;
 
-/// Why a text is no program, and where. Places are bytes from 0.
+/// Why a text is no program, and where. Places are bytes from 0. A user sees a fault as its code, S1 to S8, with its place.
 #[derive(Clone, Copy, Debug, PartialEq, Eq)]
 pub enum SyntaxFault {
     /// S6: it has over `LONGEST_SOURCE` bytes.
     Long,
-    /// S1: its bytes stop being UTF-8 there.
+    /// S1: its bytes stop being UTF-8 at this place.
     Encoding(usize),
-    /// S2: no token begins there.
+    /// S2: no token begins at this place.
     Character(usize),
     /// S3: a number outside the range of 64 signed bits.
     Number(Span),
-    /// S4: the token that can't go on, or the text's end; and what had to stand there.
+    /// S4: the place of a token with which no program goes on, or of the text's end where the program isn't whole; and what had to stand there.
     Expected(usize, What),
     /// S5: a bracket or `val` inside `MOST_BRACKETS` others, or an operator behind `MOST_OPERATORS` others, in one definition or main expression.
     Deep(usize),
-    /// S7: a `{-` that isn't closed.
+    /// S7: the place of a `{-` that isn't closed.
     Comment(usize),
-    /// S8: a growth was refused.
+    /// S8: a growth was refused. It says nothing of the text.
     Memory,
 }
 
-// Its code and its place.
+// A fault's line: its code and its place, for `Expected` with what was wanted.
 impl fmt::Display for SyntaxFault {
     ghost output = { λ f. Some (syntax_line f) };
 
@@ -55,7 +55,7 @@ impl fmt::Display for SyntaxFault {
 impl Error for SyntaxFault {}
 
 impl SyntaxFault {
-    /// The process's status at this fault.
+    /// The process's exit status at this fault: 5 where memory was refused, else 1.
     pub fn status(self) -> u8
         ensures { result ≡ syntax_status self }
     {

@@ -4,7 +4,7 @@
 //! fault. The grammar stands in specs/Grammar.antt as the ways in which programs are written, and specs/Text.antt says what
 //! a text spells and what is wrong with one that spells nothing. No text spells two programs
 //! (`one_source`), and the parts of one stand inside their wholes (`parts_inside`). What is printed of a program spells it
-//! again, its places apart (`print`, `printed_again`).
+//! again, but for its places (`print`, `printed_again`).
 #![tactic(auto)]
 
 mod depth;

@@ -1,4 +1,8 @@
-//! Printing programs.
+//! Prints programs in their plain form.
+//!
+//! The nodes of an expression stand in postorder, so the whole comes last. They are printed from the last one to the first, each with the text on
+//! its right side before that on its left: a stack of tasks says what is still to be printed, and the pieces of text are gathered from right to
+//! left, and appended in the opposite order at the end.
 
 ghost use Rattle.std.specs.Prelude.{◌≡◌, ◌∷◌, ◌++◌, [], ℕ, List, map, reverse, codes, IfOk, OnOk, OnErr};
 ghost use Rattle.std.specs.Fmt.{signed_decimal};
@@ -14,27 +18,36 @@ use crate::tree::{Ast, Definition, Name, Node, Operator, Part};
 use orc_lex::token::Plain;
 use std::alloc::{AllocError, Global};
 
-/// A text that is printed as it stands, or a number.
+// In contracts `waiting` is the stack of tasks with the next one first, `said` is the text of pieces, and `OnOk` asks for nothing after an error.
+// Other words, such as `parts`, are those of specs/Backward.antt: the stack that a function here leaves, from the one that it finds.
+
+/// A piece of the printed text: bytes as they stand, or a number in decimal.
 #[derive(Clone, Copy)]
 pub enum Piece<'a> {
     Text(&'a [u8]),
     Number(i64),
 }
 
-/// What is still to be printed: an expression where one of this level is wanted, or a piece.
+/// What is still to be printed.
 #[derive(Clone, Copy)]
 pub enum Task<'a> {
+    /// The expression of the next node, which gets brackets where it binds more loosely than this level: 0 for any expression, else that which an
+    /// operator asks of its side, as in `Levels`.
     Visit(usize),
+    /// This piece.
     Say(Piece<'a>),
 }
 
-/// The tasks, the next one last, and the pieces that are said, the last one of the text first.
+/// What is still to be printed of an expression, and what is printed already.
 #[derive(Drop)]
 pub struct Printer<'a> {
+    /// A stack, the next task last. Its tasks stand in the order of the text: what is printed next stands furthest to the right.
     pub tasks: Vec<Task<'a>>,
+    /// The last piece of the text first.
     pub pieces: Vec<Piece<'a>>,
 }
 
+// The one piece of a literal or of `stop`.
 fn plain_piece(plain: Plain) -> Piece<'static>
     ensures { piece_text result ≡ plain_text plain }
 {
@@ -47,7 +60,8 @@ fn plain_piece(plain: Plain) -> Piece<'static>
     }
 }
 
-/// How tightly an operator binds, and its left and its right side have to.
+/// How tightly an operator binds, and how tightly its left and its right side have to: from 1, the loosest, to 4; 5 where only an operand without
+/// an operator will do. A `val` has level 0.
 #[derive(Clone, Copy)]
 struct Levels {
     own: usize,
@@ -84,8 +98,9 @@ fn levels_of(operator: Operator) -> Levels
     }
 }
 
+// Most functions push the tasks of one form in the order of its text, so that the next task is the rightmost.
 impl<'a> Printer<'a> {
-    // Lets a text wait, which is then printed next.
+    // Pushes a text, which is then printed next.
     fn say(&mut self, text: &'a [u8]) -> Result<(), AllocError>
         ensures tasks { OnOk result (waiting self.new.tasks.items ≡ say text.now ∷ waiting self.old.tasks.items) }
         ensures pieces { self.new.pieces ≡ self.old.pieces }
@@ -94,7 +109,7 @@ impl<'a> Printer<'a> {
         Ok(())
     }
 
-    // Lets an expression wait, which is then printed next.
+    // Pushes an expression, which is then printed next, where this level is wanted.
     fn visit(&mut self, level: usize) -> Result<(), AllocError>
         ensures tasks { OnOk result (waiting self.new.tasks.items ≡ visit level ∷ waiting self.old.tasks.items) }
         ensures pieces { self.new.pieces ≡ self.old.pieces }
@@ -103,7 +118,7 @@ impl<'a> Printer<'a> {
         Ok(())
     }
 
-    // Lets so many arguments wait in front of the first one, with commas between them.
+    // Pushes so many arguments behind the first one, each after a comma.
     fn others(&mut self, count: usize) -> Result<(), AllocError>
         ensures tasks { OnOk result (waiting self.new.tasks.items ≡ more count (waiting self.old.tasks.items)) }
         ensures pieces { self.new.pieces ≡ self.old.pieces }
@@ -115,7 +130,7 @@ impl<'a> Printer<'a> {
         Ok(())
     }
 
-    // Lets so many arguments wait, with commas between them.
+    // Pushes so many arguments with commas between them.
     fn arguments(&mut self, count: usize) -> Result<(), AllocError>
         ensures tasks { OnOk result (waiting self.new.tasks.items ≡ given count (waiting self.old.tasks.items)) }
         ensures pieces { self.new.pieces ≡ self.old.pieces }
@@ -127,7 +142,7 @@ impl<'a> Printer<'a> {
         self.others(count - 1)
     }
 
-    // Lets the variable of an operator wait with its two signs.
+    // Pushes the variable of an operator with the sign before it and the one behind it.
     fn arrow(
         &mut self,
         before: &'a [u8],
@@ -142,7 +157,7 @@ impl<'a> Printer<'a> {
         self.say(behind)
     }
 
-    // Lets an operator wait.
+    // Pushes the signs of an operator, with a space on each side.
     fn sign(&mut self, operator: Operator<'a>) -> Result<(), AllocError>
         ensures tasks { OnOk result (waiting self.new.tasks.items ≡ signs (link operator.entry) (waiting self.old.tasks.items)) }
         ensures pieces { self.new.pieces ≡ self.old.pieces }
@@ -157,7 +172,7 @@ impl<'a> Printer<'a> {
         }
     }
 
-    // Lets an opening bracket wait, where there is one.
+    // Pushes an opening bracket, where there is one.
     fn opening(&mut self, inner: bool) -> Result<(), AllocError>
         ensures tasks { OnOk result (waiting self.new.tasks.items ≡ opening inner (waiting self.old.tasks.items)) }
         ensures pieces { self.new.pieces ≡ self.old.pieces }
@@ -165,7 +180,7 @@ impl<'a> Printer<'a> {
         if inner { self.say(b"(") } else { Ok(()) }
     }
 
-    // Lets a closing bracket wait, where there is one.
+    // Pushes a closing bracket, where there is one.
     fn closing(&mut self, inner: bool) -> Result<(), AllocError>
         ensures tasks { OnOk result (waiting self.new.tasks.items ≡ closing inner (waiting self.old.tasks.items)) }
         ensures pieces { self.new.pieces ≡ self.old.pieces }
@@ -173,7 +188,7 @@ impl<'a> Printer<'a> {
         if inner { self.say(b")") } else { Ok(()) }
     }
 
-    // Lets an operator wait with its sides, where this level is wanted.
+    // Pushes an operator with its sides, in brackets where it binds more loosely than wanted.
     fn operation(&mut self, operator: Operator<'a>, wanted: usize) -> Result<(), AllocError>
         ensures tasks { OnOk result (waiting self.new.tasks.items ≡ parts wanted (operation (link operator.entry)) (waiting self.old.tasks.items)) }
         ensures pieces { self.new.pieces ≡ self.old.pieces }
@@ -187,7 +202,8 @@ impl<'a> Printer<'a> {
         self.closing(inner)
     }
 
-    // Lets a `val` wait with its sides, where this level is wanted.
+    // Pushes a `val` with its sides, in brackets unless any expression will do. Its G always is in brackets of its own: without them a G that ends in
+    // a name and an F that begins with a bracket would be read as a call.
     fn val(&mut self, name: Name<'a>, wanted: usize) -> Result<(), AllocError>
         ensures tasks { OnOk result (waiting self.new.tasks.items ≡ parts wanted (val (label name.entry)) (waiting self.old.tasks.items)) }
         ensures pieces { self.new.pieces ≡ self.old.pieces }
@@ -203,7 +219,7 @@ impl<'a> Printer<'a> {
         self.closing(inner)
     }
 
-    // Lets a call wait with its arguments.
+    // Pushes a call with its arguments.
     fn call(&mut self, name: Name<'a>, count: usize) -> Result<(), AllocError>
         ensures tasks { (n : ℕ) → OnOk result (waiting self.new.tasks.items ≡ parts n (call (label name.entry) count) (waiting self.old.tasks.items)) }
         ensures pieces { self.new.pieces ≡ self.old.pieces }
@@ -214,7 +230,7 @@ impl<'a> Printer<'a> {
         self.say(b")")
     }
 
-    // Lets the parts of a node wait, where this level is wanted.
+    // Pushes what a node prints, where this level is wanted: its own text, and a `Visit` for each of its parts.
     fn parts(&mut self, part: Part<'a>, wanted: usize) -> Result<(), AllocError>
         ensures tasks { OnOk result (waiting self.new.tasks.items ≡ parts wanted (sort part.entry) (waiting self.old.tasks.items)) }
         ensures pieces { self.new.pieces ≡ self.old.pieces }
@@ -231,7 +247,8 @@ impl<'a> Printer<'a> {
         }
     }
 
-    // Says the pieces that wait before the next expression: its level.
+    // Prints the pieces that are due before the next expression, and takes that expression from the stack: the level that is wanted of it. None where
+    // no expression is left.
     fn next(&mut self) -> Result<Option<usize>, AllocError>
         ensures some { IfOk result (IfNext (λ n. visits (waiting self.old.tasks.items) ≡ visit n ∷ waiting self.new.tasks.items)) }
         ensures none { IfOk result (OnNone (visits (waiting self.old.tasks.items) ≡ [])) }
@@ -246,23 +263,26 @@ impl<'a> Printer<'a> {
         Ok(None)
     }
 
-    // Prints the expressions that wait, whose nodes these are.
+    // Prints all tasks, whose expressions have these nodes: the next expression's node is the last one that is left.
     fn print(&mut self, nodes: &[Node<'a>]) -> Result<(), AllocError>
         ensures { OnOk result (said self.new.pieces.items ≡ back (waiting self.old.tasks.items) (reverse (map item nodes.now)) ++ said self.old.pieces.items) }
     {
         let mut count = nodes.len();
         while count > 0 {
             let Some(level) = self.next()? else {
+                // Not reached with the nodes of a tree: each has a task.
                 return Ok(());
             };
             count -= 1;
             self.parts(nodes[count].part, level)?;
         }
+        // What is left stands at the front of the text.
         self.next()?;
         Ok(())
     }
 }
 
+// Appends a number in decimal.
 fn push_number(out: &mut Vec<u8>, number: i64) -> Result<(), AllocError>
     ensures { OnOk result (out.new.items ≡ out.old.items ++ signed_decimal number) }
 {
@@ -270,6 +290,7 @@ fn push_number(out: &mut Vec<u8>, number: i64) -> Result<(), AllocError>
     out.extend_from_slice(buffer.format(number).as_bytes())
 }
 
+// Appends the text of a piece.
 fn push_piece(out: &mut Vec<u8>, piece: Piece) -> Result<(), AllocError>
     ensures { OnOk result (out.new.items ≡ out.old.items ++ piece_text piece.entry) }
 {
@@ -279,7 +300,7 @@ fn push_piece(out: &mut Vec<u8>, piece: Piece) -> Result<(), AllocError>
     }
 }
 
-// Prints pieces, the last one first.
+// Appends the texts of pieces, the last one first: so they come out from left to right.
 fn push_pieces(out: &mut Vec<u8>, pieces: &[Piece]) -> Result<(), AllocError>
     ensures { OnOk result (out.new.items ≡ out.old.items ++ said pieces.now) }
 {
@@ -291,6 +312,7 @@ fn push_pieces(out: &mut Vec<u8>, pieces: &[Piece]) -> Result<(), AllocError>
     Ok(())
 }
 
+// Appends the text of an expression.
 fn print_expression(alloc: Global, nodes: &[Node], out: &mut Vec<u8>) -> Result<(), AllocError>
     ensures { (t : Tree) → IsExpr nodes.now t → OnOk result (out.new.items ≡ out.old.items ++ text 0 t) }
 {
@@ -303,7 +325,7 @@ fn print_expression(alloc: Global, nodes: &[Node], out: &mut Vec<u8>) -> Result<
     push_pieces(out, &printer.pieces)
 }
 
-// Prints names behind the first one, each after a comma.
+// Appends names behind the first one, each after a comma.
 fn print_other_names(xs: &[Name], out: &mut Vec<u8>) -> Result<(), AllocError>
     ensures { OnOk result (out.new.items ≡ out.old.items ++ other_names (map label xs.now)) }
 {
@@ -314,6 +336,7 @@ fn print_other_names(xs: &[Name], out: &mut Vec<u8>) -> Result<(), AllocError>
     Ok(())
 }
 
+// Appends names with commas between them.
 fn print_names(xs: &[Name], out: &mut Vec<u8>) -> Result<(), AllocError>
     ensures { OnOk result (out.new.items ≡ out.old.items ++ names (map label xs.now)) }
 {
@@ -326,6 +349,8 @@ fn print_names(xs: &[Name], out: &mut Vec<u8>) -> Result<(), AllocError>
     }
 }
 
+// Appends a definition's line. Its body always is in brackets: without them one that ends in a name and a next line that begins with a bracket would
+// be read as a call.
 fn print_definition(alloc: Global, d: &Definition, out: &mut Vec<u8>) -> Result<(), AllocError>
     ensures { (t : Tree) → IsExpr d.now.body.nodes.items t → OnOk result (out.new.items ≡ out.old.items ++ definition (record { name = label d.now.name; parameters = map label d.now.parameters.items; body = t })) }
 {
@@ -359,21 +384,22 @@ fn print_text(alloc: Global, ast: &Ast, out: &mut Vec<u8>) -> Result<(), AllocEr
 
 /// Appends the text of a program: a line for each definition, and the main expression in a line.
 ///
-/// An operand is in brackets exactly where its place wants a tighter form. The text spells the program again, its places
-/// apart; where it is over the limit of a source or its brackets are too deep, `parse` refuses it. Where a growth is
-/// refused, nothing is appended.
+/// The side of an operator is in brackets exactly where its place wants a tighter form; the body of a definition and the G of a `val` always are.
+/// The text spells the same program, with other places; where it is over the limit of a source or its brackets are too deep, `parse` refuses it.
+/// The error is refused memory, and then nothing is appended.
 pub fn print(alloc: Global, ast: &Ast, out: &mut Vec<u8>) -> Result<(), AllocError>
     ensures printed { (s : Source) → IsAst ast.now s → OnOk result (out.new.items ≡ out.old.items ++ printed s) }
     // The program of a text is spelled again.
     ensures same { (src : List ℕ) (s : Source) → IsAst ast.now s → SpellsText src s → OnOk result (AppendsSame out.old.items out.new.items s) }
     ensures refused { OnErr result (out.new.items ≡ out.old.items) }
 {
+    // The text is made in a buffer of its own, so that memory refused halfway leaves `out` as it was.
     let mut text = Vec::new(alloc);
     print_text(alloc, ast, &mut text)?;
     out.extend_from_slice(&text)
 }
 
-/// Whatever the printed text of a program spells is that program, places apart.
+/// A law, with nothing to run: whatever the printed text of a program spells is that program, but for its places.
 pub fn printed_again()
     ensures { (src : List ℕ) (s t : Source) → SpellsText src s → SpellsText (printed s) t → IsSame t s }
 {}

@@ -1,4 +1,7 @@
-//! Reading a program token by token.
+//! Reads a program token by token, without recursion: an operator-precedence parser with a stack of its own.
+//!
+//! A `Mode` says what was read last, a `Frame` what still waits to be closed or to get its right side. The nodes of the tree are written in
+//! the order of their ends (postorder), so the nodes of an expression that was just read are always the last ones.
 
 ghost use Rattle.std.specs.Prelude.{if◌then◌else◌, ◌≡◌, ◌++◌, IfOk, IfErr, IfSome, IfNone, List, ◌∷◌, [], ℕ, Ok, Err, map, length};
 ghost use Rattle.orc_lex.specs.Tokens.{sort};
@@ -17,7 +20,10 @@ use orc_lex::token::{Joint, Kind, Plain, Side, Span, Token, What};
 use std::alloc::{AllocError, AllocFailed, Global};
 use std::mem;
 
-/// Where an expression that has been read begins and ends, its outer brackets counted.
+// In contracts `machine.f` is the function f of specs/Machine.antt, mostly that of the same name. `Leaves` says that the result and the reader are
+// what it gives, and `Makes` that the operand is so, unless memory was refused. `context`, `nodes` and `stack` are what the reader holds.
+
+/// Where an expression that has been read begins and ends, its outer brackets included. Its nodes need no mention: they are the last ones.
 #[derive(Clone, Copy)]
 pub struct Operand {
     pub start: usize,
@@ -28,43 +34,52 @@ pub struct Operand {
 #[derive(Clone, Copy)]
 pub enum Joining<'a> {
     Operator(Operator<'a>),
+    /// The `val` of this variable joins its G, which stands first, with its F.
     Val(Name<'a>),
 }
 
-/// What waits for an expression to end.
+/// What waits for an expression to end. Places are bytes of the text.
 #[derive(Clone, Copy)]
 pub enum Frame<'a> {
-    /// A link, and where its left side begins.
+    /// An operator or `val` that was read with its left side and waits for the right one; and where its left side (a `val`: its word) begins.
     Before(Joining<'a>, usize),
     /// A bracket, with its place.
     Bracket(usize),
-    /// A call with so many arguments so far.
+    /// A call whose bracket is open, with the number of arguments before the one that is read.
     Arguments(Name<'a>, usize),
-    /// `val x =`, with the place of `val`.
+    /// `val x =`, which waits for its G; with the place of `val`.
     Bound(Name<'a>, usize),
-    /// `def f(a, b) =`.
+    /// `def f(a, b) =`, which waits for its body.
     Body(Name<'a>),
 }
 
-/// How much of a `val x =` or `def f(a, b) =` has come.
+/// How much of a `val x =` or `def f(a, b) =` has come. A `val` has the place of its word, a `def` its name.
 #[derive(Clone, Copy)]
 pub enum Heading<'a> {
+    /// `val`
     Val(usize),
+    /// `val x`
     ValName(usize, Name<'a>),
+    /// `def`
     Def,
+    /// `def f`
     DefName(Name<'a>),
+    /// `def f(`
     Opened(Name<'a>),
+    /// `def f(a`
     Parameter(Name<'a>),
+    /// `def f(a,`
     Comma(Name<'a>),
+    /// `def f(a)`
     Closed(Name<'a>),
 }
 
 /// What has just been read.
 #[derive(Clone, Copy)]
 pub enum Mode<'a> {
-    /// Something behind which an expression must begin.
+    /// Something behind which an expression must begin: the text's start, an operator, an opening bracket, a comma, a heading with its `=`.
     Want,
-    /// The bracket of a call.
+    /// The bracket of a call: an argument or a closing bracket comes.
     First,
     /// A name, which a bracket makes a call.
     Named(Name<'a>),
@@ -72,17 +87,20 @@ pub enum Mode<'a> {
     Have(Operand),
     /// The first sign of an operator with a variable.
     Signed(Side, Operand),
-    /// Its variable.
+    /// Its variable. Both keep the operand on the operator's left.
     Variable(Side, Operand, Name<'a>),
     /// Part of a `val x =` or `def f(a, b) =`.
     Heads(Heading<'a>),
 }
 
-/// Why a token isn't taken.
+/// Why a token isn't taken. What the reader holds after an error isn't said.
 #[derive(Debug, Drop)]
 pub enum StepError {
+    /// Memory was refused.
     Memory,
+    /// No program goes on with this token; this would have to stand in its place.
     Wanted(What),
+    /// One more bracket, `val` or operator than a definition or main expression may have. Only `Depth` gives it.
     Deep,
 }
 
@@ -103,7 +121,7 @@ impl<T: Drop> From<AllocFailed<T>> for StepError {
 }
 
 impl<'a> Joining<'a> {
-    // How tightly it binds.
+    // How tightly it binds. The levels of the grammar, from the loosest: 0 `val`, 1 `;`, 2 `<x<`, 3 `|`, 4 `>x>`.
     fn level(&self) -> u8
         ensures { result ≡ machine.level_of (joining self.now) }
     {
@@ -116,6 +134,7 @@ impl<'a> Joining<'a> {
         }
     }
 
+    // What stands at the node that it makes.
     fn part(self) -> Part<'a>
         ensures { part_sort result ≡ machine.sort_by (joining self.entry) }
     {
@@ -126,7 +145,8 @@ impl<'a> Joining<'a> {
     }
 }
 
-// How tightly what stands before an operator binds at least.
+// How tightly what stands left of an operator binds at least: as tightly as the operator itself, which so groups to the left. `>x>` groups to the
+// right, so it asks for more than any operator has.
 fn left_level(operator: Operator<'_>) -> u8
     ensures { result ≡ left_level_of (link operator.entry) }
 {
@@ -138,6 +158,7 @@ fn left_level(operator: Operator<'_>) -> u8
     }
 }
 
+// The operator that one sign is by itself, without a variable.
 fn operator_of(joint: Joint) -> Operator<'static>
     ensures { link result ≡ link_of joint }
 {
@@ -149,6 +170,7 @@ fn operator_of(joint: Joint) -> Operator<'static>
     }
 }
 
+// The operator that two signs are with the variable between them: `>x>` or `<x<`.
 fn operator_by<'a>(side: Side, variable: Name<'a>) -> Operator<'a>
     ensures { link result ≡ link_by side (label variable.entry) }
 {
@@ -158,7 +180,7 @@ fn operator_by<'a>(side: Side, variable: Name<'a>) -> Operator<'a>
     }
 }
 
-/// What is wanted where a `val x =` or `def f(a, b) =` isn't whole.
+// What has to come next in a `val x =` or `def f(a, b) =` that isn't whole. Behind `def f(` a `)` may come too; `Name` is given all the same.
 fn heading_wants(head: Heading<'_>) -> What
     ensures { result ≡ machine.heading_wants (heading head.entry) }
 {
@@ -176,16 +198,18 @@ pub struct Reader<'a> {
     alloc: Global,
     /// The definitions that are whole.
     definitions: Vec<Definition<'a>>,
-    /// The parameters of the one that is read.
+    /// The parameters so far of the definition that is being read.
     parameters: Vec<Name<'a>>,
-    /// The nodes of the body or main expression that is read.
+    /// The nodes so far of the body or main expression that is being read.
     nodes: Vec<Node<'a>>,
-    /// What waits in it, the innermost last.
+    /// The stack of what waits in it, the innermost last. A definition's `Body` can only be the first one.
     frames: Vec<Frame<'a>>,
 }
 
 // What a token does is inlined into the loop over the tokens: each call would copy the token and what has just been read.
+// The functions follow those of specs/Machine.antt, a state machine that is proved to read what the grammar describes.
 impl<'a> Reader<'a> {
+    /// A reader that has read nothing.
     pub fn new(alloc: Global) -> Reader<'a>
         ensures context { context result ≡ record { definitions = []; parameters = [] } }
         ensures nodes { nodes result ≡ [] }
@@ -208,7 +232,7 @@ impl<'a> Reader<'a> {
         self.definitions.len()
     }
 
-    // One more node, which ends an operand.
+    // Adds the node of an expression that has ended, from `start` to `end`, behind those of its parts. Gives the expression as an operand.
     #[inline(always)]
     #[tactic(auto, using(crate::proofs::Views::stacks))]
     fn node(&mut self, part: Part<'a>, start: usize, end: usize) -> Result<Operand, StepError>
@@ -224,7 +248,8 @@ impl<'a> Reader<'a> {
         Ok(Operand { start, end })
     }
 
-    // Joins what binds at least as tightly as `level`.
+    // Makes nodes of the operators on top of the stack that bind at least as tightly as `level`: `last` is the right side of the topmost, and what
+    // that makes is the right side of the next. Level 0 leaves no operator and no `val` up to the innermost bracket or heading.
     #[inline(always)]
     fn reduce(&mut self, level: u8, last: Operand) -> Result<Operand, StepError>
         ensures reduced { Makes result (λ o. machine.reduce level (operand last) (nodes self.old) (stack self.old) ≡ machine.reduced (operand o) (nodes self.new) (stack self.new)) }
@@ -236,6 +261,7 @@ impl<'a> Reader<'a> {
             match top {
                 Frame::Before(joining, start) => {
                     if joining.level() < level {
+                        // It binds too loosely, so it goes back.
                         self.frames.push(Frame::Before(joining, start))?;
                         return Ok(right);
                     }
@@ -250,7 +276,7 @@ impl<'a> Reader<'a> {
         Ok(right)
     }
 
-    // What is wanted behind a whole expression.
+    // What has to come behind a whole expression, as the innermost bracket or heading says.
     #[inline(always)]
     fn behind(&self) -> What
         ensures { result ≡ machine.behind (stack self.now) }
@@ -261,14 +287,16 @@ impl<'a> Reader<'a> {
                 Frame::Before(_, _) => count -= 1,
                 Frame::Bracket(_) => return What::Close,
                 Frame::Arguments(_, _) => return What::CommaOrClose,
+                // The F of the `val`, or the program that follows the definition.
                 Frame::Bound(_, _) => return What::Expression,
                 Frame::Body(_) => return What::Expression,
             }
         }
+        // The main expression is whole.
         What::End
     }
 
-    // What waits innermost.
+    // What waits innermost, on top of the stack.
     #[inline(always)]
     #[tactic(auto, using(crate::proofs::Views::over_last))]
     fn top(&self) -> Option<Frame<'a>>
@@ -283,7 +311,7 @@ impl<'a> Reader<'a> {
         }
     }
 
-    // May a `val` begin here? Not as an operand.
+    // May a `val` begin here? Not as the right side of an operator: there it needs brackets.
     #[inline(always)]
     fn takes_val(&self) -> bool
         ensures { result ≡ machine.takes_val (stack self.now) }
@@ -303,7 +331,7 @@ impl<'a> Reader<'a> {
         }
     }
 
-    // An expression must begin, or a definition.
+    // The token must begin an expression, or a definition where nothing waits.
     #[inline(always)]
     #[tactic(auto, using(crate::proofs::Views::stacks))]
     fn begin(&mut self, token: Token<'a>) -> Result<Mode<'a>, StepError>
@@ -315,6 +343,7 @@ impl<'a> Reader<'a> {
                 let operand = self.node(Part::Plain(plain), span.start, span.end)?;
                 Ok(Mode::Have(operand))
             }
+            // The next token tells whether it is a variable or a call, so it gets no node yet.
             Kind::Name(text) => Ok(Mode::Named(Name { text, span })),
             Kind::Open => {
                 self.frames.push(Frame::Bracket(span.start))?;
@@ -326,6 +355,7 @@ impl<'a> Reader<'a> {
         }
     }
 
+    // The word `val` at this place.
     #[inline(always)]
     fn begin_val(&self, start: usize) -> Result<Mode<'a>, StepError>
         ensures { (at : Span) → at.start ≡ start → Leaves result self.now (machine.begin tokens.Val at (context self.now) (nodes self.now) (stack self.now)) }
@@ -337,6 +367,7 @@ impl<'a> Reader<'a> {
         }
     }
 
+    // The word `def`. Definitions stand before the main expression, and nowhere inside another expression.
     #[inline(always)]
     fn begin_definition(&self) -> Result<Mode<'a>, StepError>
         ensures { Leaves result self.now (if machine.takes_def (stack self.now) then Ok (machine.state (machine.Heads machine.DefWord) (context self.now) (nodes self.now) (stack self.now)) else Err expression) }
@@ -347,7 +378,7 @@ impl<'a> Reader<'a> {
         }
     }
 
-    // An operator behind its left side.
+    // An operator behind its left side, whose last operand is `left`. First what binds tightly enough to belong to that side is joined.
     #[inline(always)]
     #[tactic(auto, using(crate::proofs::Views::stacks))]
     fn push(&mut self, operator: Operator<'a>, left: Operand) -> Result<Mode<'a>, StepError>
@@ -359,7 +390,7 @@ impl<'a> Reader<'a> {
         Ok(Mode::Want)
     }
 
-    // A call with its closing bracket.
+    // A call is whole: its closing bracket ends at `end`.
     #[inline(always)]
     #[tactic(auto, using(crate::proofs::Views::stacks))]
     fn called(
@@ -374,7 +405,7 @@ impl<'a> Reader<'a> {
         Ok(Mode::Have(operand))
     }
 
-    // A bracket closes behind a whole expression.
+    // A bracket closes behind a whole expression, all of whose operators are joined. The bracket ends at `end`.
     #[inline(always)]
     #[tactic(auto, using(crate::proofs::Views::stacks))]
     fn close(&mut self, end: usize) -> Result<Mode<'a>, StepError>
@@ -384,17 +415,20 @@ impl<'a> Reader<'a> {
             return Err(StepError::Wanted(What::End));
         };
         match top {
+            // Not reached: all operators are joined.
             Frame::Before(_, _) => Err(StepError::Wanted(What::End)),
+            // Brackets make no node, and only widen the operand.
             Frame::Bracket(start) => Ok(Mode::Have(Operand { start, end })),
             Frame::Arguments(name, before) => match before.checked_add(1) {
                 Some(arguments) => self.called(name, arguments, end),
+                // Not reached: no text has so many arguments. `Memory` is the error that says nothing of the text.
                 None => Err(StepError::Memory),
             },
             Frame::Bound(_, _) | Frame::Body(_) => Err(StepError::Wanted(What::Expression)),
         }
     }
 
-    // A comma behind a whole expression.
+    // A comma behind a whole expression, all of whose operators are joined: another argument has to come.
     #[inline(always)]
     #[tactic(auto, using(crate::proofs::Views::stacks))]
     fn another(&mut self) -> Result<Mode<'a>, StepError>
@@ -404,6 +438,7 @@ impl<'a> Reader<'a> {
             return Err(StepError::Wanted(What::End));
         };
         match top {
+            // Not reached, as in `close`; nor is the None below.
             Frame::Before(_, _) => Err(StepError::Wanted(What::End)),
             Frame::Bracket(_) => Err(StepError::Wanted(What::Close)),
             Frame::Arguments(name, before) => match before.checked_add(1) {
@@ -417,7 +452,7 @@ impl<'a> Reader<'a> {
         }
     }
 
-    // The body of a definition is whole.
+    // The body of a definition is whole: it becomes a definition with the parameters and nodes so far, and both lists start again.
     #[tactic(auto, using(crate::proofs::Views::stacks))]
     fn define(&mut self, name: Name<'a>) -> Result<(), StepError>
         ensures defined { IfOk result (λ _. context self.new ≡ machine.defined (label name.entry) (nodes self.old) (context self.old)) }
@@ -435,7 +470,7 @@ impl<'a> Reader<'a> {
         Ok(())
     }
 
-    // Behind a whole expression another one begins: that was the G of a `val`, or the body of a `def`.
+    // A token that begins an expression stands behind a whole one. So that was the G of a `val`, or the body of a `def`; else `wanted` was to come.
     #[tactic(auto, using(crate::proofs::Views::stacks))]
     fn follow(&mut self, wanted: What, token: Token<'a>) -> Result<Mode<'a>, StepError>
         ensures { Leaves result self.new (machine.follow wanted (sort token.entry.kind) token.entry.span (context self.old) (nodes self.old) (stack self.old)) }
@@ -458,7 +493,7 @@ impl<'a> Reader<'a> {
         }
     }
 
-    // Behind an operand.
+    // A token behind the operand `last`.
     #[inline(always)]
     fn go_on(&mut self, last: Operand, token: Token<'a>) -> Result<Mode<'a>, StepError>
         ensures { Leaves result self.new (machine.go_on (operand last) (sort token.entry.kind) token.entry.span (context self.old) (nodes self.old) (stack self.old)) }
@@ -467,6 +502,7 @@ impl<'a> Reader<'a> {
             Kind::Joint(joint) => self.push(operator_of(joint), last),
             Kind::Arrow(side) => Ok(Mode::Signed(side, last)),
             Kind::Close => {
+                // The operand that this gives isn't needed: brackets and calls have the places of their own signs.
                 self.reduce(0, last)?;
                 self.close(token.span.end)
             }
@@ -483,6 +519,7 @@ impl<'a> Reader<'a> {
         }
     }
 
+    // Adds the node of a name that is no call.
     #[inline(always)]
     #[tactic(auto, using(crate::proofs::Views::stacks))]
     fn variable(&mut self, name: Name<'a>) -> Result<Operand, StepError>
@@ -494,7 +531,7 @@ impl<'a> Reader<'a> {
         self.node(Part::Variable(name), name.span.start, name.span.end)
     }
 
-    // Behind a name: a bracket makes it a call.
+    // A token behind a name: a bracket makes it a call, any other token a variable.
     #[inline(always)]
     #[tactic(auto, using(crate::proofs::Views::stacks))]
     fn behind_name(&mut self, name: Name<'a>, token: Token<'a>) -> Result<Mode<'a>, StepError>
@@ -512,7 +549,7 @@ impl<'a> Reader<'a> {
         }
     }
 
-    // A call without arguments.
+    // The call on top of the stack closes without arguments, with a bracket that ends at `end`.
     #[inline(always)]
     #[tactic(auto, using(crate::proofs::Views::stacks))]
     fn close_first(&mut self, end: usize) -> Result<Mode<'a>, StepError>
@@ -523,13 +560,14 @@ impl<'a> Reader<'a> {
         };
         match top {
             Frame::Arguments(name, before) => self.called(name, before, end),
+            // Not reached: `Mode::First` stands directly behind the bracket of a call.
             Frame::Before(_, _) | Frame::Bracket(_) | Frame::Bound(_, _) | Frame::Body(_) => {
                 Err(StepError::Wanted(What::Expression))
             }
         }
     }
 
-    // The first argument, or none.
+    // A token behind the opening bracket of a call: it closes the call, or begins its first argument.
     #[inline(always)]
     fn first(&mut self, token: Token<'a>) -> Result<Mode<'a>, StepError>
         ensures { Leaves result self.new (machine.first (sort token.entry.kind) token.entry.span (context self.old) (nodes self.old) (stack self.old)) }
@@ -540,7 +578,7 @@ impl<'a> Reader<'a> {
         }
     }
 
-    // The variable of an operator.
+    // A token behind the first sign of `>x>` or `<x<`: it has to be the variable.
     #[inline(always)]
     fn bind(&self, side: Side, last: Operand, token: Token<'a>) -> Result<Mode<'a>, StepError>
         ensures { Leaves result self.now (machine.bind side (operand last) (sort token.entry.kind) token.entry.span (context self.now) (nodes self.now) (stack self.now)) }
@@ -558,7 +596,7 @@ impl<'a> Reader<'a> {
         }
     }
 
-    // The second sign of an operator.
+    // A token behind the variable of `>x>` or `<x<`: it has to be the first sign again.
     #[inline(always)]
     fn second(
         &mut self,
@@ -581,6 +619,7 @@ impl<'a> Reader<'a> {
         }
     }
 
+    // One more parameter of the definition of that name.
     #[inline(always)]
     #[tactic(auto, using(crate::proofs::Views::stacks))]
     fn parameter(
@@ -594,7 +633,7 @@ impl<'a> Reader<'a> {
         Ok(Mode::Heads(Heading::Parameter(definition)))
     }
 
-    // `val x =` or `def f(a, b) =` is whole.
+    // `val x =` or `def f(a, b) =` is whole, as this frame, and waits for the expression behind its `=`.
     #[inline(always)]
     #[tactic(auto, using(crate::proofs::Views::stacks))]
     fn await_whole(&mut self, frame: Frame<'a>) -> Result<Mode<'a>, StepError>
@@ -640,7 +679,7 @@ impl<'a> Reader<'a> {
         }
     }
 
-    // A name in it.
+    // A name in a `val x =` or `def f(a, b) =`.
     #[inline(always)]
     fn head_name(&mut self, head: Heading<'a>, name: Name<'a>) -> Result<Mode<'a>, StepError>
         ensures { Leaves result self.new (machine.head (heading head.entry) (tokens.Word name.entry.text.now) name.entry.span (context self.old) (nodes self.old) (stack self.old)) }
@@ -655,7 +694,10 @@ impl<'a> Reader<'a> {
         }
     }
 
-    /// What one more token makes of what has come.
+    /// Takes one more token behind `last`, which `Mode::Want` is at the start and else what this function gave for the token before. Gives what
+    /// the new token is.
+    ///
+    /// `Wanted` where no program goes on with this token, with what had to stand in its place; `Memory` where a growth was refused.
     #[inline(always)]
     pub fn advance(&mut self, last: Mode<'a>, token: Token<'a>) -> Result<Mode<'a>, StepError>
         ensures { Leaves result self.new (machine.advance (mode last.entry) (sort token.entry.kind) token.entry.span (context self.old) (nodes self.old) (stack self.old)) }
@@ -671,7 +713,7 @@ impl<'a> Reader<'a> {
         }
     }
 
-    // The program, where nothing waits behind its last operand.
+    // The program, where the text ends behind the operand `last`: an error unless nothing waits then.
     fn whole(mut self, last: Operand) -> Result<Ast<'a>, StepError>
         ensures { Ends result (machine.whole (context self.entry) (machine.reduce 0 (operand last) (nodes self.entry) (stack self.entry))) }
     {
@@ -685,7 +727,9 @@ impl<'a> Reader<'a> {
         }
     }
 
-    /// The program, where the text ends here.
+    /// The program, where the text ends behind `last`.
+    ///
+    /// `Wanted` where that is no whole program, with what had to come; `Memory` where a growth was refused.
     pub fn finish(mut self, last: Mode<'a>) -> Result<Ast<'a>, StepError>
         ensures { Ends result (machine.finish (machine.state (mode last.entry) (context self.entry) (nodes self.entry) (stack self.entry))) }
     {

@@ -1,4 +1,4 @@
-//! From bytes to a program.
+//! From bytes to a program: the lexer's tokens, the reader that takes them, the count of depths, and which of several faults is given.
 
 ghost use Rattle.std.specs.Prelude.{◌≡◌, ℕ, List, length, nat_lt, IfOk};
 ghost use Rattle.std.specs.Str.{IsUtf8};
@@ -20,6 +20,10 @@ use orc_lex::token::{Span, Token, Unread};
 use orc_rules::limits::LONGEST_SOURCE;
 use std::alloc::Global;
 
+// In contracts `SpellsText src s` says that a text spells the program s, `IsAst ast s` that a tree is that of s, `IsShallow src` that nothing in the
+// text is too deep, and `IsFault src f` that f is wrong with it.
+
+// The fault where no token can be read at a place.
 fn unread_fault(why: Unread, at: usize) -> SyntaxFault
     ensures { result ≡ fault_at why at }
 {
@@ -30,6 +34,7 @@ fn unread_fault(why: Unread, at: usize) -> SyntaxFault
     }
 }
 
+// The fault where the token at a place, or the end there, is refused.
 fn refused(error: StepError, at: usize) -> SyntaxFault
     ensures { result ≡ fault_by error at }
 {
@@ -40,7 +45,7 @@ fn refused(error: StepError, at: usize) -> SyntaxFault
     }
 }
 
-// Stands the fault before a place?
+// Stands the fault before a place? Those without a place of their own stand at 0.
 fn comes_before(fault: SyntaxFault, at: usize) -> bool
     ensures { result ≡ nat_lt (place fault) at }
 {
@@ -55,7 +60,7 @@ fn comes_before(fault: SyntaxFault, at: usize) -> bool
     }
 }
 
-// Takes one more token.
+// Takes one more token behind `last`. One that can't follow is refused as such, even where it is too deep as well.
 #[inline(always)]
 fn take<'a>(
     reader: &mut Reader<'a>,
@@ -65,6 +70,7 @@ fn take<'a>(
 ) -> Result<Mode<'a>, StepError>
     ensures { Takes result reader.new (count_of depth.new) (context reader.old) (count_of depth.old) (sort token.entry.kind) (machine.advance (mode last.entry) (sort token.entry.kind) token.entry.span (context reader.old) (nodes reader.old) (stack reader.old)) }
 {
+    // That a definition is whole shows only at the first token behind it, which already counts to what follows.
     let defined = reader.defined();
     let mode = reader.advance(last, token)?;
     depth.begin_part(defined, reader.defined());
@@ -74,7 +80,7 @@ fn take<'a>(
     }
 }
 
-// The program that the tokens of a text spell, whatever the bytes of its comments are.
+// The program that the tokens of a text spell. It doesn't ask for UTF-8: outside comments a byte that isn't ASCII is refused anyhow (S2).
 fn read_text<'a>(alloc: Global, src: &'a [u8]) -> Result<Ast<'a>, SyntaxFault>
     ensures found { IfOk result (λ ast. ((s : Source) × IsAst ast s × SpellsTokens src.now s) × IsShallow src.now) }
     // All tokens before a fault begin a program, and none is too deep.
@@ -103,7 +109,7 @@ fn read_text<'a>(alloc: Global, src: &'a [u8]) -> Result<Ast<'a>, SyntaxFault>
     }
 }
 
-// The fault of a text whose bytes stop being UTF-8 at a place.
+// The fault of a text whose bytes stop being UTF-8 at a place, and that was read with this result: of the two faults the one that stands first.
 fn first_fault(read: Result<Ast<'_>, SyntaxFault>, at: usize) -> SyntaxFault
     ensures { result ≡ first_of read.entry at }
 {
@@ -119,10 +125,11 @@ fn first_fault(read: Result<Ast<'_>, SyntaxFault>, at: usize) -> SyntaxFault
     }
 }
 
-/// Reads the program that a text spells.
+/// Reads the program that a text spells, with places in bytes from 0. The text stays borrowed: the tree's names are slices of it.
 ///
-/// A text that is too long is refused before anything else. Otherwise the fault of the least place is answered, and at one
-/// place the one with the lower number.
+/// A text over `LONGEST_SOURCE` bytes is refused before anything else (S6). Otherwise the fault of the least place is answered, and at one
+/// place the one with the lower number, S1 to S7; each is explained at `SyntaxFault`. `Memory` (S8), where a growth was refused, says nothing of
+/// the text.
 pub fn parse<'a>(alloc: Global, src: &'a [u8]) -> Result<Ast<'a>, SyntaxFault>
     // What is answered is what the text spells.
     ensures found { IfOk result (λ ast. (s : Source) × IsAst ast s × SpellsText src.now s) }
@@ -144,6 +151,8 @@ pub fn parse<'a>(alloc: Global, src: &'a [u8]) -> Result<Ast<'a>, SyntaxFault>
     };
     Err(first_fault(read, error.valid_up_to()))
 }
+
+// From here on there are laws: the contract is what is said, and there is nothing to run. Proofs cite them.
 
 /// No text spells two programs.
 pub fn one_source()
