@@ -41,5 +41,6 @@ abbrev pub HaveSmallBodies : List Define → Type 0
 HaveSmallBodies [] = Unit {0}
 HaveSmallBodies (d ∷ ds) = AreSmall (post d.body) × HaveSmallBodies ds
 
+-- in its definitions and its main expression
 abbrev pub HaveSmallCalls : Source → Type 0
 HaveSmallCalls s = HaveSmallBodies s.definitions × AreSmall (post s.main)

@@ -19,7 +19,7 @@ pub record Task : Type 0 where
 abbrev pub task : List (List ℕ) → ℕ → Task
 task scope number = record { scope = scope; number = number }
 
--- so many arguments, the last one first
+-- so many arguments, as the task of the last one: those before it follow once it is looked at
 abbrev pub pending : ℕ → List (List ℕ) → List Task → List Task
 pending zero scope ts = ts
 pending (suc n) scope ts = task scope (suc n) ∷ ts
@@ -90,12 +90,15 @@ unfoldable pub Fits : List (List ℕ) → List CodeTask → Type 0
 Fits scope [] = Unit {0}
 Fits scope (t ∷ ts) = (t.depth ≤ length scope) × Fits (take t.depth scope) ts
 
+-- the tasks of the code, the next one first
 abbrev pub waiting : Looking → List Task
 waiting l = tasks_of l.scope (reverse l.tasks.items)
 
+-- each of them can still make its scope
 abbrev pub IsFit : Looking → Type 0
 IsFit l = Fits l.scope (reverse l.tasks.items)
 
+-- what holds of the number of a task if one was taken, and what holds if there was none
 abbrev pub IfTaken : (ℕ → Type 0) → Option ℕ → Type 0
 IfTaken p None = Unit {0}
 IfTaken p (Some n) = p n

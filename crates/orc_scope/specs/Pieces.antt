@@ -30,6 +30,7 @@ Keeps fs gs = (more : List Term) × (gs ≡ fs ++ more)
 abbrev pub parts : Writing → List Term
 parts w = reverse (map (piece_term (terms w.nodes)) w.pieces.items)
 
+-- all parts are so
 abbrev pub IsReady : Writing → Type 0
 IsReady w = AreFine (terms w.nodes) w.pieces.items
 
@@ -39,6 +40,7 @@ AreFew [] = Unit {0}
 AreFew (f ∷ []) = Unit {0}
 AreFew (f ∷ g ∷ fs) = ⊥
 
+-- what holds of two parts' nodes if they were there, and what holds if they were not
 abbrev pub IfSides : (ℕ → ℕ → Type 0) → Option (ℕ × ℕ) → Type 0
 IfSides p None = Unit {0}
 IfSides p (Some s) = p s.0 s.1

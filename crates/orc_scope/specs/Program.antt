@@ -26,6 +26,7 @@ parameter_faults seen n (x ∷ xs) = (repeated ParameterTwice (position seen x.t
 abbrev pub definition_faults : Known → List (List ℕ) → Define → List ScopeFault
 definition_faults known seen d = repeated DefinedTwice (position seen d.name.text) d.name.span ++ (parameter_faults [] 1 d.parameters ++ faults known (map text d.parameters) d.body)
 
+-- the faults of definitions, one after another
 abbrev pub definitions_faults : Known → List (List ℕ) → List Define → List ScopeFault
 definitions_faults known seen [] = []
 definitions_faults known seen (d ∷ ds) = definition_faults known seen d ++ definitions_faults known (seen ++ d.name.text ∷ []) ds

@@ -29,6 +29,7 @@ pub data Meaning : Type 0 where
   IsSite : (number : ℕ) → Meaning
   IsNothing : Meaning
 
+-- what a name means outside of expressions, by its places among definitions and sites
 abbrev pub site_meaning : Option ℕ → Meaning
 site_meaning (Some m) = IsSite m
 site_meaning None = IsNothing

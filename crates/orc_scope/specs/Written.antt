@@ -22,6 +22,7 @@ abbrev pub variable_of : List (List ℕ) → Option Label → ℕ
 variable_of names None = length names
 variable_of names (Some x) = number names x.text
 
+-- a literal or `stop`
 abbrev pub plain_term : Plain → Term
 plain_term (plains.Number n) = param (Is (Number n))
 plain_term (plains.Truth b) = param (Is (Truth b))
@@ -48,6 +49,7 @@ as_param (other f g) = None
 as_param (pending k) = None
 as_param (opened f c g) = None
 
+-- this parameter, or where there is none the variable n
 abbrev pub param_or : ℕ → Option Param → Param
 param_or n (Some p) = p
 param_or n None = Name n
@@ -57,6 +59,7 @@ abbrev pub params : ℕ → List Term → List Param
 params n [] = []
 params n (f ∷ fs) = param_or n (as_param f) ∷ params (suc n) fs
 
+-- a term in the pruning of the variable n with g on its right side, unless g is a parameter
 abbrev pub pruned : Term → ℕ → Term → Option Param → Term
 pruned f n g (Some p) = f
 pruned f n g None = prune f n g
@@ -70,6 +73,7 @@ prunings n f (g ∷ gs) = prunings (suc n) (pruned f n g (as_param g)) gs
 abbrev pub call_term : Known → List (List ℕ) → List ℕ → List Term → Term
 call_term known names text fs = prunings (length names) (called (outer_meaning (position known.definitions text) (position known.sites text)) (params (length names) fs)) fs
 
+-- an operator with its written-out sides
 abbrev pub operated : List (List ℕ) → Link → Term → Term → Term
 operated names (Seq x) f g = seq f (variable_of names x) g
 operated names Par f g = par f g

@@ -1,4 +1,4 @@
-//! The check of a program.
+//! The check of a program: its faults, else its terms.
 
 ghost use Rattle.std.specs.Prelude.{◌≡◌, List, map, IfOk};
 ghost use Rattle.orc_syntax.specs.Ast.{label, text_of, IsAst};
@@ -19,7 +19,10 @@ use orc_rules::program::{Definition, Program};
 use orc_syntax::{Ast, Name, Span};
 use std::alloc::{AllocError, Global};
 
-// The numbers of a definition's parameters.
+// In contracts `IsAst ast s` says that a tree is that of the program s, and `Checks sites s result` is all that the check promises of its result
+// (specs/Checking.antt).
+
+// The numbers of a definition's parameters, in their order.
 fn parameter_numbers(
     alloc: Global,
     numbers: &Numbers,
@@ -34,7 +37,7 @@ fn parameter_numbers(
     Ok(params)
 }
 
-// The program with all terms written out.
+// The program with all terms written out. All of them share one list of nodes, and an expression is the number of its node there.
 fn write_out(alloc: Global, numbers: &Numbers, ast: &Ast) -> Result<Program, AllocError>
     ensures { (s : Source) → IsAst ast.now s → HaveSmallCalls s → IfOk result (IsWrittenOut numbers.now.known numbers.now.names s) }
 {
@@ -52,26 +55,28 @@ fn write_out(alloc: Global, numbers: &Numbers, ast: &Ast) -> Result<Program, All
     Ok(Program::new(writing.nodes.finish(), definitions, source))
 }
 
-// The main expression's place.
+// The main expression's place: that of its last node, which stands for all of it.
 fn main_span(ast: &Ast) -> Span
     ensures { (s : Source) → IsAst ast.now s → result ≡ span_of s.main }
 {
     match ast.main.nodes.last() {
         Some(node) => node.span,
+        // Not reached: an expression has a node.
         None => Span { start: 0, end: 0 },
     }
 }
 
-/// The program with each expression as its written-out term, where each name means something that fits its use: the innermost
-/// variable, else the first definition of that name, else the site. `sites` are the names of the sites by their numbers.
+/// Gives the program with each expression as its written-out term, where each name means something that fits its use: the innermost
+/// variable, else the first definition of that name, else the site. `sites` are the names of the sites; a site's number is its place there, from 0.
 ///
-/// Else the fault that stands first, of two at one place the one of the lower number (`Unbound` to `TooMany` are C1 to C8);
+/// The error is the fault that stands first, of two at one place the one of the lower number (`Unbound` to `TooMany` are C1 to C8);
 /// `TooMany` at the main expression where there is no other fault and all terms together have over `MOST_NODES` nodes; `Memory` (C9),
 /// placed at 0, where a growth was refused.
 pub fn check<'a>(alloc: Global, ast: &Ast<'a>, sites: &[&[u8]]) -> Result<Program, ScopeFault>
     ensures { (s : Source) → IsAst ast.now s → Checks (map text_of sites.now) s result }
 {
     let known = Known::new(alloc, &ast.definitions, sites)?;
+    // Room for one node more than allowed: no room left is one too many.
     let mut looking = Looking::new(alloc, MOST_NODES + 1);
     if let Some(fault) = program_fault(&mut looking, &known, ast)? {
         return Err(fault);
@@ -83,6 +88,7 @@ pub fn check<'a>(alloc: Global, ast: &Ast<'a>, sites: &[&[u8]]) -> Result<Progra
     if looking.room == 0 {
         return Err(too_many);
     }
+    // Not reached: so few nodes have fewer names than 32 bits can number.
     let Some(numbers) = Numbers::new(known, variables(alloc, ast)?) else {
         return Err(too_many);
     };

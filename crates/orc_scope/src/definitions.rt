@@ -1,4 +1,5 @@
-//! The least fault of a program, and the names of its variables.
+//! The least fault of a program, and the names of its variables. The least fault is the one that is reported: it stands first, and of those at one
+//! place it has the lowest number (`lesser`).
 
 ghost use Rattle.std.specs.Prelude.{◌≡◌, ◌-◌, ◌++◌, ◌∷◌, [], ℕ, List, map, take, IfOk, OnOk};
 ghost use Rattle.orc_syntax.specs.Ast.{label, sort, IsExpr, IsDefinition, AreDefinitions, IsAst};
@@ -14,7 +15,9 @@ use crate::names::Names;
 use orc_syntax::{Ast, Definition, Name, Node, Operator, Part, Span};
 use std::alloc::{AllocError, Global};
 
-// The place of a name among the first so many.
+// In contracts `IsLeast result faults` says that the result is the least of these faults, or None where there are none.
+
+// The place of a name, from 0, if it is among the first `number` names.
 fn earlier(names: &Names, number: usize, text: &[u8]) -> Option<usize>
     ensures { result ≡ position (take number names.now) text.now }
 {
@@ -24,7 +27,7 @@ fn earlier(names: &Names, number: usize, text: &[u8]) -> Option<usize>
     }
 }
 
-// The fault of a name that has come before.
+// The fault of a name at `span`, if it has come before: then `before` is its first place.
 fn repeated(kind: FaultKind, before: Option<usize>, span: Span) -> Option<ScopeFault>
     ensures { IsLeast result (repeated_of kind before span) }
 {
@@ -34,7 +37,7 @@ fn repeated(kind: FaultKind, before: Option<usize>, span: Span) -> Option<ScopeF
     }
 }
 
-// The least fault of a definition's parameters, which come into scope.
+// The least fault of a definition's parameters. Afterwards they are the names in scope, and no others.
 fn parameters_fault<'a>(
     looking: &mut Looking<'a>,
     parameters: &[Name<'a>],
@@ -49,6 +52,7 @@ fn parameters_fault<'a>(
     while at < parameters.len() {
         let name = parameters[at];
         let before = looking.scope.find(name.text);
+        // Parameters are counted from 1, and the one behind the last allowed is a fault.
         let own = lesser(
             repeated(FaultKind::ParameterTwice, before, name.span),
             number_fault(at + 1, name.span),
@@ -60,7 +64,7 @@ fn parameters_fault<'a>(
     Ok(least)
 }
 
-// The least fault of the definition of this number.
+// The least fault of the definition of this number, from 0: of its name, its parameters and its body.
 fn definition_fault<'a>(
     looking: &mut Looking<'a>,
     known: &Known,
@@ -96,7 +100,8 @@ fn definitions_fault<'a>(
     Ok(least)
 }
 
-/// The least fault of a program but for the number of its nodes, and the room that its terms leave.
+/// The least fault of a program, None where it has none. Too many nodes are no fault here: afterwards `looking.room` is smaller by the number of
+/// nodes of all its terms, down to 0. The error is refused memory.
 pub fn program_fault<'a>(
     looking: &mut Looking<'a>,
     known: &Known,
@@ -106,6 +111,7 @@ pub fn program_fault<'a>(
     ensures room { (s : Source) (k : Outside) (names : List (List ℕ)) → IsAst ast.now s → OnOk result (looking.new.room ≡ looking.old.room - sizes k names s) }
 {
     let definitions = definitions_fault(looking, known, &ast.definitions)?;
+    // No parameter of a definition is in scope in the main expression.
     looking.scope.truncate(0);
     let main = looking.expression(known, &ast.main.nodes)?;
     Ok(lesser(definitions, main))
@@ -121,7 +127,7 @@ fn parameter_names<'a>(names: &mut Names<'a>, parameters: &[Name<'a>]) -> Result
     Ok(())
 }
 
-// The name that a node binds.
+// The name that a node binds: the variable of `>x>`, `<x<` or `val x`.
 fn bound_name(part: Part<'_>) -> Option<&[u8]>
     ensures { bound (bind_of result) [] ≡ sort_names (sort part.entry) }
 {
@@ -144,7 +150,8 @@ fn bound_names<'a>(names: &mut Names<'a>, nodes: &[Node<'a>]) -> Result<(), Allo
     Ok(())
 }
 
-/// The names of a program's variables: each definition's parameters and those that its body binds, then those of the main expression.
+/// The names of a program's variables: each definition's parameters and those that its body binds, then those of the main expression. A name that
+/// is bound more than once is there as often. The error is refused memory.
 pub fn variables<'a>(alloc: Global, ast: &Ast<'a>) -> Result<Names<'a>, AllocError>
     ensures { (s : Source) → IsAst ast.now s → IfOk result (λ names. names ≡ variables_of s) }
 {

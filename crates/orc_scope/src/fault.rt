@@ -1,4 +1,4 @@
-//! Faults of names.
+//! Faults of names, and which of two is reported.
 
 ghost use Rattle.std.specs.Prelude.{◌≡◌, ◌++◌, List, Some, true, false};
 ghost use Rattle.orc_scope.specs.declared.fault.ScopeFault.{ScopeFault as Fault};
@@ -11,30 +11,30 @@ use std::alloc::AllocError;
 use std::error::Error;
 use std::fmt;
 
-/// What is wrong with a name or a number of parts.
+/// What is wrong with a name, or where there is too much of something. A user sees it as a code, C1 to C9 in this order.
 #[derive(Clone, Copy, Debug, PartialEq, Eq)]
 pub enum FaultKind {
-    /// A name without a bracket that means nothing.
+    /// C1: a name without a bracket that means nothing.
     Unbound,
-    /// A name without a bracket that means a definition or a site.
+    /// C2: a name without a bracket that means a definition or a site.
     NotValue,
-    /// A call of a definition with another number of arguments.
+    /// C3: a call of a definition with another number of arguments: it wants `want` and got `got`.
     Arity { want: usize, got: usize },
-    /// A second definition of a name.
+    /// C4: a second definition of a name.
     DefinedTwice,
-    /// A second parameter of the same name.
+    /// C5: a second parameter of the same name.
     ParameterTwice,
-    /// A called name that means a variable.
+    /// C6: a called name that means a variable.
     CallOfVariable,
-    /// A called name that means nothing.
+    /// C7: a called name that means nothing.
     NoSite,
-    /// A parameter or argument behind `MOST_ARGUMENTS` others, or over `MOST_NODES` nodes in all terms.
+    /// C8: a parameter or argument behind `MOST_ARGUMENTS` others, or over `MOST_NODES` nodes in all terms.
     TooMany,
-    /// A growth was refused.
+    /// C9: a growth was refused. It says nothing of the program.
     Memory,
 }
 
-/// A fault with its place in bytes, at the start of the text for Memory.
+/// A fault with its place in bytes from 0: that of the name, argument or expression. The start of the text for `Memory`.
 #[derive(Clone, Copy, Debug, PartialEq, Eq)]
 pub struct ScopeFault {
     pub kind: FaultKind,
@@ -52,7 +52,7 @@ impl From<AllocError> for ScopeFault {
     }
 }
 
-// Its code and its place.
+// A fault's line: its code and its place.
 impl fmt::Display for ScopeFault {
     ghost output = { λ f. Some (scope_line f) };
 
@@ -67,6 +67,7 @@ impl fmt::Display for ScopeFault {
             FaultKind::CallOfVariable => "C6",
             FaultKind::NoSite => "C7",
             FaultKind::TooMany => "C8",
+            // It has no place.
             FaultKind::Memory => return write!(f, "C9"),
         };
         write!(f, "{code} at {start}")
@@ -76,7 +77,7 @@ impl fmt::Display for ScopeFault {
 impl Error for ScopeFault {}
 
 impl ScopeFault {
-    /// The process's status at this fault.
+    /// The process's exit status at this fault: 5 where memory was refused, else 1.
     pub fn status(self) -> u8
         ensures { result ≡ scope_status self.kind }
     {
@@ -88,6 +89,7 @@ impl ScopeFault {
 }
 
 impl FaultKind {
+    // The number in its code.
     fn rank(&self) -> u8
         ensures { result ≡ rank self.now }
     {
@@ -105,7 +107,7 @@ impl FaultKind {
     }
 }
 
-// Whether `f` is answered rather than `g`.
+// Whether `f` is reported rather than `g`.
 fn is_before(f: ScopeFault, g: ScopeFault) -> bool
     ensures yes { result ≡ true → IsBefore f g }
     ensures no { result ≡ false → IsBefore g f }
@@ -113,7 +115,7 @@ fn is_before(f: ScopeFault, g: ScopeFault) -> bool
     f.span.start < g.span.start || (f.span.start == g.span.start && f.kind.rank() <= g.kind.rank())
 }
 
-/// The lesser of two faults: the one that stands before the other, or at the same place the one of the lower number.
+/// The lesser of two faults: the one that stands before the other, or at the same place the one of the lower number. None where both are None.
 pub fn lesser(first: Option<ScopeFault>, second: Option<ScopeFault>) -> Option<ScopeFault>
     ensures { (fs gs : List Fault) → IsLeast first fs → IsLeast second gs → IsLeast result (fs ++ gs) }
 {

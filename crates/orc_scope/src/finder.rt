@@ -1,4 +1,7 @@
-//! Looking for the least fault of an expression.
+//! Looks for the least fault of an expression, and counts the nodes of its written-out term.
+//!
+//! The nodes of an expression stand in postorder. They are looked at from the last one to the first, so that a whole comes before its parts and
+//! can say which names are in scope there. A stack of tasks has one for each part that is still to come.
 
 ghost use Rattle.std.specs.Prelude.{◌≡◌, ◌-◌, ◌++◌, ◌∷◌, [], ℕ, List, map, reverse, IfOk, OnOk, IfSome};
 ghost use Rattle.orc_syntax.specs.Tree.{Tree};
@@ -14,22 +17,28 @@ use orc_rules::limits::MOST_ARGUMENTS;
 use orc_syntax::{Name, Node, Operator, Part, Plain, Span};
 use std::alloc::{AllocError, Global};
 
-/// A part that is to be looked at.
+// In contracts `IsLeast result faults` says that the result is the least of these faults, or None where there are none; `waiting` is the stack of
+// tasks with the next one first, and `IsFit` says that each can still make its scope.
+
+/// A part that is to be looked at, with what becomes of the scope then: it keeps the names of the whole, without those that came into scope since in
+/// parts further right, and may gain one.
 #[derive(Clone, Copy)]
 pub struct Task<'a> {
-    /// How many of the names in scope it keeps.
+    /// How many of the names in scope it keeps, the outermost ones.
     pub depth: usize,
-    /// A name that it gains.
+    /// A name that it gains: the variable of the operator or `val` whose side it is.
     pub bind: Option<&'a [u8]>,
-    /// The number of the argument that it is, from 1, or 0.
+    /// Of an argument its number, from 1. The task stands for the arguments before it, too. 0 for any other part.
     pub number: usize,
 }
 
-/// The parts that are still to be looked at, the next one last, and the names in scope, the innermost last.
-/// `room` is how many more nodes the written-out terms may have, down to 0.
+/// A look through the expressions of a program.
 pub struct Looking<'a> {
+    /// The parts that are still to be looked at, a stack with the next one last.
     pub tasks: Vec<Task<'a>>,
+    /// The names in scope, the innermost last.
     pub scope: Names<'a>,
+    /// How many more nodes the written-out terms may have. It stays at 0 where they have more.
     pub room: usize,
 }
 
@@ -44,14 +53,14 @@ impl Drop for Looking<'_> {
     }
 }
 
-/// The only fault of a place.
+/// A fault of this kind at this place, as what was found there.
 pub fn one(kind: FaultKind, span: Span) -> Option<ScopeFault>
     ensures { IsLeast result (fault kind span ∷ []) }
 {
     Some(ScopeFault { kind, span })
 }
 
-// The fault of a called name.
+// The fault of a called name at `span`, with so many arguments. The name means a variable, else a definition, else a site.
 fn call_fault(
     known: &Known,
     scope: &Names,
@@ -65,6 +74,7 @@ fn call_fault(
         return one(FaultKind::CallOfVariable, span);
     }
     let Some(number) = known.definitions.find(text) else {
+        // A site takes any number of arguments: a call that no line of a script matches halts.
         if known.sites.find(text).is_some() {
             return None;
         }
@@ -82,7 +92,7 @@ fn call_fault(
     }
 }
 
-// The fault of a name without a bracket.
+// The fault of a name without a bracket: it has to mean a variable.
 fn name_fault(known: &Known, scope: &Names, text: &[u8], span: Span) -> Option<ScopeFault>
     ensures { IsLeast result (name_faults (meaning (known_of known.now) scope.now text.now) span) }
 {
@@ -95,7 +105,7 @@ fn name_fault(known: &Known, scope: &Names, text: &[u8], span: Span) -> Option<S
     one(FaultKind::Unbound, span)
 }
 
-// The fault of a node itself.
+// The fault of a node itself, without its parts.
 fn node_fault(known: &Known, scope: &Names, part: Part) -> Option<ScopeFault>
     ensures { IsLeast result (node_faults (known_of known.now) scope.now (sort part.entry)) }
 {
@@ -106,7 +116,7 @@ fn node_fault(known: &Known, scope: &Names, part: Part) -> Option<ScopeFault>
     }
 }
 
-/// The fault of the first parameter or argument that is one too many.
+/// The fault of the parameter or argument of this number, from 1, if it is the first one too many. Those behind it are no further faults.
 pub fn number_fault(number: usize, span: Span) -> Option<ScopeFault>
     ensures { IsLeast result (number_faults number span) }
 {
@@ -117,7 +127,8 @@ pub fn number_fault(number: usize, span: Span) -> Option<ScopeFault>
     }
 }
 
-// How many nodes of the written-out term a node makes, as an argument of that number or, at 0, as no argument.
+// How many nodes of the written-out term a node makes, as an argument of that number or, at 0, as no argument. A literal or a variable stays in the
+// call's list of arguments and makes none; any other argument, `stop` too, makes its own and that of the pruning of its new variable.
 fn weight(number: usize, part: Part) -> usize
     ensures value { result ≡ weight_of number (sort part.entry) }
 {
@@ -143,7 +154,7 @@ impl<'a> Looking<'a> {
         }
     }
 
-    // Lets a part wait, which is then looked at next.
+    // Pushes a task for a part, which is then looked at next. It keeps all names that are in scope here.
     fn wait(&mut self, bind: Option<&'a [u8]>, number: usize) -> Result<(), AllocError>
         requires { IsFit self.old }
         ensures scope { self.new.scope ≡ self.old.scope }
@@ -159,7 +170,7 @@ impl<'a> Looking<'a> {
         Ok(())
     }
 
-    // Takes the part that is looked at next, and makes its scope: its number.
+    // Takes the part that is looked at next from the stack, and makes its scope. Gives its number as in `Task`, and None where no part is left.
     fn next(&mut self) -> Result<Option<usize>, AllocError>
         requires { IsFit self.old }
         ensures some { IfOk result (IfTaken (λ n. waiting self.old ≡ task self.new.scope n ∷ waiting self.new)) }
@@ -177,7 +188,7 @@ impl<'a> Looking<'a> {
         Ok(Some(task.number))
     }
 
-    // Lets so many arguments wait.
+    // Pushes so many arguments, as one task: that of the last one. Once it is looked at, it is pushed again for those before it.
     fn arguments(&mut self, count: usize) -> Result<(), AllocError>
         requires { IsFit self.old }
         ensures scope { self.new.scope ≡ self.old.scope }
@@ -191,7 +202,7 @@ impl<'a> Looking<'a> {
         Ok(())
     }
 
-    // Lets two parts wait, each with a name that comes into scope in it.
+    // Pushes two parts, each with the name, if any, that comes into scope in it. The right one's nodes stand last, so it comes next.
     fn both(&mut self, left: Option<&'a [u8]>, right: Option<&'a [u8]>) -> Result<(), AllocError>
         requires { IsFit self.old }
         ensures scope { self.new.scope ≡ self.old.scope }
@@ -203,7 +214,8 @@ impl<'a> Looking<'a> {
         self.wait(right, 0)
     }
 
-    // Lets the parts of a node wait.
+    // Pushes the parts of a node. The variable of `>x>` is in scope in its right side, that of `<x<` in its left side, and that of `val x = G F` in
+    // F, which is the right one of its parts.
     fn parts(&mut self, part: Part<'a>) -> Result<(), AllocError>
         requires { IsFit self.old }
         ensures scope { self.new.scope ≡ self.old.scope }
@@ -221,7 +233,7 @@ impl<'a> Looking<'a> {
         }
     }
 
-    // The least fault of the parts that wait, whose nodes these are.
+    // The least fault of the parts on the stack, whose nodes these are.
     fn find(&mut self, known: &Known, nodes: &[Node<'a>]) -> Result<Option<ScopeFault>, AllocError>
         requires { IsFit self.old }
         ensures least { IfOk result (λ least. IsLeast least (looks (known_of known.now) (waiting self.old) (reverse (map item nodes.now)))) }
@@ -230,6 +242,7 @@ impl<'a> Looking<'a> {
         let mut least = None;
         let mut count = nodes.len();
         while count > 0 {
+            // Not reached with the nodes of a tree: each has a task.
             let Some(number) = self.next()? else {
                 return Ok(least);
             };
@@ -241,13 +254,15 @@ impl<'a> Looking<'a> {
             );
             least = lesser(least, own);
             self.room = self.room.saturating_sub(weight(number, node.part));
+            // The arguments before this one, if it is one, below its own parts: their nodes stand further left, so they come later.
             self.arguments(number.saturating_sub(1))?;
             self.parts(node.part)?;
         }
         Ok(least)
     }
 
-    /// The least fault of an expression in which the names of `scope` are variables, and the room that its term leaves.
+    /// The least fault of an expression in which the names of `scope` are variables, None where it has none. `room` is then smaller by the number of
+    /// nodes of its written-out term. Which names are in scope afterwards isn't said. The error is refused memory.
     pub fn expression(
         &mut self,
         known: &Known,
@@ -262,6 +277,7 @@ impl<'a> Looking<'a> {
     }
 }
 
+// The text of a name, if there is one.
 fn text_if(name: Option<Name<'_>>) -> Option<&[u8]>
     ensures { bind_of result ≡ text_if_of (label_if name.entry) }
 {

@@ -1,4 +1,4 @@
-//! What stands outside of all expressions.
+//! What stands outside of all expressions: the names that mean something everywhere.
 
 ghost use Rattle.std.specs.Prelude.{◌≡◌, ◌^◌, map, take, IfOk};
 ghost use Rattle.orc_syntax.specs.Ast.{text_of};
@@ -8,9 +8,11 @@ use crate::names::Names;
 use orc_syntax::Definition;
 use std::alloc::{AllocError, Global};
 
-/// The names of the definitions with their numbers of parameters, and the names of the sites.
+/// The names of the definitions with their numbers of parameters, and the names of the sites. The number of a definition or site is its place
+/// here, from 0.
 pub struct Known<'a, 's> {
     pub definitions: Names<'a>,
+    /// How many parameters each definition has.
     pub arities: Vec<usize>,
     pub sites: Names<'s>,
 }
@@ -26,7 +28,7 @@ impl Drop for Known<'_, '_> {
     }
 }
 
-// The first 4,294,967,296 names.
+// The first 2^32 names, or all where there are fewer.
 fn all_names<'s>(alloc: Global, texts: &[&'s [u8]]) -> Result<Names<'s>, AllocError>
     ensures { IfOk result (λ names. names ≡ take (2 ^ 32) (map text_of texts.now)) }
 {
@@ -39,7 +41,8 @@ fn all_names<'s>(alloc: Global, texts: &[&'s [u8]]) -> Result<Names<'s>, AllocEr
 }
 
 impl<'a, 's> Known<'a, 's> {
-    /// What these definitions and sites make known. Sites are numbered by 32 bits, so those from the 4,294,967,297th on are not known.
+    /// What these definitions and sites make known. A site's number has 32 bits, so those behind the first 2^32 are not known. The error is refused
+    /// memory.
     pub fn new(
         alloc: Global,
         definitions: &[Definition<'a>],

@@ -1,4 +1,4 @@
-//! Laws of the scope check: each function's contract is the law.
+//! Laws of the scope check: a law is a function whose contract says it, and whose body does nothing. Proofs cite it.
 
 ghost use Rattle.orc_scope.specs.Shallow.{ShallowTrees};
 

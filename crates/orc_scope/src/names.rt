@@ -11,12 +11,16 @@ use std::alloc::{AllocError, Global};
 use std::collections::HashMap;
 use std::marker::Model;
 
+// In contracts a `Names` is the list of its texts, and `position` is the first place of a text in a list.
+
 /// So many names at the front are compared one by one: most scopes have no more, and a hash takes longer.
 const EARLY: usize = 8;
 
 /// Names in their order. A name is found by its text, and the time that this takes doesn't grow with their number.
 pub struct Names<'a> {
+    /// All names. One that comes more than once has its place where it comes first.
     texts: Vec<&'a [u8]>,
+    /// The places of the names that aren't among the first `EARLY`.
     places: HashMap<&'a [u8], usize>,
 }
 
@@ -35,6 +39,7 @@ impl<'a> Model for Names<'a> {
 
     ghost view = { λ n. map text_of n.texts.items };
 
+    // The table has the names whose first place isn't among the first `EARLY`, each with that place, and no others.
     ghost invariant = { λ n. (text : List ℕ) → get_by (λ k. bytes_eq text k.now) n.places ≡ late EARLY (position (map text_of n.texts.items) text) };
 }
 
@@ -113,12 +118,13 @@ impl<'a> Names<'a> {
         self.texts.get(place).copied()
     }
 
-    /// Adds a name at the end. Where a growth is refused nothing changes.
+    /// Adds a name at the end. The error is refused memory, and then nothing changes.
     pub fn push(&mut self, text: &'a [u8]) -> Result<(), AllocError>
         ensures added { OnOk result (self.new ≡ self.old ++ text.now ∷ []) }
         ensures refused { OnErr result (self.new ≡ self.old) }
     {
         let at = self.texts.len();
+        // Room first: once the table has the place, nothing may be refused.
         self.texts.reserve(1)?;
         if at >= EARLY && self.find(text).is_none() {
             self.places.insert(text, at)?;
@@ -127,13 +133,14 @@ impl<'a> Names<'a> {
         Ok(())
     }
 
-    // Removes the last name.
+    // Removes the last name, if there is one.
     fn pop(&mut self)
         ensures { self.new ≡ take (length self.old - 1) self.old }
     {
         let Some(text) = self.texts.pop() else {
             return;
         };
+        // The table has another place if the name came earlier too, and that one stays.
         let at = self.texts.len();
         if at >= EARLY && self.places.get(&text).copied() == Some(at) {
             self.places.remove(&text);

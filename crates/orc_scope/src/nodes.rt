@@ -1,4 +1,4 @@
-//! The nodes of terms, each with its list of operands.
+//! The nodes of terms, in which each call has its list of operands.
 
 ghost use Rattle.std.specs.Prelude.{◌≡◌, ◌++◌, ◌∷◌, [], List, length, map, IfOk, OnOk, OnErr};
 ghost use Rattle.orc_rules.specs.Nodes.{HasParts, param_of, Terms as Listed};
@@ -12,7 +12,11 @@ use orc_rules::program::{TermNode, Terms};
 use std::alloc::{AllocError, Global};
 use std::marker::Model;
 
-/// Terms in which each call has its list of operands.
+// In contracts `terms` are the terms of the nodes, in their order, `HasParts n node` says that a node's parts are among the first n nodes, and
+// `HasList n node` that its list is among the first n lists.
+
+/// Terms of `orc_rules` that are being written out: nodes, each behind those of its parts, and the lists of operands that calls name by number.
+/// Each call's list is there.
 #[derive(Drop)]
 pub struct Nodes {
     terms: Terms,
@@ -43,7 +47,7 @@ impl Nodes {
         self.terms
     }
 
-    /// Adds a node, whose parts and list of operands are there: its number.
+    /// Adds a node, whose parts and list of operands are there. Gives its number, from 0. The error is refused memory, and then nothing changes.
     pub fn add(&mut self, node: TermNode) -> Result<usize, AllocError>
         requires parts { HasParts (length (terms self.old)) node }
         requires list { HasList (length self.old.lists) node }
@@ -55,7 +59,8 @@ impl Nodes {
         Ok(at)
     }
 
-    /// Adds a call with these operands: its number.
+    /// Adds a call of this name with these operands, or `stop` where the name means nothing. Gives its number, from 0. The error is refused memory;
+    /// the list of operands may be there then.
     pub fn add_call(
         &mut self,
         numbers: &Numbers,
@@ -71,9 +76,11 @@ impl Nodes {
     }
 }
 
-/// A part that is written out: an operand, which has no node yet, or a node.
+/// A part that is written out. A literal or a variable gets no node of its own until it is known to be no argument of a call.
 #[derive(Clone, Copy)]
 pub enum Piece {
+    /// A literal or a variable, without a node.
     Operand(Operand),
+    /// The number of a node.
     Node(usize),
 }

@@ -1,4 +1,4 @@
-//! The numbers of names.
+//! The numbers of names: in terms, definitions, sites and variables are numbers of 32 bits.
 
 ghost use Rattle.std.specs.Prelude.{◌≡◌, ◌<◌, ◌+◌, [], ℕ, List, length, map, slice_index_or, IfSome, IfNone};
 ghost use Rattle.orc_rules.specs.declared.param.Operand.{Operand};
@@ -19,7 +19,8 @@ use orc_rules::program::TermNode;
 use orc_syntax::Name;
 use std::marker::Model;
 
-/// The names of definitions, sites and variables. Their numbers have 32 bits, and so have those of as many new variables as a call has arguments at most.
+/// The names of definitions, sites and variables; a name's number is its first place among those of its kind. New variables have the numbers behind
+/// those of all variables that a source names, so they equal none of them. All numbers fit 32 bits, those of `MOST_ARGUMENTS` new variables too.
 pub struct Numbers<'a, 's> {
     known: Known<'a, 's>,
     variables: Names<'a>,
@@ -44,7 +45,7 @@ impl<'a, 's> Model for Numbers<'a, 's> {
 }
 
 impl<'a, 's> Numbers<'a, 's> {
-    /// The numbers of these names; None where there are too many.
+    /// The numbers of these names; None where 32 bits don't number them all.
     pub fn new(known: Known<'a, 's>, variables: Names<'a>) -> Option<Numbers<'a, 's>>
         ensures some { IfSome result (λ n. n ≡ record { known = known_of known.entry; names = variables.entry }) }
         ensures none { IfNone result (AreSmall (record { known = known_of known.entry; names = variables.entry }) → ⊥) }
@@ -59,7 +60,7 @@ impl<'a, 's> Numbers<'a, 's> {
         Some(Numbers { known, variables })
     }
 
-    /// The number of a variable, that of a new one where no variable has this name.
+    /// The number of a variable, that of a new one where no variable has this name. The cast loses nothing, here and below: all numbers fit 32 bits.
     #[tactic(auto, using(crate::proofs::Places::position_within))]
     pub fn variable(&self, text: &[u8]) -> u32
         ensures { result ≡ number self.now.names text.now }
@@ -80,7 +81,8 @@ impl<'a, 's> Numbers<'a, 's> {
         }
     }
 
-    /// The number of a new variable.
+    /// The number of the new variable for the argument at this place of a call, from 0. Each call uses the same numbers: a call among its arguments
+    /// stands in the right side of a pruning, out of the scope of these variables.
     pub fn fresh(&self, place: usize) -> u32
         requires { place < MOST_ARGUMENTS }
         ensures { result ≡ length self.now.names + place }
@@ -88,7 +90,7 @@ impl<'a, 's> Numbers<'a, 's> {
         (self.variables.len() + place) as u32
     }
 
-    /// A call of what this name means where it means no variable.
+    /// A call of what this name means where it means no variable, with the list of operands of this number; `stop` where it means nothing.
     #[tactic(auto, using(crate::proofs::Places::position_within))]
     pub fn called(&self, text: &[u8], list: usize) -> TermNode
         ensures term { (code : ℕ → Term) (lists : List (List Operand)) → unfold_node code lists result ≡ called (outer_meaning (position self.now.known.definitions text.now) (position self.now.known.sites text.now)) (map param_of (slice_index_or lists list [])) }

@@ -1,4 +1,7 @@
-//! Writing out expressions as nodes of terms.
+//! Writes out expressions as nodes of terms (*Written out* in docs/orc.md).
+//!
+//! The nodes of an expression stand in postorder, so they are written from the first to the last: each takes its parts, which were written just
+//! before, from the end of a stack, and leaves what it makes of them there.
 
 ghost use Rattle.std.specs.Prelude.{◌≡◌, ◌<◌, ◌≤◌, ◌+◌, drop, ◌∷◌, [], ℕ, List, length, map, None, IfOk, OnOk};
 ghost use Rattle.orc_rules.specs.declared.limits.TheConstants.{MOST_ARGUMENTS};
@@ -21,15 +24,21 @@ use orc_rules::value::Value;
 use orc_syntax::{Name, Node, Operator, Part, Plain};
 use std::alloc::AllocError;
 
+// In contracts `parts` are the terms of the parts on the stack, the last one first, and `built` is what a node makes of them. `IsReady` says that the
+// nodes which they name are there, and `Keeps` that the nodes so far stay. `IfSides` and `OnNoSides` are the cases in which two parts were there
+// and in which they weren't.
+
 /// The nodes so far, and the parts that are in no other part yet.
 #[derive(Drop)]
 pub struct Writing {
+    /// The nodes of all expressions so far.
     pub nodes: Nodes,
+    /// The stack of parts of the expression that is being written, the last one written last.
     pub pieces: Vec<Piece>,
 }
 
 impl Writing {
-    // Adds a node as a part.
+    // Adds a node, and pushes it as a part.
     fn join(&mut self, node: TermNode) -> Result<(), AllocError>
         requires ready { IsReady self.old }
         requires parts { HasParts (length (terms self.old.nodes)) node }
@@ -44,7 +53,7 @@ impl Writing {
         Ok(())
     }
 
-    // Adds an operand as a part.
+    // Pushes an operand as a part, without a node.
     fn operand(&mut self, operand: Operand) -> Result<(), AllocError>
         requires { IsReady self.old }
         ensures parts { OnOk result (parts self.new ≡ param (param_of operand) ∷ parts self.old) }
@@ -55,7 +64,7 @@ impl Writing {
         Ok(())
     }
 
-    // The node of a part, which an operand gets now.
+    // The number of a part's node. An operand gets its node here.
     fn place(&mut self, piece: Piece) -> Result<usize, AllocError>
         requires { IsFine (terms self.old.nodes) piece }
         ensures within { IfOk result (λ at. at < length (terms self.new.nodes)) }
@@ -69,7 +78,8 @@ impl Writing {
         }
     }
 
-    // Takes the last two parts: their nodes.
+    // Takes the last two parts from the stack, and gives their nodes, the left one first. None where there are fewer, which the nodes of a tree rule
+    // out.
     fn sides(&mut self) -> Result<Option<(usize, usize)>, AllocError>
         requires { IsReady self.old }
         ensures some { IfOk result (IfSides (λ i j. parts self.old ≡ term_at (terms self.new.nodes) j ∷ term_at (terms self.new.nodes) i ∷ parts self.new)) }
@@ -89,7 +99,7 @@ impl Writing {
         Ok(Some((i, j)))
     }
 
-    // Joins the last two parts by an operator.
+    // Joins the last two parts by an operator, and pushes what that makes.
     fn operate(&mut self, numbers: &Numbers, operator: Operator) -> Result<(), AllocError>
         requires { IsReady self.old }
         ensures parts { OnOk result (parts self.new ≡ built numbers.now.known numbers.now.names (operation (link operator.entry)) (parts self.old)) }
@@ -107,7 +117,7 @@ impl Writing {
         })
     }
 
-    // The arguments of a call, which are the pieces from `base` on, as operands.
+    // The arguments of a call, which are the pieces from `base` on, as operands. One that has a node is replaced by a new variable.
     fn operands(&self, numbers: &Numbers, base: usize) -> Operands
         requires ready { IsReady self.now }
         requires base { base ≤ length self.now.pieces.items }
@@ -123,7 +133,8 @@ impl Writing {
         operands
     }
 
-    // Puts a node into a pruning, where the argument isn't an operand.
+    // Puts the node `root` into the pruning of the new variable `name`, whose right side is this argument, unless that is an operand. Gives the
+    // whole's node.
     fn pruning(&mut self, root: usize, name: u32, piece: Piece) -> Result<usize, AllocError>
         requires fine { IsFine (terms self.old.nodes) piece }
         requires within { root < length (terms self.old.nodes) }
@@ -138,7 +149,7 @@ impl Writing {
         }
     }
 
-    // Puts a call into the prunings of its arguments, which are the pieces from `base` on.
+    // Puts a call into the prunings of its new variables, the first argument's innermost. The arguments are the pieces from `base` on.
     fn prunings(&mut self, call: usize, numbers: &Numbers, base: usize) -> Result<usize, AllocError>
         requires ready { IsReady self.old }
         requires base { base ≤ length self.old.pieces.items }
@@ -159,7 +170,7 @@ impl Writing {
         Ok(root)
     }
 
-    // Joins the last `count` parts to a call.
+    // Joins the last `count` parts to a call of this name, and pushes it with its prunings as one part.
     fn call(&mut self, numbers: &Numbers, text: &[u8], count: usize) -> Result<(), AllocError>
         requires ready { IsReady self.old }
         requires few { count ≤ MOST_ARGUMENTS }
@@ -176,7 +187,7 @@ impl Writing {
         Ok(())
     }
 
-    // Joins the last two parts, G and F, by `val`.
+    // Joins the last two parts, G and F of `val x = G F`, to the pruning `F <x< G`.
     fn bind(&mut self, numbers: &Numbers, name: Name) -> Result<(), AllocError>
         requires { IsReady self.old }
         ensures parts { OnOk result (parts self.new ≡ built numbers.now.known numbers.now.names (val (label name.entry)) (parts self.old)) }
@@ -189,7 +200,7 @@ impl Writing {
         self.join(TermNode::Prune(body, numbers.variable(name.text), bound))
     }
 
-    // Adds a literal, `stop` or a truth value as a part.
+    // Pushes a literal or `stop` as a part. Only `stop` gets a node: it is no operand.
     fn plain(&mut self, plain: Plain) -> Result<(), AllocError>
         requires { IsReady self.old }
         ensures parts { OnOk result (parts self.new ≡ plain_term plain ∷ parts self.old) }
@@ -204,7 +215,7 @@ impl Writing {
         }
     }
 
-    // Writes out one node; a call of too many arguments is left out.
+    // Writes out one node, with its parts from the stack. A call of too many arguments is left out; the check refuses it before (C8).
     fn write(&mut self, numbers: &Numbers, part: Part) -> Result<(), AllocError>
         requires { IsReady self.old }
         ensures parts { IsSmall (sort part.entry) → OnOk result (parts self.new ≡ built numbers.now.known numbers.now.names (sort part.entry) (parts self.old)) }
@@ -236,7 +247,7 @@ impl Writing {
         Ok(())
     }
 
-    // The node of the last part.
+    // The node of the last part, which is the whole expression.
     fn root(&mut self) -> Result<usize, AllocError>
         requires { IsReady self.old }
         ensures term { (f : Term) → parts self.old ≡ f ∷ [] → IfOk result (λ at. (term_at (terms self.new.nodes) at ≡ f) × (at < length (terms self.new.nodes))) }
@@ -244,11 +255,12 @@ impl Writing {
     {
         match self.pieces.pop() {
             Some(piece) => self.place(piece),
+            // Not reached: an expression has a node.
             None => Ok(0),
         }
     }
 
-    /// Writes out an expression: its node.
+    /// Writes out an expression, and gives the number of its term's node, from 0. The nodes of other expressions stay. The error is refused memory.
     pub fn expression(&mut self, numbers: &Numbers, nodes: &[Node]) -> Result<usize, AllocError>
         ensures term { (t : Tree) → map item nodes.now ≡ post t → AreSmall (post t) → IfOk result (λ at. (term_at (terms self.new.nodes) at ≡ written numbers.now.known numbers.now.names t) × (at < length (terms self.new.nodes))) }
         ensures keeps { OnOk result (Keeps (terms self.old.nodes) (terms self.new.nodes)) }
@@ -259,7 +271,7 @@ impl Writing {
     }
 }
 
-// A piece as an operand: its own, or the name.
+// A part as an operand: itself where it is one, else the variable `name`.
 fn argument(piece: Piece, name: u32) -> Operand
     ensures { (fs : List Term) → IsFine fs piece → param_of result ≡ param_or name (as_param (piece_term fs piece)) }
 {
