@@ -7,6 +7,7 @@ use Rattle.orc_site.specs.declared.due.Due.{Due}
 use Rattle.orc_site.specs.declared.site_call.SiteCall.{SiteCall}
 use Rattle.orc_site.specs.Time.{found, due_from, answer_of, is_due}
 
+-- when it is answered, and with what
 abbrev pub due_of : SiteCall → Due
 due_of call = due_from call.request.made_at (found call.answers.now call.request)
 

@@ -8,7 +8,9 @@ use orc_rules::value::Found;
 /// When a call is answered, in logical time.
 #[derive(Clone, Copy, Debug, PartialEq, Eq)]
 pub enum Due {
+    /// At this time.
     At(u64),
+    /// At no time.
     Never,
 }
 

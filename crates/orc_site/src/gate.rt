@@ -1,21 +1,22 @@
-//! Where a worker can be held before a call.
+//! Where a worker can be held before a call, by a caller who wants an order of events, such as a test.
 
 ghost use Rattle.std.specs.Prelude.{◌≡◌, true};
 
-/// Is passed once for each call by the worker that recorded it, before the call's first poll.
+/// Is passed once for each call by the worker that recorded it, before the call is made and first polled. [`Open`](crate::Open) is one that holds
+/// nobody.
 pub trait Gate {
-    // Where it is known to be open.
+    // What a caller may know of a gate: that it holds nobody, so that `is_open` answers true. By default nothing is known.
     ghost holds_nobody: { Self → Type 0 } = { λ _. ⊥ };
 
-    /// Passes with the call of that number.
+    /// Passes with the call of that number, from 1. It returns when the worker may go on.
     fn pass(&self, number: u64);
 
-    /// Whether a pass may wait for what another thread does.
+    /// Whether `pass` may wait for what another thread does. Where nothing is said it may.
     fn may_wait(&self) -> bool {
         true
     }
 
-    /// Whether it holds nobody, and nobody notices who passes. Then it need not be passed.
+    /// Whether it holds nobody, and nobody notices who passes. Then a caller need not pass it.
     fn is_open(&self) -> bool
         ensures { holds_nobody self.now → result ≡ true };
 }

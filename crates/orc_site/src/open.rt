@@ -1,4 +1,4 @@
-//! A gate that holds nobody.
+//! A gate that holds nobody, for runs that nobody wants to hold up.
 
 ghost use Rattle.std.specs.Prelude.{◌≡◌, true, false};
 

@@ -1,4 +1,4 @@
-//! What is asked of a site.
+//! What is asked of a site: one call, with what a site needs to know of it.
 
 ghost use Rattle.std.specs.Prelude.{◌≡◌, ◌≤◌};
 
@@ -9,18 +9,19 @@ use orc_rules::value::Args;
 pub struct Request {
     /// The call's number, from 1 on.
     pub number: u64,
-    /// The site's number in the table of sites.
+    /// The site's number in the table of sites, from 0.
     pub site: u32,
+    /// The values that it is called with.
     pub args: Args,
     /// How many calls of this site with these arguments the run has made, this one included: from 1 on.
     pub nth: u64,
-    /// The logical time of the call.
+    /// The logical time at which the call was made.
     pub made_at: u64,
     pub ghost from_one: { 1 ≤ nth },
 }
 
 impl Request {
-    /// The same request again.
+    /// A copy of the request: the same call, not another one.
     pub fn copied(&self) -> Request
         ensures { result ≡ self.now }
     {

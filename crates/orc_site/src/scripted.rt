@@ -1,4 +1,4 @@
-//! Sites that the table answers.
+//! Sites that the table answers: the built-in ones and a script's.
 
 ghost use Rattle.std.specs.Prelude.{◌≡◌, true, false, IfOk};
 

@@ -1,4 +1,4 @@
-//! A call that the table of sites answers.
+//! A call that the table of sites answers, as a future in logical time.
 
 ghost use Rattle.std.specs.Prelude.{◌≡◌, true, None};
 ghost use Rattle.orc_site.specs.Time.{found, due_from, answer_of, is_due};
@@ -13,26 +13,36 @@ use futures::task::{Context, Poll, Source, Waker};
 use orc_rules::answers::Answers;
 use orc_rules::value::{Answer, Found};
 
+// In contracts `IsReply call answer` says that the call is due and has this answer, `IsExact` that a poll is ready exactly then, and `IsSameCall`
+// that table, request and source stay. Of `futures`, `Covers` says that this source will wake the task, and `Keeps` that what the context has noted
+// before stays.
+
 /// How far a call has come.
 #[derive(Clone, Copy, Debug, PartialEq, Eq)]
 pub enum State {
-    /// It was not polled yet.
+    /// It was not polled yet, so the table wasn't asked.
     Fresh,
     /// It is due at this time.
     Waiting(u64),
+    /// It is never due.
     Never,
+    /// A poll has given this answer.
     Done(Answer),
 }
 
-/// A call under way. Its source fires when the due time comes, and keeps no waker then.
+/// A call under way. A task that polled it too early is woken when the due time comes, and no waker is kept then.
 #[derive(Drop)]
 pub struct SiteCall<'a> {
     answers: &'a Answers,
     request: Request,
+    /// The greatest moment that was handed in.
     moment: u64,
     state: State,
+    /// What a pending poll registers with: it stands for the coming of the due time.
     source: Source,
+    /// The waker of the last task whose poll was pending. To drop it wakes that task.
     waker: Option<Waker>,
+    // The state says what the table says of the request; an answer was given only when it was due, and no waker is kept from then on.
     ghost waiting: { (time : _) → state ≡ Waiting time → due_from request.made_at (found answers.now request) ≡ At time },
     ghost never: { state ≡ StateNever → due_from request.made_at (found answers.now request) ≡ DueNever },
     ghost done: { (answer : _) → state ≡ Done answer → (answer ≡ answer_of (found answers.now request)) × (is_due (due_from request.made_at (found answers.now request)) moment ≡ true) },
@@ -56,6 +66,7 @@ impl<'a> SiteCall<'a> {
     }
 }
 
+// The answer that the table gives. Of a call that is never answered nobody asks; it would be halt.
 fn reply(found: Found) -> Answer
     ensures { result ≡ answer_of found }
 {
@@ -71,6 +82,7 @@ impl SiteCall<'_> {
     ghost use Rattle.orc_site.specs.Call.{IsExact, IsSameCall};
     ghost use Rattle.orc_site.specs.declared.site_call.State.TheVariants.{Fresh as StateFresh};
 
+    // What the table says of this call.
     fn find(&self) -> Found
         ensures { result ≡ found self.now.answers.now self.now.request }
     {
@@ -78,7 +90,7 @@ impl SiteCall<'_> {
             .find(self.request.site, &self.request.args, self.request.nth)
     }
 
-    // Computes when the answer comes.
+    // Looks up when the answer comes.
     fn begin(&mut self)
         ensures same { IsSameCall self.old self.new × (self.new.moment ≡ self.old.moment) }
         ensures begun { ¬ (self.new.state ≡ StateFresh) }
@@ -89,7 +101,7 @@ impl SiteCall<'_> {
         };
     }
 
-    // Answers from the due time on, and registers before it.
+    // Answers from the due time on, and registers before it. `begin` has come first.
     fn advance(&mut self, cx: &mut Context<'_>) -> Poll<Answer>
         requires { ¬ (self.old.state ≡ StateFresh) }
         ensures same { IsSameCall self.old self.new × (self.new.moment ≡ self.old.moment) }
@@ -123,8 +135,8 @@ impl Future for SiteCall<'_> {
 
     ghost gives = { IsReply };
 
-    /// Ready exactly where the due time isn't later than the moment, with the table's answer, and again so at each later poll. Where it pends it has
-    /// registered.
+    /// Ready exactly where the due time isn't later than the greatest moment that was handed in, with the table's answer, and again so at each later
+    /// poll. Where it pends it has registered, to be woken when that time comes.
     fn poll(&mut self, cx: &mut Context<'_>) -> Poll<Answer>
         ensures value { IfReady result (IsReply self.old) }
         ensures again { OnPending result ⊤ }
@@ -153,6 +165,7 @@ impl SiteFuture for SiteCall<'_> {
 
     ghost early = { λ call answer is. is.0 };
 
+    // From the due time on the waker is dropped, which wakes its task.
     fn at(&mut self, now: u64)
         ensures moment { self.new.moment ≡ max self.old.moment now }
         ensures when { due_of self.new ≡ due_of self.old }

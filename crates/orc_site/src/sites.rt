@@ -1,4 +1,4 @@
-//! What an engine asks of the sites of a program.
+//! What an engine asks of the sites of a program: to make calls, to say when they are due, and to be polled.
 
 ghost use Rattle.std.specs.Prelude.{◌≡◌, ℕ, max, true};
 ghost use Rattle.orc_site.specs.declared.due.Due.{Due as DueTime};
@@ -11,19 +11,20 @@ use futures::Future;
 use orc_rules::value::Answer;
 use std::alloc::AllocError;
 
-/// A call that is under way, polled by hand. Whoever polls it hands in logical time.
+/// A call that is under way, polled by hand. It has no clock: whoever polls it hands in the moment first, in logical time.
 pub trait SiteFuture: Future<Output = Answer> {
     // The greatest moment that was handed in; the first is the one at which the call was made.
     ghost moment: { Self → ℕ };
 
+    // When the call is answered, as `due` says it.
     ghost when: { Self → DueTime };
 
-    /// Hands in a moment. One that is earlier than the greatest so far is ignored.
+    /// Hands in a moment, in logical time. One that is earlier than the greatest so far is ignored.
     fn at(&mut self, now: u64)
         ensures moment { moment self.new ≡ max (moment self.old) now }
         ensures when { when self.new ≡ when self.old };
 
-    /// When it is answered: the same at any time.
+    /// When it is answered. Whenever it is asked, it says the same.
     fn due(&self) -> Due
         ensures { result ≡ when self.now };
 
@@ -34,25 +35,26 @@ pub trait SiteFuture: Future<Output = Answer> {
     ghost early: { (call : Self) (answer : Reply) → Self.gives call answer → is_due (when call) (moment call) ≡ true };
 }
 
-/// Makes the calls of a program.
+/// Makes the calls of a program. Several workers may ask it at the same time.
 pub trait Sites {
     type Call: SiteFuture;
 
-    // Where they are known to go by the table.
+    // What a caller may know of sites: that they go by the table, so that `goes_by_table` answers true. By default nothing is known.
     ghost by_table: { Self → Type 0 } = { λ _. ⊥ };
 
-    /// Begins a call. Its first moment is the time of the request. Its error is refused memory.
+    /// Begins a call. Its first moment is the time of the request. The error is refused memory.
     fn call(&self, request: &Request) -> Result<Self::Call, AllocError>;
 
-    /// The program has dropped the call. It may be told before the call is made.
+    /// Is told that the program has dropped the call of this number, from 1: a bind has cancelled it. That may come before the call is made.
     fn cancel(&self, number: u64);
 
-    /// Whether a call, a poll or a cancel may wait for what another thread does. Then no other work waits behind it.
+    /// Whether a call, a poll or a cancel may wait for what another thread does. Then the engine lets no other work wait behind it. Where nothing is
+    /// said it may.
     fn may_wait(&self) -> bool {
         true
     }
 
-    /// Whether each call is answered just as the table of sites says, and nobody notices whether it is made. Then it need not be made.
+    /// Whether each call is answered just as the table of sites says, and nobody notices whether it is made. Then an engine need not make it.
     fn goes_by_table(&self) -> bool
         ensures { by_table self.now → result ≡ true };
 }
