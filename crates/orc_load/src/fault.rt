@@ -1,4 +1,4 @@
-//! Why no program is loaded.
+//! Why no program was loaded: a fault of one of the two texts, or of the source's names.
 
 use orc_scope::ScopeFault;
 use orc_site::ScriptFault;
@@ -7,10 +7,10 @@ use orc_syntax::SyntaxFault;
 /// Why no program was loaded.
 #[derive(Clone, Copy, Debug, PartialEq, Eq)]
 pub enum LoadFault {
-    /// The source is no program.
+    /// The source's text spells no program (S1 to S8).
     Syntax(SyntaxFault),
-    /// The script is none.
+    /// The source's text spells a program, and the script's text is no script (L1 to L3).
     Script(ScriptFault),
-    /// A name of the source means nothing that fits.
+    /// Both texts are read, and a name of the source means nothing that fits, or the program is too large (C1 to C9).
     Scope(ScopeFault),
 }

@@ -15,9 +15,13 @@ use orc_site::read_script;
 use orc_syntax::{Ast, Span, parse};
 use std::alloc::Global;
 
+// In contracts `Says script answers` says that this is the table of the script, and `Checks names s result` that the result is what the scope check
+// gives for the program s with sites of these names.
+
 /// A program, and what answers its calls.
 pub struct Loaded {
     pub program: Program,
+    /// The table of the built-in sites and the script's; the program names a site by its number there.
     pub answers: Answers,
 }
 
@@ -32,7 +36,7 @@ impl Drop for Loaded {
 }
 
 impl Loaded {
-    /// What answers the program's calls, alone.
+    /// Gives up the program, and leaves what answers its calls.
     pub fn into_answers(self) -> Answers
         ensures { result ≡ self.answers }
     {
@@ -44,12 +48,13 @@ impl Loaded {
     }
 }
 
+/// Memory for the list of the sites' names was refused: C9, as of memory that the check itself is refused.
 const NO_MEMORY: ScopeFault = ScopeFault {
     kind: FaultKind::Memory,
     span: Span { start: 0, end: 0 },
 };
 
-// The program of a tree.
+// The program of a tree, with the sites of this table.
 fn checked(alloc: Global, ast: &Ast, answers: &Answers) -> Result<Program, ScopeFault>
     ensures { (s : Source) → IsAst ast.now s → Checks answers.now.names s result }
 {
@@ -59,8 +64,11 @@ fn checked(alloc: Global, ast: &Ast, answers: &Answers) -> Result<Program, Scope
     }
 }
 
-/// The program that a source spells, with the built-in sites and those of a script. The fault is the first of one of the source's text, one of the
-/// script and one of the source's names.
+/// The program that a source spells, with the built-in sites and those of a script. Both are given as their texts; an empty one is a script without
+/// sites.
+///
+/// The error is the first of these that there is: a fault of the source's text (`Syntax`), one of the script (`Script`), one of the source's names
+/// (`Scope`). Each of them may be refused memory.
 pub fn load(alloc: Global, source: &[u8], script: &[u8]) -> Result<Loaded, LoadFault>
     ensures says { IfOk result (λ p. Says script.now p.answers) }
     ensures spells { IfOk result (λ p. IsProgramOf source.now p.answers p.program) }
