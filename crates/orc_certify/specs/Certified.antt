@@ -49,7 +49,7 @@ pub record IsRunOf (l : Listing) (t : Table) (limit : ℕ) (text : List ℕ) (j 
   pub ended : outcome.end ≡ end
   pub is_over : IsOver end
 
--- the same of the program that a source spells with the sites that a script says
+-- the text is the journal of such a run of the program that a source spells, with the sites that a script says
 abbrev pub IsCertified : List ℕ → List ℕ → ℕ → List ℕ → Written → End → Type 0
 IsCertified source script limit text j end = (l : Listing) × (t : Table) × Says script t × IsProgramOf source t l × IsRunOf l t limit text j end
 

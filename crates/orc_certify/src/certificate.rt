@@ -1,4 +1,4 @@
-//! A proved answer for a journal, whoever made it.
+//! A proved answer for a journal, whoever made it: the journal is checked, and only then the run's output is written from it.
 
 ghost use Rattle.std.specs.Prelude.{IfOk, IfErr, IfSome, OnOk, OnErr};
 ghost use Rattle.std.specs.Io.KnownBytes.{Appends};
@@ -15,7 +15,10 @@ use orc_verdict::check_journal;
 use std::alloc::Global;
 use std::io::Write;
 
-/// What is wanted of a run.
+// In contracts `shown` is what is to be written, `Appends old new text` says that this was written to the output, and `AppendsPrefix` that a prefix
+// of it was. `IsCertified` says that the text is the journal of a run that ended so by itself.
+
+/// What is to be written of a run.
 #[derive(Clone, Copy, Debug, PartialEq, Eq)]
 pub enum Form {
     /// What it published, a line each.
@@ -27,10 +30,10 @@ pub enum Form {
 /// Why no answer is given for a journal.
 #[derive(Clone, Copy, Debug, PartialEq, Eq)]
 pub enum Unanswered {
-    /// It isn't known to be the journal of a whole run: there is no program, the check refuses it, it is of the first version, it has more entries
-    /// than the limit, the run goes on behind it, or memory was refused.
+    /// It isn't known to be the journal of a whole run, and nothing was written: there is no program, the text is no journal, the check refuses it,
+    /// it is of the first version, it has more entries than the limit, the run goes on behind it, or memory was refused.
     Uncertified,
-    /// The output wasn't taken whole, or memory for the text was refused.
+    /// The output wasn't taken whole, or memory for the text was refused. A prefix of the answer was written.
     Unwritten,
 }
 
@@ -41,7 +44,7 @@ struct Certificate {
     end: End,
 }
 
-// How a run ended that stands so. None where it goes on.
+// How a run ended whose journal leads to this state. None where it goes on.
 fn end_of(state: State) -> Option<End>
     ensures { IfSome result (IsEndOf state) }
 {
@@ -69,6 +72,7 @@ fn check(
     let Ok(journal) = read_journal(alloc, text, &loaded.answers) else {
         return None;
     };
+    // The first version has no cancels, and a run's journal has them. The length counts them, which the limit of a run doesn't.
     if journal.version() != Version::Two || journal.len() as u64 > limit {
         return None;
     }
@@ -79,7 +83,7 @@ fn check(
     Some(Certificate { journal, end })
 }
 
-// Writes what is wanted of the run of a journal, whose text this is.
+// Writes what is wanted of the run of a journal, whose text this is. After an error a prefix of it is written.
 fn write_answer<W: Write>(
     alloc: Global,
     form: Form,
@@ -101,12 +105,12 @@ fn write_answer<W: Write>(
     }
 }
 
-/// Gives the answer of a run whose journal this text is: where the check accepts it as the journal of a run of the program that the source spells,
-/// with the built-in sites and those of the script, which has at most `limit` entries and ended by itself, what is wanted of that run is written,
-/// and how it ended is answered, Halted or Quiet. Nobody need trust who made the journal.
+/// Gives the answer of a run whose journal this text is. The check has to accept it as the journal of a run of the program that the source spells,
+/// with the built-in sites and those of the script. The run has to have ended by itself, with at most `limit` entries, cancels counted. Then what
+/// `form` asks for is written to `out`, and the result is how the run ended, Halted or Quiet. Nobody need trust who made the journal.
 ///
-/// `Uncertified` is answered where the text isn't known to be such a journal, or memory was refused, and nothing is written then; `Unwritten` where
-/// the output isn't taken whole, or memory for its text was refused, and a prefix of it was written then.
+/// `Uncertified` where the text isn't known to be such a journal, or memory was refused; nothing is written then. `Unwritten` where the output
+/// wasn't taken whole, or memory for its text was refused; a prefix of it was written then.
 pub fn certify<W: Write>(
     alloc: Global,
     source: &[u8],

@@ -2,7 +2,9 @@
 //! FILE with SCRIPT, of at most LIMIT entries, and writes what the run published (`values`) or the journal (`journal`). An empty file is no script.
 //!
 //! The status is that of the run, 0 where it halted and 3 where it is quiet. With 10 nothing was written: the journal proves no answer, or a file
-//! couldn't be read. With 6 the output wasn't taken whole, and with 2 the words are others.
+//! couldn't be read. With 6 the output wasn't taken whole, and with 2 the command line has another form.
+//!
+//! `./orc` starts it while the full program is still being proved. So it is small: it stands on no ledger and no engine.
 #![tactic(auto)]
 
 mod certificate;
@@ -18,16 +20,17 @@ const UNCERTIFIED: u8 = 10;
 /// The status where the output wasn't taken whole.
 const UNWRITTEN: u8 = 6;
 
-/// The status of other words.
+/// The status where the command line has another form.
 const WRONG_WORDS: u8 = 2;
 
-/// What a command line asks for.
+/// What a command line asks for. The texts are paths of files.
 #[derive(Drop)]
 struct Asked<'a> {
     form: Form,
     source: &'a str,
     journal: &'a str,
     script: &'a str,
+    /// The most entries that the journal may have.
     limit: u64,
 }
 
@@ -39,6 +42,7 @@ fn form_of(word: &str) -> Option<Form> {
     }
 }
 
+// The limit that a word says, or the default where there is no word. None where the word is no number.
 fn limit_of(word: Option<&String>) -> Option<u64> {
     match word {
         Some(word) => word.parse::<u64>().ok(),
@@ -46,6 +50,7 @@ fn limit_of(word: Option<&String>) -> Option<u64> {
     }
 }
 
+// What the words ask for, the program's name first. None where they have another form.
 fn read_words(words: &[String]) -> Option<Asked<'_>> {
     let [_, form, source, journal, script, rest @ ..] = words else {
         return None;
@@ -62,7 +67,7 @@ fn read_words(words: &[String]) -> Option<Asked<'_>> {
     })
 }
 
-// Reads the files and writes the answer. The error is that of a file.
+// Reads the files and writes the answer. Gives the status. The error is that of a file which can't be read.
 fn answer(rt: &HostRuntime, asked: &Asked) -> io::Result<u8> {
     let source = fs::read(rt, asked.source)?;
     let script = fs::read(rt, asked.script)?;
