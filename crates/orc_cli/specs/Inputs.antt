@@ -3,6 +3,7 @@ use Rattle.std.specs.Prelude.{ℕ, List, Bool, false, ◌&&◌, ◌||◌, bytes_
 use Rattle.orc_cli.specs.declared.job.Job.{Job}
 use Rattle.orc_cli.specs.declared.job.Job.TheVariants as job
 
+-- a path is `-`; and a path that may be missing
 abbrev pub names_input : List ℕ → Bool
 names_input path = bytes_eq path (codes "-")
 
@@ -10,6 +11,7 @@ abbrev pub may_name_input : Option (List ℕ) → Bool
 may_name_input (Some path) = names_input path
 may_name_input None = false
 
+-- at least two of three, and of four
 abbrev pub two_of : Bool → Bool → Bool → Bool
 two_of a b c = (a && b) || ((a || b) && c)
 

@@ -1,62 +1,74 @@
-//! The arguments that each command takes, and what the help says of them.
+//! The arguments that each command takes, and what the help says of them: a table, from which `commands.rt` makes what `clap` reads.
+//!
+//! Numbers of a range are `i64`, as `clap` has them.
 
 use orc_rules::limits::{DEFAULT_ENTRIES, DEFAULT_WORKERS, MOST_ENTRIES, MOST_WORKERS};
 
-/// In how many orders `outcomes` runs a program at most, and where nothing is said.
+/// The most orders in which `outcomes` runs a program, or `test` each way.
 const MOST_ORDERS: i64 = 1_000_000;
 
+/// The orders of `outcomes` where no number is asked for.
 const DEFAULT_ORDERS: u64 = 100;
 
-/// Through how many states `outcomes --all` and `test` search at most, and where nothing is said.
+/// The most states of a search of `outcomes --all`, or of one search of `test`.
 const MOST_STATES: i64 = 10_000_000;
 
+/// The states of such a search where no number is asked for.
 pub const DEFAULT_STATES: u64 = 5_000;
 
-/// How many ways of a case `test` tries, and in how many orders each, where nothing is said.
+/// The ways of each case that `test` tries where no number is asked for.
 pub const DEFAULT_WAYS: u64 = 10_000;
 
+/// The orders in which `test` runs each way where no number is asked for.
 pub const DEFAULT_TRIALS: u64 = 20;
 
-/// How many ways of a case `test` tries at most.
+/// The most ways of a case that `test` tries.
 const MOST_WAYS: i64 = 1_000_000;
 
-/// The most failures that a test may tell of: of 1,024 claims, and one of each of 256 cases.
+/// The most failures that a test may report: of 1,024 claims, and one of each of 256 cases.
 const MOST_FAILURES: i64 = 1_280;
 
 /// An argument of one or more commands.
 pub(crate) struct Argument {
     /// The commands that take it.
     pub(crate) of: &'static [&'static str],
+    /// Its name. An option is written with `--` before it.
     pub(crate) name: &'static str,
+    /// What is written for it.
     pub(crate) takes: Takes,
+    /// Which other argument it excludes or needs.
     pub(crate) beside: Beside,
+    /// What the help says of it, without its range and its default.
     pub(crate) help: &'static str,
 }
 
-/// What is written for an argument: a text, which has this name in the help, or a number.
+/// What is written for an argument. A text is the placeholder for it in the help, such as `FILE`.
 pub(crate) enum Takes {
-    /// A file, without the argument's name before it.
+    /// A file by its place on the command line, without the argument's name. It has to be there.
     File(&'static str),
-    /// The same, and it may be left out.
+    /// A file by its place on the command line, which may be left out.
     MaybeFile(&'static str),
-    /// The argument's name alone.
+    /// The argument's name alone: a flag.
     Nothing,
+    /// The argument's name, and a text.
     Text(&'static str),
-    /// One of these words, or else the default.
+    /// The argument's name, and one of these words; the last field is the word where it is left out.
     Word(&'static str, &'static [&'static str], &'static str),
+    /// The argument's name, and any number from 0 to 2^64 - 1.
     Number,
-    /// The number of one thing of so many at most, from 1.
+    /// The argument's name, and a number from 1 to this one: which of so many things is meant.
     Choice(i64),
-    /// A number from a least one to a greatest one, or else the default.
+    /// The argument's name, and a number from the first to the second one; the third one is the number where it is left out.
     Setting(i64, i64, u64),
 }
 
-/// Which other argument of its command an argument goes with.
+/// Which other argument of its command an argument excludes or needs.
 pub(crate) enum Beside {
+    /// No other.
     Anything,
-    /// Each but this one.
+    /// It excludes the argument of this name.
     Not(&'static str),
-    /// This one has to be there.
+    /// It needs the argument of this name.
     Only(&'static str),
 }
 
@@ -79,7 +91,7 @@ pub(crate) const COMMANDS: [(&str, &str); 6] = [
     ),
 ];
 
-/// All arguments. The help of a command has its own in this order.
+/// All arguments. The help of a command has its own in this order. A name that means different things to different commands has a row for each.
 pub(crate) static ARGUMENTS: [Argument; 29] = [
     Argument {
         of: &["run", "outcomes", "check", "draw", "print", "test"],

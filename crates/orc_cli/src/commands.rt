@@ -4,9 +4,10 @@ use crate::arguments::{ARGUMENTS, Argument, Beside, COMMANDS, Takes};
 use clap::{Arg, ArgAction, Command, value_parser};
 use std::alloc::{AllocError, Global};
 
+/// The version, and the logic of the proof kit with which the program was proved (README.md).
 const VERSION: &str = "0.1.0 (proved with logic dac8208d650f15bf)";
 
-/// What stands below the list of commands.
+/// What the help has below the list of commands.
 const CODES: &str = "Faults, each one line on standard error, a code with its place:
   S, C  the source's text, its names    (a byte, counted from 0)
   L, J  the script, the journal's text  (a line, counted from 1)
@@ -20,14 +21,16 @@ Status:
   2  the command line was refused       6  a file or the output failed
   3  quiet: it waits for ever           7  the engine is at fault";
 
-// What the help says of a setting.
+// The texts of a setting, which `clap` borrows.
 #[derive(Drop)]
 struct Told {
+    /// The number where it is left out.
     default: String,
+    /// What the help says of it, with its range.
     help: String,
 }
 
-// An argument, and what is told of it where it is a setting.
+// An argument, and where it is a setting its texts.
 #[derive(Drop)]
 struct Row {
     argument: &'static Argument,
@@ -35,7 +38,7 @@ struct Row {
 }
 
 impl Row {
-    // The error is refused memory.
+    // An argument with its texts. The error is refused memory.
     fn new(alloc: Global, argument: &'static Argument) -> Result<Row, AllocError> {
         let told = match &argument.takes {
             Takes::Setting(least, most, default) => {
@@ -50,6 +53,7 @@ impl Row {
         Ok(Row { argument, told })
     }
 
+    // Whether a command takes it.
     fn is_of(&self, command: &str) -> bool {
         for one in self.argument.of {
             if *one == command {
@@ -59,7 +63,7 @@ impl Row {
         false
     }
 
-    // An argument with what the help says of it.
+    // Adds what the help says of it, and the default of a setting.
     fn helping<'a>(&'a self, argument: Arg<'a>) -> Arg<'a> {
         match &self.told {
             Some(told) => argument
@@ -69,7 +73,7 @@ impl Row {
         }
     }
 
-    // An argument with what it goes beside. The error is refused memory.
+    // Adds which other argument it excludes or needs. The error is refused memory.
     fn beside<'a>(&self, argument: Arg<'a>) -> Result<Arg<'a>, AllocError> {
         match self.argument.beside {
             Beside::Anything => Ok(argument),
@@ -108,8 +112,9 @@ impl Row {
     }
 }
 
-/// The numbers that options take, which a command borrows.
+/// All arguments, with the texts that `clap` borrows while it reads a command line: so they are made before it, and live as long as what is read.
 pub struct Ranges {
+    /// In the order of `ARGUMENTS`.
     rows: Vec<Row>,
 }
 
@@ -121,7 +126,7 @@ impl Drop for Ranges {
 }
 
 impl Ranges {
-    /// The error is refused memory.
+    /// All arguments with their texts. The error is refused memory.
     pub fn new(alloc: Global) -> Result<Ranges, AllocError> {
         let mut rows = Vec::new(alloc);
         for argument in ARGUMENTS.iter() {
@@ -146,7 +151,7 @@ impl Ranges {
         Ok(command)
     }
 
-    /// The whole command line. The error is refused memory.
+    /// The whole command line as `clap` reads it. The error is refused memory.
     pub(crate) fn orc_command<'a>(&'a self, alloc: Global) -> Result<Command<'a>, AllocError> {
         let mut orc = Command::new(alloc, "orc")
             .version(VERSION)

@@ -1,4 +1,6 @@
-//! What the words of a command line ask for.
+//! What the words of a command line ask for, from what `clap` has read of them (`given`).
+//!
+//! A function here gives None where `clap` lacks a value that is always there: a file that it requires, or a setting, which has a default.
 
 ghost use Rattle.std.specs.Prelude.{◌≡◌, IfOk, false};
 ghost use Rattle.orc_cli.specs.Inputs.{shares};
@@ -17,6 +19,7 @@ fn is_given(given: &ArgMatches, name: &str) -> bool {
     given.get_flag(name)
 }
 
+// What is written of a run. `clap` refuses both flags together.
 fn wanted_of(given: &ArgMatches) -> Wanted {
     if is_given(given, "journal") {
         Wanted::Journal
@@ -27,7 +30,7 @@ fn wanted_of(given: &ArgMatches) -> Wanted {
     }
 }
 
-// The order of a number, where one is given.
+// The order of the number that is given, else the fixed one.
 fn order_of(given: &ArgMatches) -> Order {
     match given.get_one::<u64>("order") {
         Some(number) => Order::Numbered(number),
@@ -35,7 +38,7 @@ fn order_of(given: &ArgMatches) -> Order {
     }
 }
 
-// How a program is run. The order of a number is one worker's.
+// How a program is run. A numbered order is one worker's, so `clap` refuses a number of workers beside it.
 fn options_of(given: &ArgMatches) -> Option<Options> {
     let order = if is_given(given, "unordered") {
         Order::Unordered
@@ -54,6 +57,7 @@ fn options_of(given: &ArgMatches) -> Option<Options> {
     })
 }
 
+// How a program is run in many orders.
 fn survey_options_of(given: &ArgMatches) -> Option<SurveyOptions> {
     Some(SurveyOptions {
         workers: given.get_one::<u64>("workers")?,
@@ -62,7 +66,7 @@ fn survey_options_of(given: &ArgMatches) -> Option<SurveyOptions> {
     })
 }
 
-// Through how many states all schedules are searched, where they are.
+// Through how many states all schedules are searched at most. None where `--all` doesn't ask for that.
 fn states_of(given: &ArgMatches) -> Option<u64> {
     if !is_given(given, "all") {
         return None;
@@ -70,7 +74,7 @@ fn states_of(given: &ArgMatches) -> Option<u64> {
     given.get_one::<u64>("states")
 }
 
-// In how many orders a program is run, whether all schedules are searched then, and whether one outcome is to be shown.
+// The job of `outcomes`: to show one outcome, to search all schedules too, or neither.
 fn outcomes_of<'a>(file: &'a str, given: &ArgMatches<'a>) -> Option<Job<'a>> {
     let script = given.get_str("script");
     let options = survey_options_of(given)?;
@@ -99,6 +103,7 @@ fn outcomes_of<'a>(file: &'a str, given: &ArgMatches<'a>) -> Option<Job<'a>> {
     }
 }
 
+// What is written of a test.
 fn shown_of(given: &ArgMatches) -> Shown {
     match given.get_one::<u64>("fail") {
         None => Shown::Table,
@@ -112,6 +117,7 @@ fn shown_of(given: &ArgMatches) -> Shown {
     }
 }
 
+// How a test is made.
 fn test_options_of(given: &ArgMatches) -> Option<TestOptions> {
     Some(TestOptions {
         workers: given.get_one::<u64>("workers")?,
@@ -123,6 +129,7 @@ fn test_options_of(given: &ArgMatches) -> Option<TestOptions> {
     })
 }
 
+// As what a journal is drawn: as letters of this width, or as SVG in these colours.
 fn form_of(given: &ArgMatches) -> Option<Form> {
     if is_given(given, "text") {
         return Some(Form::Text(given.get_one::<u64>("width")?));
@@ -135,7 +142,7 @@ fn form_of(given: &ArgMatches) -> Option<Form> {
     Some(Form::Svg(theme))
 }
 
-// How a journal is checked.
+// The job of `check`: with the claims of a test, or without.
 fn check_of<'a>(
     file: &'a str,
     journal: &'a str,
@@ -157,7 +164,7 @@ fn check_of<'a>(
     }
 }
 
-// How a program is run whose journal is drawn.
+// How a program is run whose journal is drawn. `draw` takes no number of workers.
 fn drawn_run_of(given: &ArgMatches) -> Option<Options> {
     let order = order_of(given);
     let workers = match order {
@@ -172,7 +179,7 @@ fn drawn_run_of(given: &ArgMatches) -> Option<Options> {
     })
 }
 
-// What is drawn.
+// The job of `draw`: of a journal that is given, or of a run that is made.
 fn draw_of<'a>(file: &'a str, given: &ArgMatches<'a>) -> Option<Job<'a>> {
     let script = given.get_str("script");
     let options = orc_draw::Options {
@@ -195,7 +202,7 @@ fn draw_of<'a>(file: &'a str, given: &ArgMatches<'a>) -> Option<Job<'a>> {
     }
 }
 
-// What the words of a command ask for. None where the command has no arm here.
+// What the words of a command ask for. None too where the command has no arm here.
 fn job_of<'a>(name: &str, given: &ArgMatches<'a>) -> Option<Job<'a>> {
     let file = given.get_str("file")?;
     match name {
@@ -226,8 +233,10 @@ fn job_of<'a>(name: &str, given: &ArgMatches<'a>) -> Option<Job<'a>> {
 /// Why a command line is refused that names standard input for two files.
 const SHARED: &str = "'-' stands for more than one file, and standard input can be read only once";
 
-/// Reads a command line, whose first word is the program's name. One that is taken names standard input for one file at most. An error asks for
-/// help or for the version, or refuses it.
+/// Reads a command line, whose first word is the program's name. A job that is given names standard input for one file at most.
+///
+/// The error is `clap`'s: it has the text of the help or of the version where the line asks for them, else why the line is refused; or memory was
+/// refused.
 pub fn read_words<'a, S: AsStr>(
     alloc: Global,
     words: &'a [S],
@@ -246,5 +255,6 @@ pub fn read_words<'a, S: AsStr>(
             return Ok(Asked { job, explain });
         }
     }
+    // Not reached: `clap` gives one of the commands, with all its values.
     Err(command.error(ErrorKind::MissingSubcommand, "no such command")?)
 }
