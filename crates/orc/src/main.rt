@@ -14,9 +14,10 @@ const MOST: u64 = LONGEST_JOURNAL as u64 + 1;
 /// What the environment says of explanations: `1` asks for them, anything else for none.
 const EXPLAIN: &str = "ORC_EXPLAIN";
 
-/// The option that asks for explanations, and the commands that take it.
+/// The option that asks for explanations.
 const OPTION: &str = "--explain";
 
+/// The commands that take it.
 const EXPLAINING: [&str; 6] = ["run", "outcomes", "check", "draw", "print", "test"];
 
 /// The command that explains on standard output, too.
@@ -45,7 +46,7 @@ struct SystemFiles<'a, R> {
     stdin: Result<Stdin, ReadFault>,
 }
 
-// A folder can be opened too, and only its read tells what it is.
+// Why a file can't be read. A folder can be opened too, and only its read tells what it is.
 fn fault_of(error: io::Error) -> ReadFault {
     match error.kind() {
         ErrorKind::OutOfMemory => ReadFault::Memory,
@@ -68,6 +69,7 @@ fn standard_input(mut stdin: Stdin) -> Result<Stdin, ReadFault> {
 }
 
 impl<R: rt::Files + AllocGlobal> SystemFiles<'_, R> {
+    // The file of a path, or standard input for `-`.
     fn open_input(&self, path: &str) -> Result<Input<R::File>, ReadFault> {
         if path == STANDARD_INPUT {
             return match self.stdin {
@@ -100,17 +102,20 @@ impl<R: rt::Files + AllocGlobal> Files for SystemFiles<'_, R> {
     }
 }
 
+// Writes a line on standard error, and ends with this status. If that can't be written either, nobody can be told.
 fn failed(rt: &impl Eprint, line: &str, status: u8) -> ExitCode {
     let _ = eprintln!(rt; "{line}");
     ExitCode::from(status)
 }
 
+// Ends where memory is refused before any command has begun, with the line and the status that a command would give.
 fn refused(rt: &impl Eprint) -> ExitCode {
     let failure = Failure::Unread("", ReadFault::Memory);
     let _ = eprintln!(rt; "{failure}");
     ExitCode::from(failure.status())
 }
 
+// Whether the command is the one that explains on standard output, too. The words begin with the program's name.
 fn is_test(words: &[String]) -> bool {
     match words.get(1) {
         Some(word) => word.as_str() == TESTING,
@@ -118,8 +123,8 @@ fn is_test(words: &[String]) -> bool {
     }
 }
 
-// Whether what went wrong is explained without being asked: as the environment says, else where somebody reads standard error on a terminal, and of a test
-// its table, too. So a file that a table goes to doesn't depend on where standard error goes.
+// Whether what went wrong is explained without being asked: as the environment says, else where somebody reads standard error on a terminal, and of a
+// test its table, too. So a file that a table goes to doesn't depend on where standard error goes.
 fn explains(rt: &HostRuntime, words: &[String]) -> bool {
     match env::var(rt, EXPLAIN) {
         Ok(word) => word.as_str() == "1",
