@@ -3,7 +3,7 @@
 ghost use Rattle.std.specs.Prelude.{◌≡◌};
 ghost use Rattle.orc_rules.specs.Digits.{Gives, digits_at};
 
-/// The number of the digits that stand first, 0 where there is none, and the bytes behind them. None where the number has more than 64 bits.
+/// The number that the digits at the front spell, 0 if there is none, and the bytes behind them. None if the number has more than 64 bits.
 pub fn digits_at(bytes: &[u8]) -> Option<(u64, &[u8])>
     ensures { Gives (λ x. (x.0, x.1.now)) result (digits_at bytes.now) }
 {

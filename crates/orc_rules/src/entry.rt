@@ -7,7 +7,8 @@ ghost use Rattle.orc_rules.specs.Kinds.{kind_of};
 use crate::kind::Kind;
 use crate::value::{Answer, Args, Value};
 
-/// One line of a journal. S, A, B are marks, C cells, K calls.
+/// One line of a journal, its fields in the order of the line: S, A and B are marks, C is a cell, K a call, M a site, all by their numbers; V is a
+/// value, T a time. docs/orc.md, *Journals*, says under which condition each is allowed and what it does.
 #[derive(Drop)]
 pub enum Entry {
     /// `end S`
@@ -47,7 +48,7 @@ pub enum Entry {
 }
 
 impl Entry {
-    /// What it is.
+    /// Its kind.
     pub fn kind(&self) -> Kind
         ensures { result ≡ kind_of self.now }
     {
@@ -73,7 +74,7 @@ impl Entry {
     }
 }
 
-/// What a step shows.
+/// What an entry shows from outside: the label of its step, or that a call is cancelled. Moves of marks and ticks show nothing.
 #[derive(Drop)]
 pub enum Label {
     /// Call K of a site with these arguments, inside the right sides of these cells, the outermost first.
@@ -88,7 +89,7 @@ pub enum Label {
     Publish(Value),
     /// Nothing that can be seen.
     Silent,
-    /// Call K was dropped with a side.
+    /// Call K is cancelled: a bind has dropped the side in which it was pending.
     Cancel(u64),
 }
 
@@ -99,7 +100,7 @@ pub enum RuleFault {
     Cancel,
     /// No such mark, pending call, cell or otherwise.
     Mark,
-    /// Another kind of term, name, argument, value or taker.
+    /// Another kind of term, name, argument or value, or what takes the publication is another: a `>x>`, a cell, or the whole.
     Form,
     /// A new number that isn't the next one.
     Number,
@@ -111,12 +112,12 @@ pub enum RuleFault {
     Halted,
     /// The term after the entry would nest over `MOST_LEVELS` levels.
     Deep,
-    /// A growth was refused.
+    /// Memory was refused, or the check needs a number of over 32 bits.
     Memory,
 }
 
 impl RuleFault {
-    /// The reason's word.
+    /// The word with which a check names the reason.
     pub fn word(self) -> &'static str
         ensures { result.now ≡ reason_word self }
     {
@@ -147,7 +148,7 @@ impl RuleFault {
 /// Where a journal has brought a run.
 #[derive(Clone, Copy, PartialEq, Eq, Debug)]
 pub enum State {
-    /// The term has halted: nothing can come any more but that cells are lost.
+    /// The term has halted: of all rules only PruneLost may still apply.
     Halted,
     /// The term hasn't halted, but no rule can be used, and no tick is possible.
     Quiet,
@@ -156,7 +157,7 @@ pub enum State {
 }
 
 impl State {
-    /// The state's word.
+    /// The word with which a check names the state.
     pub fn word(self) -> &'static str
         ensures { result.now ≡ state_word self }
     {

@@ -1,9 +1,9 @@
-//! What an entry is, and the word with which its line begins.
+//! The kinds of entries, and the word with which the lines of each begin.
 
 ghost use Rattle.std.specs.Prelude.{◌≡◌};
 ghost use Rattle.orc_rules.specs.Kinds.{word_of};
 
-/// What an entry is: a kind for each form of a line.
+/// The kind of an entry: one for each form of a line. A `return` with a value and one that halts are two forms.
 #[derive(Clone, Copy, PartialEq, Eq, Debug)]
 pub enum Kind {
     End,

@@ -5,6 +5,9 @@
 //! timed run, nothing that the rules allow is lost, a journal has one verdict. The other modules are values, operands,
 //! programs as numbered nodes, entries and their kinds, the table of sites with the lines of those that a script answers, each
 //! as the definitions have it, and the limits.
+//!
+//! Words that all crates use: a *mark* is the number of a token, or of an `f ; g` whose left side runs; a *cell* stands for the variable of an
+//! `f <x< g` whose sides run, until it has a value or never will; a *side* is one operand of an operator.
 #![tactic(auto)]
 
 pub mod answers;

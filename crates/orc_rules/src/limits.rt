@@ -21,7 +21,7 @@ pub const MOST_BRACKETS: usize = 200;
 /// The most operators in one definition or main expression.
 pub const MOST_OPERATORS: usize = 4_000;
 
-/// The most levels that a checked term nests.
+/// The most levels that a checked term nests; a check refuses an entry that would make it deeper (Deep).
 pub const MOST_LEVELS: usize = 10_000;
 
 /// The most answers in a line of a script.
@@ -33,10 +33,11 @@ pub const MOST_NODES: usize = 65_535;
 /// The most tokens and pending calls of a run at one time, counted together.
 pub const MOST_TOKENS: usize = 65_536;
 
-/// The most groups of a run that are open at one time.
+/// The most groups of a run that are open at one time: the whole program is one, and so is each right side of a `<x<` without a value and each left
+/// side of a `;` that hasn't halted.
 pub const MOST_GROUPS: usize = 1_024;
 
-/// The most frames of a token: the right sides of `>x>` that wait for what it publishes.
+/// The most frames of a token: the right sides of `>x>` that wait for what it publishes, up to the next right side of a `<x<`.
 pub const MOST_FRAMES: usize = 4_096;
 
 /// The most workers of a run.

@@ -1,4 +1,4 @@
-//! The lines of a site that a script answers.
+//! The lines of a site that a script answers, and an index that finds the first one that matches a call. A place is a line's number here, from 0.
 
 ghost use Rattle.std.specs.Prelude.{◌≡◌, ◌≤◌, ◌<◌, ◌+◌, ◌++◌, ◌∷◌, [], List, Option, length, take, true, IfOk, OnOk, OnErr};
 ghost use Rattle.orc_rules.specs.declared.limits.TheConstants.{MOST_ARGUMENTS};
@@ -15,7 +15,7 @@ use std::collections::HashMap;
 use std::hash::{BuildHasherDefault, FoldHasher};
 use std::marker::Model;
 
-/// A line of a script: calls that match the patterns get the answers in their order. A pattern is a value, or None for any.
+/// A line of a script: calls that match the patterns get the answers in their order. A pattern is a value, or None for `_`, which matches any.
 #[derive(Drop)]
 pub struct Line {
     pub patterns: Vec<Option<Value>>,
@@ -26,11 +26,11 @@ pub struct Line {
 /// in a time that grows with their shapes and not with their number; where they have more than `MOST_SHAPES`, one by one.
 pub struct Lines {
     lines: Vec<Line>,
-    // Of lines up to `FEW_LINES` it says nothing, and nobody asks it.
+    // Up to `FEW_LINES` lines it isn't kept up, and not used.
     index: Index,
 }
 
-// Where lines stand. Of lines that have more than `MOST_SHAPES` shapes it says nothing.
+// The places of lines by their patterns. Once the lines have more than `MOST_SHAPES` shapes it isn't kept up, and not used.
 #[derive(Drop)]
 struct Index {
     // The place of the first line that has these patterns.
@@ -39,9 +39,10 @@ struct Index {
     shapes: Vec<Vec<bool>>,
 }
 
-// Patterns in place.
+// The patterns of one line, stored in place: a look-up asks for no memory.
 #[derive(Drop)]
 struct Patterns {
+    // From `len` on there is only filling.
     patterns: [Option<Value>; MOST_ARGUMENTS],
     len: usize,
 }
@@ -78,13 +79,13 @@ impl Model for Patterns {
     ghost invariant = { λ p. p.len ≤ MOST_ARGUMENTS };
 }
 
-// So few lines are looked at one by one, in less time than the values of a call are hashed. Most sites have one or two.
+// Up to so many lines are looked at one by one: that takes less time than to hash the values of a call. Most sites have one or two.
 const FEW_LINES: usize = 8;
 
-// A call is looked up once for each shape, so of more shapes the lines are looked at one by one.
+// A call is looked up once for each shape. If there are more shapes, the lines are looked at one by one instead.
 const MOST_SHAPES: usize = 16;
 
-// Whether a line's patterns match these arguments.
+// Whether a line's patterns match these arguments, as many and each its own. It recurses once a pattern: a line has `MOST_ARGUMENTS` at most.
 fn is_match(patterns: &[Option<Value>], args: &[Value]) -> bool
     ensures { result ≡ matches patterns.now args.now }
 {
@@ -98,7 +99,7 @@ fn is_match(patterns: &[Option<Value>], args: &[Value]) -> bool
     }
 }
 
-// The n-th answer from 0, after the last one the last again.
+// The n-th answer, from 0; after the last one it is the last one again. A line without answers, which no script has, halts.
 fn nth(answers: &[Found], n: u64) -> Found
     ensures { result ≡ nth_answer answers.now n }
 {
@@ -114,7 +115,7 @@ fn nth(answers: &[Found], n: u64) -> Found
     }
 }
 
-// The place of the first line that matches, where each is looked at. Without such a line, how many there are.
+// The place of the first line that matches, looking at one after another. Without such a line, how many there are.
 fn first_match(lines: &[Line], args: &[Value]) -> usize
     ensures { result ≡ match_place (lines_of lines.now) args.now }
 {
@@ -126,7 +127,7 @@ fn first_match(lines: &[Line], args: &[Value]) -> usize
     lines.len()
 }
 
-// At which places these patterns are values. The error is refused memory.
+// The shape of these patterns: true for a value, false for a `_`. The error is refused memory.
 fn shape(alloc: Global, patterns: &[Option<Value>]) -> Result<Vec<bool>, AllocError>
     ensures { IfOk result (λ shape. shape.items ≡ shape_of patterns.now) }
 {
@@ -149,6 +150,7 @@ fn know(shapes: &mut Vec<Vec<bool>>, shape: Vec<bool>) -> Result<(), AllocError>
 }
 
 impl Patterns {
+    // No patterns.
     fn new() -> Patterns
         ensures { result ≡ [] }
     {
@@ -172,7 +174,8 @@ impl Patterns {
         &self.patterns[..self.len]
     }
 
-    // Adds the patterns of this shape that have these arguments' values.
+    // Adds the patterns of this shape that match these arguments: an argument's value where the shape has one, else `_`. Each line of the shape that
+    // matches a call of these arguments has these patterns.
     #[tactic(auto, using(crate::proofs::Places::none_filled))]
     fn fill(&mut self, shape: &[bool], args: &[Value])
         requires { length self.old + length args.now ≤ MOST_ARGUMENTS }
@@ -186,7 +189,7 @@ impl Patterns {
 }
 
 impl Index {
-    // Nothing stands anywhere.
+    // The index of no lines.
     fn new(alloc: Global) -> Index
         ensures { Indexes [] result.places.entries result.shapes.items }
     {
@@ -196,7 +199,7 @@ impl Index {
         }
     }
 
-    // Where these lines stand. The error is refused memory.
+    // The index of these lines. The error is refused memory.
     fn of(alloc: Global, lines: &[Line]) -> Result<Index, AllocError>
         ensures { IfOk result (λ index. Indexes (lines_of lines.now) index.places.entries index.shapes.items) }
     {
@@ -207,8 +210,8 @@ impl Index {
         Ok(index)
     }
 
-    // Enters the line behind the others, which has these patterns. Where an earlier line has them it never answers, and its place isn't kept. The error
-    // is refused memory, and then the others are where they were.
+    // Enters the line behind the others, which has these patterns. If an earlier line has the same ones, this line never answers, and its place isn't
+    // kept. The error is refused memory; then the shape may have been added, which does no harm: a look-up by it finds nothing.
     fn enter(
         &mut self,
         alloc: Global,
@@ -218,6 +221,7 @@ impl Index {
         ensures entered { OnOk result (Enters patterns.now place self.old.places.entries self.old.shapes.items self.new.places.entries self.new.shapes.items) }
         ensures refused { OnErr result ((self.new.places.entries ≡ self.old.places.entries) × Keeps self.old.shapes.items self.new.shapes.items) }
     {
+        // There are too many shapes already: nobody uses the index.
         if MOST_SHAPES < self.shapes.len() {
             return Ok(());
         }
@@ -230,7 +234,7 @@ impl Index {
         Ok(())
     }
 
-    // The place of the first line of this shape that matches.
+    // The place of the first line of this shape that matches, if there is one.
     fn place(&self, shape: &[bool], args: &[Value]) -> Option<usize>
         requires { length args.now ≤ MOST_ARGUMENTS }
         ensures { result ≡ place_in self.now.places.entries shape.now args.now }
@@ -253,6 +257,7 @@ impl Index {
         let mut first = lines.len();
         for shape in &self.shapes {
             if let Some(place) = self.place(shape, args) {
+                // The shapes are in no order: of the lines that match, the earliest answers.
                 first = first.min(place);
             }
         }
@@ -280,9 +285,11 @@ impl Lines {
             self.lines.push(line)?;
             return Ok(());
         }
+        // This line is the first that is too many: the lines so far are entered too.
         if self.lines.len() == FEW_LINES {
             self.index = Index::of(alloc, &self.lines)?;
         }
+        // Room first: behind `enter` nothing can be refused.
         self.lines.try_reserve(1)?;
         self.index.enter(alloc, &line.patterns, self.lines.len())?;
         let pushed = self.lines.push(line);
@@ -302,7 +309,7 @@ impl Lines {
         }
     }
 
-    /// The nth answer, from 0, of the first line that matches these arguments, and after the last one the last again; halt where none matches.
+    /// The nth answer, from 0, of the first line that matches these arguments; after its last answer that one again. Halt at once if none matches.
     pub fn answer(&self, args: &[Value], n: u64) -> Found
         ensures { result ≡ line_answer self.now args.now n }
     {
@@ -312,7 +319,7 @@ impl Lines {
         }
     }
 
-    /// The number, from 0, of the last answer of the first line that matches these arguments, 0 where none matches.
+    /// The number, from 0, of the last answer of the first line that matches these arguments; 0 if none matches.
     pub fn last_answer(&self, args: &[Value]) -> u64
         ensures { result ≡ last_of_line self.now args.now }
     {

@@ -8,25 +8,29 @@ use crate::limits::MOST_ARGUMENTS;
 use crate::value::Value;
 use std::marker::Model;
 
-/// What stands as an argument: a variable, a value, a cell, or nothing any more.
+/// What stands as an argument during a run.
 #[derive(Clone, Copy, PartialEq, Eq, Debug)]
 pub enum Param {
+    /// A variable, by its number.
     Name(u32),
     Is(Value),
+    /// A variable that has no value yet, as the number of its cell, from 1.
     Cell(u64),
+    /// A variable that will never get a value.
     Void,
 }
 
-/// What stands as an argument in a source: a variable or a value.
+/// What stands as an argument in a source: a variable, by its number, or a value.
 #[derive(Clone, Copy, PartialEq, Eq, Debug)]
 pub enum Operand {
     Name(u32),
     Is(Value),
 }
 
-/// At most `MOST_ARGUMENTS` operands, in place.
+/// The operands of one call, `MOST_ARGUMENTS` at most. They are stored in place, so none of its calls asks for memory.
 #[derive(Drop)]
 pub struct Operands {
+    // From `len` on there is only filling.
     operands: [Operand; MOST_ARGUMENTS],
     len: usize,
 }
@@ -50,7 +54,7 @@ impl Operands {
         }
     }
 
-    /// Adds an operand at the end.
+    /// Adds an operand at the end. There must be room for it: fewer than `MOST_ARGUMENTS` so far.
     pub fn push(&mut self, operand: Operand)
         requires { length self.old < MOST_ARGUMENTS }
         ensures { self.new ≡ self.old ++ operand ∷ [] }

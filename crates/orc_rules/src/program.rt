@@ -1,4 +1,4 @@
-//! A program's terms as numbered nodes, parts before wholes.
+//! A program's terms as numbered nodes. A node names its parts (the terms in it) by their numbers, which are all lower than its own.
 
 ghost use Rattle.std.specs.Prelude.{◌≡◌, ℕ, ◌≤◌, ◌++◌, ◌∷◌, [], List, length, map, IfOk, OnOk, OnErr, slice_get, slice_index_or, option_map};
 ghost use Rattle.orc_rules.specs.declared.limits.TheConstants.{MOST_ARGUMENTS};
@@ -9,27 +9,27 @@ use crate::param::{Operand, Operands};
 use std::alloc::{AllocError, Global};
 use std::marker::Model;
 
-/// One node of a program's terms, which names its parts by their numbers, and its operands by the number of their list.
+/// One node of a program's terms: its parts by their nodes' numbers, a call's operands by the number of their list, a variable by its own number.
 #[derive(Clone, Copy)]
 pub enum TermNode {
     Stop,
     /// A variable or a value.
     Operand(Operand),
-    /// A call of a site, with its number.
+    /// A call of a site: the site's number in the table of sites, and the list of its operands.
     Site(u32, usize),
-    /// A call of a definition, with its number.
+    /// A call of a definition: the definition's number, from 0, and the list of its operands.
     Call(u32, usize),
-    /// `f | g`
+    /// `f | g`: f and g.
     Par(usize, usize),
-    /// `f >x> g`
+    /// `f >x> g`: f, x and g.
     Seq(usize, u32, usize),
-    /// `f <x< g`
+    /// `f <x< g`: f, x and g.
     Prune(usize, u32, usize),
-    /// `f ; g`
+    /// `f ; g`: f and g.
     Other(usize, usize),
 }
 
-/// The nodes of terms, each behind its parts, and the lists of operands that they name.
+/// The nodes of terms, each behind its parts, and the lists of operands that they name. Both are numbered from 0.
 #[derive(Drop)]
 pub struct Terms {
     nodes: Vec<TermNode>,
@@ -62,7 +62,7 @@ impl Terms {
         self.nodes.len()
     }
 
-    /// Adds a node, whose parts are there: its number. Where a growth is refused nothing changes.
+    /// Adds a node and gives its number. Its parts must be there. The error is refused memory, and then nothing changes.
     pub fn push(&mut self, node: TermNode) -> Result<usize, AllocError>
         requires { HasParts (length self.old.nodes) node }
         ensures number { IfOk result (λ at. at ≡ length self.old.nodes) }
@@ -74,7 +74,7 @@ impl Terms {
         Ok(at)
     }
 
-    /// Adds a list of operands: its number. Where a growth is refused nothing changes.
+    /// Adds a list of operands and gives its number. The error is refused memory, and then nothing changes.
     pub fn push_list(&mut self, operands: Operands) -> Result<usize, AllocError>
         ensures number { IfOk result (λ at. at ≡ length self.old.lists) }
         ensures added { OnOk result (self.new ≡ record { nodes = self.old.nodes; lists = self.old.lists ++ operands ∷ [] }) }
@@ -86,7 +86,7 @@ impl Terms {
     }
 }
 
-/// A definition: the names of its parameters and the node of its body.
+/// A definition: its parameters, as numbers of variables, and the node of its body.
 #[derive(Drop)]
 pub struct Definition {
     pub params: Vec<u32>,
@@ -110,7 +110,7 @@ impl Model for Program {
 }
 
 impl Program {
-    /// The program of these terms, definitions and main term.
+    /// The program of these terms and definitions, whose main term has the node `source`. A number that no node has means `stop`.
     pub fn new(terms: Terms, definitions: Vec<Definition>, source: usize) -> Program
         ensures { result ≡ listing terms definitions.items source }
     {
@@ -121,7 +121,7 @@ impl Program {
         }
     }
 
-    // The node of that number, `stop` where there is none.
+    // As `node`, with its first clause alone.
     fn node_or_stop(&self, id: usize) -> TermNode
         ensures { result ≡ node_of self.now.nodes id }
     {
@@ -131,16 +131,17 @@ impl Program {
         }
     }
 
-    /// The node of that number, `stop` where there is none: its term is made of those of its parts.
+    /// The node of that number, `stop` if there is none. Its term is made of those of its parts.
     pub fn node(&self, id: usize) -> TermNode
         ensures node { result ≡ node_of self.now.nodes id }
         ensures term { code self.now id ≡ unfold_node (code self.now) self.now.lists result }
     {
+        // For the prover: only parts that are before the node have their terms when its own is made.
         self.are_parts_first();
         self.node_or_stop(id)
     }
 
-    /// The operands of that list, none where there is no such list.
+    /// The operands of that list; none if there is no such list.
     pub fn operands(&self, list: usize) -> &[Operand]
         ensures value { result.now ≡ slice_index_or self.now.lists list [] }
         ensures len { length result.now ≤ MOST_ARGUMENTS }
@@ -165,17 +166,18 @@ impl Program {
         self.source
     }
 
-    /// The definitions by their numbers.
+    /// The definitions in the order of their numbers, which count from 0.
     pub fn definitions(&self) -> &[Definition]
         ensures { map routine_of result.now ≡ self.now.routines }
     {
         &self.definitions
     }
 
-    /// Each node stands behind its parts.
+    /// A fact for a caller's proof: each node is behind its parts. Nothing runs.
     pub fn are_parts_first(&self)
         ensures { ArePartsFirst self.now.nodes }
     {
+        // It is the type's invariant, which the prover has as soon as a field is looked at.
         let _terms = &self.terms;
     }
 
@@ -186,7 +188,7 @@ impl Program {
         self.terms.nodes.len()
     }
 
-    /// Each node's term is made of those of its parts, and is `stop` where there is no node.
+    /// A fact for a caller's proof: each node's term is made of those of its parts, and is `stop` if there is no node. Nothing runs.
     pub fn are_unfolded(&self)
         ensures { (i : ℕ) → code self.now i ≡ unfold_node (code self.now) self.now.lists (node_of self.now.nodes i) }
     {
