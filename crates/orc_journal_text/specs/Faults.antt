@@ -5,6 +5,7 @@ use Rattle.orc_journal_text.specs.declared.text.JournalFault.TheVariants as jour
 use Rattle.orc_journal_text.specs.declared.lines.LinesFault.{LinesFault}
 use Rattle.orc_journal_text.specs.declared.lines.LinesFault.TheVariants.{Text, Unread}
 
+-- what is written of a fault
 abbrev pub journal_line : JournalFault → List ℕ
 journal_line journal.Header = codes "J1"
 journal_line (journal.Line number) = codes "J2 at line " ++ decimal number

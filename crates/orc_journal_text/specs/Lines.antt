@@ -18,7 +18,7 @@ pub record Left : Type 0 where
   pub read : ℕ
   pub counted : ℕ
 
--- of the text that has come, these entries were read
+-- `text` is what has come so far, and these are the entries that were read of it
 pub record HasRead (names : List (List ℕ)) (text : List ℕ) (l : Left) (es : List Entry) : Type 0 where
   pub front : text ≡ header l.version ++ (entry_lines names es ++ l.coming.rest)
   pub each : AreOf names l.version es
@@ -30,7 +30,7 @@ pub record HasRead (names : List (List ℕ)) (text : List ℕ) (l : Left) (es : 
 abbrev pub to_read : Left → ℕ
 to_read l = 2 ^ 64 - (l.coming.came - length l.coming.rest)
 
--- the fault is that of the text which has come, with what may still come
+-- the fault is that of the whole text: what has come, and what may still come
 abbrev pub IsLinesFault : List (List ℕ) → Option (List ℕ) → List ℕ → LinesFault → Type 0
 IsLinesFault names left text (Text f) = (more : List ℕ) × MayCome left more × IsFault names (text ++ more) f
 IsLinesFault names left text Unread = ⊤

@@ -15,22 +15,25 @@ use Rattle.orc_rules.specs.declared.kind.Kind.TheVariants as kinds
 use Rattle.orc_rules.specs.declared.limits.TheConstants.{MOST_ARGUMENTS}
 use Rattle.orc_rules.specs.Sites.{site_named}
 
+-- a reading that goes on with what the one before it gave, if that gave something
 infixl 10 ◌>>=◌
 abbrev pub ◌>>=◌ : {A B : Type 0} → Option A → (A → Option B) → Option B
 (Some x) >>= f = f x
 None >>= f = None
 
+-- the first of two readings that gives something
 abbrev pub or_else : {A : Type 0} → Option A → Option A → Option A
 or_else (Some x) other = Some x
 or_else None other = other
 
--- one after the other
+-- two readings, one after the other: the pair of what they give
 abbrev pub both : {A B : Type 0} → (List ℕ → Option (A × List ℕ)) → (List ℕ → Option (B × List ℕ)) → List ℕ → Option ((A × B) × List ℕ)
 both first second bytes = do
   x ← first bytes
   y ← second x.1
   Some ((x.0, y.0), y.1)
 
+-- what f makes of what is read
 abbrev pub made : {A B : Type 0} → (A → B) → (List ℕ → Option (A × List ℕ)) → List ℕ → Option (B × List ℕ)
 made f read bytes = option_map (λ x. (f x.0, x.1)) (read bytes)
 
@@ -46,28 +49,35 @@ is_plain [] = false
 is_plain (c ∷ []) = is_ascii_digit c
 is_plain (c ∷ d ∷ rest) = is_ascii_digit c && not (c == 48 && is_ascii_digit d)
 
+-- a decimal number without leading zeros that fits 64 bits
 unfoldable pub number_at : List ℕ → Option (ℕ × List ℕ)
 number_at bytes = if is_plain bytes then digits_at bytes else None
 
+-- the number with these digits, if it fits 64 signed bits
 abbrev pub positive : ℕ × List ℕ → Option (Value × List ℕ)
 positive x = if nat_lt x.0 (2 ^ 63) then Some (Number (pos x.0), x.1) else None
 
+-- minus the number with these digits, if that fits 64 signed bits and isn't `-0`
 abbrev pub negative : ℕ × List ℕ → Option (Value × List ℕ)
 negative x = if nat_lt 0 x.0 && nat_lt (x.0 - 1) (2 ^ 63) then Some (Number (negsuc (x.0 - 1)), x.1) else None
 
+-- a number with its sign; the second argument has the bytes after a `-`, if one is there
 abbrev pub signed_from : List ℕ → Option (List ℕ) → Option (Value × List ℕ)
 signed_from bytes (Some rest) = number_at rest >>= negative
 signed_from bytes None = number_at bytes >>= positive
 
+-- this value, if its word was there
 abbrev pub constant : Value → Option (List ℕ) → Option (Value × List ℕ)
 constant v rest = option_map (λ r. (v, r)) rest
 
+-- the text of a value
 unfoldable pub value_at : List ℕ → Option (Value × List ℕ)
 value_at bytes = or_else (constant (Truth true) (after (codes "true") bytes))
     (or_else (constant (Truth false) (after (codes "false") bytes))
     (or_else (constant Signal (after (codes "signal") bytes))
     (signed_from bytes (after (codes "-") bytes))))
 
+-- fields: a space, and what the field holds
 unfoldable pub number_field : List ℕ → Option (ℕ × List ℕ)
 number_field bytes = after (codes " ") bytes >>= number_at
 
@@ -103,11 +113,13 @@ values_at (suc n) bytes = do
     vs ← values_at n r
     Some (v.0 ∷ vs.0, vs.1))
 
+-- the arguments of a call, in brackets
 unfoldable pub arguments_at : List ℕ → Option (List Value × List ℕ)
 arguments_at bytes = do
   r ← after (codes "(") bytes
   or_else (option_map (λ r. ([], r)) (after (codes ")") r)) (values_at MOST_ARGUMENTS r)
 
+-- a space, the name of a site and the arguments: the site's number and the values
 unfoldable pub call_field : List (List ℕ) → List ℕ → Option ((ℕ × List Value) × List ℕ)
 call_field names bytes = do
   r ← after (codes " ") bytes
@@ -119,10 +131,12 @@ call_field names bytes = do
 abbrev pub all_kinds : List Kind
 all_kinds = kinds.Call ∷ kinds.Return ∷ kinds.Send ∷ kinds.Fork ∷ kinds.Publish ∷ kinds.Seq ∷ kinds.End ∷ kinds.Open ∷ kinds.Bind ∷ kinds.Def ∷ kinds.Void ∷ kinds.Other ∷ kinds.Lost ∷ kinds.Right ∷ kinds.Tick ∷ kinds.Cancel ∷ []
 
+-- the first of these kinds whose word is at the front
 abbrev pub kind_from : List Kind → List ℕ → Option (Kind × List ℕ)
 kind_from [] bytes = None
 kind_from (k ∷ ks) bytes = or_else (option_map (λ r. (k, r)) (after (word_of k) bytes)) (kind_from ks bytes)
 
+-- the entry of a `return` of call k, by the outcome that its line has
 abbrev pub returned : ℕ → Option (ℕ × Value) → Entry
 returned k None = ReturnHalt k
 returned k (Some x) = Return k x.0 x.1

@@ -20,6 +20,7 @@ header Two = codes "orc-journal 2\n"
 abbrev pub entry_lines : List (List ℕ) → List Entry → List ℕ
 entry_lines names es = flat_map (line names) es
 
+-- the text of a journal: its first line, and the lines of its entries
 abbrev pub journal_text : List (List ℕ) → Written → List ℕ
 journal_text names j = header j.version ++ entry_lines names j.entries
 

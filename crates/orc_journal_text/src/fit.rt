@@ -1,4 +1,4 @@
-//! Which entries have a line.
+//! Which entries have a line: all but a call of a site that the table doesn't have.
 
 ghost use Rattle.std.specs.Prelude.{◌≡◌, ◌<◌, ◌^◌, true, false};
 ghost use Rattle.orc_rules.specs.Text.{AreValues, Fits, IsNamed, IsValue};
@@ -7,14 +7,16 @@ use orc_rules::answers::Answers;
 use orc_rules::entry::Entry;
 use orc_rules::value::Value;
 
-// What the types of an entry's numbers say of them, as `Fits` says it.
+// Facts for the proof of `has_line`; nothing in them runs. `Fits` asks of each field that it fits 64 bits, which its type already says.
 
+// A u64 is below 2^64.
 fn number_fits(number: u64)
     ensures { number < 2 ^ 64 }
 {
     let _number = number;
 }
 
+// A value's number has 64 signed bits.
 fn value_fits(value: Value)
     ensures { IsValue value }
 {
@@ -25,6 +27,7 @@ fn value_fits(value: Value)
     }
 }
 
+// So has that of each of these values.
 fn values_fit(list: &[Value])
     ensures { AreValues list.now }
 {
@@ -37,12 +40,13 @@ fn values_fit(list: &[Value])
     }
 }
 
-/// Whether an entry has a line: whether the table names the site of its call.
+/// Whether an entry has a line: a call has one if the table names its site, any other entry always.
 pub fn has_line(entry: &Entry, answers: &Answers) -> bool
     ensures named { result ≡ true → IsNamed answers.now.names entry.now }
     ensures fits { result ≡ true → Fits answers.now.names entry.now }
     ensures unnamed { result ≡ false → IsNamed answers.now.names entry.now → ⊥ }
 {
+    // Only the arm of a call decides something; the others show the prover that their fields fit.
     match entry {
         Entry::End(n) | Entry::Void(n) | Entry::Lost(n) | Entry::Tick(n) | Entry::Cancel(n) =>
             number_fits(*n),

@@ -1,4 +1,7 @@
-//! Journals as text: the line of an entry is written and read back exactly, and a text is read exactly where it is that of a journal.
+//! Journals as text. Each entry has one line, and a text is read exactly if it is the text of a journal.
+//!
+//! `writer` and `reader` are about one line, over the kinds of entries; `text` about a journal in memory; `lines` about a text that comes piece by
+//! piece.
 #![tactic(auto)]
 
 mod fit;

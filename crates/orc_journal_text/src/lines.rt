@@ -1,4 +1,5 @@
-//! The entries of a journal's text, one after another.
+//! The entries of a journal's text, read one after another from any reader. Of the text 64 KiB are in memory at most, or about twice the longest line
+//! if a site's name makes that more.
 
 ghost use Rattle.std.specs.Prelude.{◌≡◌, ◌<◌, ◌^◌, ◌+◌, ◌-◌, ◌++◌, ◌∷◌, [], if◌then◌else◌, List, ℕ, true, false, IfOk, IfErr, IfSome, OnErr, Some};
 ghost use Rattle.std.specs.Io.KnownBytes.{Consumes};
@@ -25,24 +26,26 @@ use std::alloc::Global;
 use std::io::Read;
 use std::marker::Model;
 
-/// How many bytes the first line has.
+/// How many bytes the first line has, in either version.
 const HEADER: usize = 14;
 
-/// Why the entries of a text aren't read to its end.
+/// Why the entries of a text can't be read to its end.
 #[derive(Clone, Copy, PartialEq, Eq, Debug)]
 pub enum LinesFault {
-    /// It isn't the text of a journal.
+    /// The text isn't that of a journal, or memory was refused.
     Text(JournalFault),
-    /// It couldn't be read.
+    /// The reader failed.
     Unread,
 }
 
-/// A journal's text as far as its entries were read. It is read piece by piece, and of it no more is kept than a piece and the longest line.
+/// A journal's text whose first entries were read. It is read piece by piece, and only the bytes that have come and aren't used are kept.
 #[derive(Drop)]
 pub struct Lines<R: Read + Drop> {
     version: Version,
     pieces: Pieces<R>,
+    // How many entries were read.
     read: usize,
+    // How many of them count for `MOST_ENTRIES`: all but the cancels.
     counted: u64,
 }
 
@@ -58,7 +61,7 @@ impl<R: Read + Drop> Model for Lines<R> {
     ghost invariant = { λ l. (l.read + length l.pieces.rest ≤ l.pieces.came) × (l.pieces.came < LONGEST_JOURNAL + 2 ^ 63) × (l.counted ≤ MOST_ENTRIES) };
 }
 
-// The version of the first line, and what follows it.
+// The version that the first line names, and what follows the line. None if no header is at the front.
 fn read_header(text: &[u8]) -> Option<(Version, &[u8])>
     ensures { Gives (λ x. (x.0, x.1.now)) result (header_at text.now) }
 {
@@ -69,14 +72,14 @@ fn read_header(text: &[u8]) -> Option<(Version, &[u8])>
     Some((Version::Two, rest))
 }
 
-/// Whether an entry may stand in a journal of that version.
+/// Whether a journal of that version may have the entry: the first version has no cancels.
 pub(crate) fn is_known(version: Version, entry: &Entry) -> bool
     ensures { result ≡ is_of version entry.now }
 {
     !matches!((version, entry), (Version::One, Entry::Cancel(_)))
 }
 
-// How many entries count for the limit, with one more.
+// How many entries count for `MOST_ENTRIES`, with this one.
 fn count_with(counted: u64, entry: &Entry) -> u64
     requires { counted < 2 ^ 63 }
     ensures { result ≡ (if counts entry.now then counted + 1 else counted) }
@@ -88,7 +91,7 @@ fn count_with(counted: u64, entry: &Entry) -> u64
     }
 }
 
-// The fault of the line behind the first one and those of so many entries.
+// The fault (J2) of the line that follows the header and the lines of `read` entries. Lines count from 1, and line 1 is the header.
 fn line_fault(read: usize) -> LinesFault
     requires { read < 2 ^ 64 - 2 }
     ensures { result ≡ Text (Line (read + 2)) }
@@ -96,7 +99,7 @@ fn line_fault(read: usize) -> LinesFault
     LinesFault::Text(JournalFault::Line(read + 2))
 }
 
-// Puts the entry of that version whose line stands first into `entry`, and gives the bytes behind the line.
+// Puts the entry whose line is at the front into `entry`, and gives the bytes behind the line. None if no line of an entry of that version is there.
 fn next_entry<'a>(
     version: Version,
     bytes: &'a [u8],
@@ -115,7 +118,8 @@ fn next_entry<'a>(
 }
 
 impl<R: Read + Drop> Lines<R> {
-    /// A text of which no entry was read. The fault is one of its first line, or of its length.
+    /// Begins to read a text: reads its header, and no entry. The fault is J1 if there is no header, or J3 if the text is also longer than a journal
+    /// may be; J4 if memory is refused; or `Unread`.
     pub fn new(alloc: Global, source: R) -> Result<Lines<R>, LinesFault>
         ensures begun { IfOk result (λ l. (piece : List ℕ) × Consumes (R.remaining source) l.coming.left piece × ((names : List (List ℕ)) → HasRead names piece l [])) }
         ensures fault { IfErr result (λ f. (names : List (List ℕ)) → IsLinesFault names (R.remaining source) [] f) }
@@ -135,9 +139,11 @@ impl<R: Read + Drop> Lines<R> {
                 });
             }
             if pieces.rest().len() >= HEADER {
+                // The header is wrong. The rest of the text is counted: if it is too long, the fault is J3 and not J1.
                 pieces.skip()?;
                 return Err(LinesFault::Text(JournalFault::Header));
             }
+            // Too few bytes have come to tell.
             if !pieces.fill()? {
                 return Err(LinesFault::Text(JournalFault::Header));
             }
@@ -159,8 +165,8 @@ impl<R: Read + Drop> Lines<R> {
         self.read
     }
 
-    // Puts the entry whose line stands first in what has come into `entry`. Ok(false) where none does; nothing is used then, but `entry` may have
-    // become another one.
+    // Puts the entry whose line is at the front of what has come into `entry`. Ok(false) if none is there, perhaps because its end hasn't come; then
+    // nothing is used, but `entry` may have become another one. The fault is J3: the entry is one too many.
     fn take_line(&mut self, answers: &Answers, entry: &mut Entry) -> Result<bool, LinesFault>
         ensures version { self.new.version ≡ self.old.version }
         ensures left { self.new.coming.left ≡ self.old.coming.left }
@@ -173,6 +179,7 @@ impl<R: Read + Drop> Lines<R> {
         let Some(behind) = next_entry(self.version, self.pieces.rest(), answers, entry) else {
             return Ok(false);
         };
+        // The line is used by keeping what is behind it.
         let left = behind.len();
         let counted = count_with(self.counted, entry);
         if counted > MOST_ENTRIES {
@@ -184,9 +191,9 @@ impl<R: Read + Drop> Lines<R> {
         Ok(true)
     }
 
-    /// Puts the next entry into `entry`. Ok(false) at the end of the text. The fault is that of the whole text: its next line is none of an
-    /// entry of the table's sites, or there are more entries or bytes than a journal may have; or it can't be read. Then `entry` may have become
-    /// another one.
+    /// Puts the next entry into `entry`. Ok(false) at the end of the text. The fault is that of the whole text: J2 if its next line is none of an
+    /// entry, or calls a site that the table doesn't have; J3 if there are more entries or bytes than a journal may have; J4 if memory is refused; or
+    /// `Unread`. At a fault `entry` may have become another one.
     pub fn next(&mut self, answers: &Answers, entry: &mut Entry) -> Result<bool, LinesFault>
         ensures version { self.new.version ≡ self.old.version }
         ensures more { IfOk result (λ some. some ≡ true → (piece : List ℕ) × Consumes self.old.coming.left self.new.coming.left piece × ((text : List ℕ) (es : List EntryOf) → HasRead answers.now.names text self.old es → HasRead answers.now.names (text ++ piece) self.new (es ++ entry.new ∷ []))) }
@@ -196,6 +203,7 @@ impl<R: Read + Drop> Lines<R> {
         ensures fault { IfErr result (λ f. (text : List ℕ) (es : List EntryOf) → HasRead answers.now.names text self.old es → IsLinesFault answers.now.names self.old.coming.left text f) }
     {
         while !self.take_line(answers, entry)? {
+            // As much has come as the longest line has, so no more bytes will make a line of it. The rest is counted: too long a text is J3, not J2.
             if is_longest(self.pieces.rest(), answers) {
                 self.pieces.skip()?;
                 return Err(line_fault(self.read));
@@ -204,13 +212,14 @@ impl<R: Read + Drop> Lines<R> {
                 if self.pieces.rest().is_empty() {
                     return Ok(false);
                 }
+                // The text ends within a line.
                 return Err(line_fault(self.read));
             }
         }
         Ok(true)
     }
 
-    /// Reads the entries that are left. The fault is that of the whole text, as `next` gives it.
+    /// Reads the entries that are left and keeps none of them: only whether the text is a journal's is asked. The fault is that of `next`.
     pub fn finish(&mut self, answers: &Answers) -> Result<(), LinesFault>
         ensures end { IfOk result (λ _. (piece : List ℕ) × MayCome self.old.coming.left piece × ((text : List ℕ) (es : List EntryOf) → HasRead answers.now.names text self.old es → (more : List EntryOf) × IsJournal answers.now.names (text ++ piece) (record { version = self.old.version; entries = es ++ more }))) }
         ensures fault { IfErr result (λ f. (text : List ℕ) (es : List EntryOf) → HasRead answers.now.names text self.old es → IsLinesFault answers.now.names self.old.coming.left text f) }

@@ -1,4 +1,4 @@
-//! How long the line of an entry can be.
+//! How long the line of an entry can be: no more than a constant and the longest name of a site.
 
 ghost use Rattle.std.specs.Prelude.{◌≡◌, ◌<◌, ◌≤◌, length, true};
 ghost use Rattle.orc_journal_text.specs.Lines.{AreNamesWithin};
@@ -7,13 +7,14 @@ ghost use Rattle.orc_rules.specs.declared.entry.Entry.{Entry as EntryOf};
 
 use orc_rules::answers::Answers;
 
-/// A line has fewer bytes than these besides the name of its site: that of a call with the most arguments has 418 of them at most.
+/// A line has fewer bytes than this, its site's name aside: that of a call with the most arguments has 418 at most.
 const MOST_UNNAMED: usize = 512;
 
-// Whether no site has a longer name.
+// Whether no site's name has more than `most` bytes.
 fn are_names_within(answers: &Answers, most: usize) -> bool
     ensures { result ≡ true → AreNamesWithin answers.now.names most }
 {
+    // For the prover: the sites have numbers of 32 bits, so `site` doesn't overflow.
     answers.are_apart();
     let mut site: u32 = 0;
     while let Some(name) = answers.name(site) {
@@ -25,7 +26,8 @@ fn are_names_within(answers: &Answers, most: usize) -> bool
     true
 }
 
-/// Whether no line of an entry of the table's sites is longer than these bytes.
+/// Whether there are surely as many bytes as the longest line of an entry of the table's sites has. If no line is at their front, no further bytes
+/// make one.
 pub(crate) fn is_longest(bytes: &[u8], answers: &Answers) -> bool
     ensures some { result ≡ true → 0 < length bytes.now }
     ensures longest { result ≡ true → (e : EntryOf) → Fits answers.now.names e → length (line answers.now.names e) ≤ length bytes.now }

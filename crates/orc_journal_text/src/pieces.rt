@@ -1,4 +1,4 @@
-//! A text that is read piece by piece.
+//! A text that is read piece by piece into a buffer, the room.
 
 ghost use Rattle.std.specs.Prelude.{◌≡◌, ◌<◌, ◌≤◌, ◌-◌, ◌+◌, ◌^◌, [], List, ℕ, length, take, drop, slice_range, true, false, IfOk, IfErr, IfSome, OnOk, OnErr};
 ghost use Rattle.std.specs.Io.KnownBytes.{Consumes, IsAtEnd};
@@ -13,20 +13,20 @@ use std::alloc::{AllocError, Global};
 use std::io::{ErrorKind, Read};
 use std::marker::Model;
 
-/// For how many bytes there is room at first: so many are asked for at once, less what isn't used yet.
+/// How many bytes the room has at first. A read asks for as many as are free.
 const ROOM: usize = 65_536;
 
-/// How often a read that was interrupted is tried.
+/// How often a read is tried that a signal interrupts; after that it counts as failed. The bound makes the loop end.
 const MOST_TRIES: usize = 1_000;
 
-/// A text that comes piece by piece: what has come of it and isn't used yet stands in the room from `start` to `end`.
+/// A text that comes piece by piece. What has come of it and isn't used yet is in the room from `start` to `end`, both counted from 0.
 #[derive(Drop)]
 pub(crate) struct Pieces<R: Read + Drop> {
     source: R,
     room: Vec<u8>,
     start: usize,
     end: usize,
-    /// How many bytes have come in all.
+    /// How many bytes have come in all: at most `LONGEST_JOURNAL` and one read more, which has fewer than 2^63, so the sum fits.
     came: usize,
 }
 
@@ -42,7 +42,7 @@ impl<R: Read + Drop> Model for Pieces<R> {
     ghost invariant = { λ p. (p.start ≤ p.end) × (p.end ≤ length p.room.items) × (p.end - p.start ≤ p.came) × (p.came < LONGEST_JOURNAL + 2 ^ 63) × (0 < length p.room.items) };
 }
 
-// One read that isn't interrupted. None where it fails.
+// Reads into the front of `room`: how many bytes came, 0 at the end of the text. None if the read fails or was interrupted too often.
 fn read_some<R: Read>(source: &mut R, room: &mut [u8]) -> Option<usize>
     ensures bound { IfSome result (λ n. n ≤ length room.new) }
     ensures bytes { IfSome result (λ n. Consumes (R.remaining source.old) (R.remaining source.new) (take n room.new)) }
@@ -58,7 +58,7 @@ fn read_some<R: Read>(source: &mut R, room: &mut [u8]) -> Option<usize>
     None
 }
 
-// The same into the room from a place on.
+// Reads into `room` from place `at` on, as `read_some` does; what is before stays. Some place is free, so that 0 means the end.
 fn read_at<R: Read>(source: &mut R, room: &mut [u8], at: usize) -> Option<usize>
     requires { at < length room.old }
     ensures front { take at room.new ≡ take at room.old }
@@ -69,7 +69,8 @@ fn read_at<R: Read>(source: &mut R, room: &mut [u8], at: usize) -> Option<usize>
     read_some(source, &mut room[at..])
 }
 
-// Moves what stands from `start` to `end` to the front, so that there is room behind it; where all of the room is used there is more of it.
+// Makes some of the room behind `end` free: moves the bytes from `start` to `end` to the front, or doubles the room if they fill it (then `start` is
+// 0). The error is refused memory, and then nothing changes.
 fn make_room(room: &mut Vec<u8>, start: usize, end: usize) -> Result<(), AllocError>
     requires order { start ≤ end }
     requires inside { end ≤ length room.old.items }
@@ -80,6 +81,7 @@ fn make_room(room: &mut Vec<u8>, start: usize, end: usize) -> Result<(), AllocEr
 {
     let len = room.len();
     if end - start == len {
+        // No vector has 2^63 bytes, so the product fits.
         return room.resize(len * 2, 0);
     }
     room.copy_within(start..end, 0);
@@ -109,7 +111,7 @@ impl<R: Read + Drop> Pieces<R> {
         &self.room[self.start..self.end]
     }
 
-    /// Uses all but the last `count` bytes of what has come.
+    /// Drops all but the last `count` bytes of what has come: the others are used.
     pub(crate) fn keep_last(&mut self, count: usize)
         requires { count ≤ length self.old.rest }
         ensures { self.new ≡ with_rest self.old (drop (length self.old.rest - count) self.old.rest) }
@@ -117,8 +119,8 @@ impl<R: Read + Drop> Pieces<R> {
         self.start = self.end - count;
     }
 
-    /// Has more of the text come: true where bytes came, false at its end. The fault is J3 where more had come than the longest text has, J4
-    /// where memory for it is refused, or that it can't be read.
+    /// Reads some more of the text: true if bytes came, false at its end. The fault is J3 if more has come already than the longest text has, J4 if
+    /// memory is refused, or `Unread`; then what has come stays.
     pub(crate) fn fill(&mut self) -> Result<bool, LinesFault>
         ensures came { IfOk result (λ some. (piece : List ℕ) × Consumes self.old.left self.new.left piece × (self.new ≡ comes_with self.old piece self.new.left) × (some ≡ true → 0 < length piece) × (some ≡ false → (piece ≡ []) × IsAtEnd self.new.left)) }
         ensures fits { OnOk result (self.old.came ≤ LONGEST_JOURNAL) }
@@ -141,7 +143,7 @@ impl<R: Read + Drop> Pieces<R> {
         self.came += count;
         Ok(count > 0)
     }
-    // Keeps the first of the bytes that aren't used, and no other.
+    // Drops all but the first of the bytes that aren't used.
     fn keep_first(&mut self)
         requires { 0 < length self.old.rest }
         ensures { self.new ≡ with_rest self.old (take 1 self.old.rest) }
@@ -149,8 +151,8 @@ impl<R: Read + Drop> Pieces<R> {
         self.end = self.start + 1;
     }
 
-    /// Has all of the text come and counts it. Of what isn't used the first byte alone is kept, so that the text isn't at its end. The fault is J3
-    /// where more comes than the longest text has, J4 where memory is refused, or that it can't be read.
+    /// Reads the text to its end to count its bytes, and drops them. Only the first byte that isn't used is kept: a later call still sees that not
+    /// all of the text was used. The fault is J3 if more comes than the longest text has, J4 if memory is refused, or `Unread`.
     pub(crate) fn skip(&mut self) -> Result<(), LinesFault>
         requires { 0 < length self.old.rest }
         ensures end { IfOk result (λ _. (more : List ℕ) × MayCome self.old.left more × (self.old.came + length more ≤ LONGEST_JOURNAL)) }

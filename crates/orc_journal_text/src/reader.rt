@@ -1,4 +1,5 @@
-//! Reading entries from lines.
+//! Reading one entry from its line. Each function takes what it reads from the front of the bytes, and gives the bytes behind it; None if something
+//! else is there.
 
 ghost use Rattle.std.specs.Prelude.{◌≡◌, ◌++◌, ◌∷◌, [], List, length, option_map, ℕ, IfSome, Some, true, slice_get, ◌<◌, ◌≤◌, ◌^◌, ◌-◌, negsuc};
 ghost use Rattle.orc_rules.specs.Digits.{Gives, digits_at};
@@ -16,10 +17,10 @@ use orc_rules::kind::Kind;
 use orc_rules::limits::MOST_ARGUMENTS;
 use orc_rules::value::{Args, Value};
 
-/// A number of fewer digits has fewer than 64 bits, since a digit takes 4 at most.
+/// A number of so many digits fits 64 bits, since a digit takes 4 at most.
 const FEW: usize = 16;
 
-// The bytes after a text.
+// The bytes after a text that is at the front.
 #[inline(always)]
 pub(crate) fn after<'a>(text: &[u8], bytes: &'a [u8]) -> Option<&'a [u8]>
     ensures { Gives (λ r. r.now) result (after text.now bytes.now) }
@@ -39,7 +40,7 @@ pub(crate) fn after<'a>(text: &[u8], bytes: &'a [u8]) -> Option<&'a [u8]>
     Some(rest)
 }
 
-// Whether a digit stands first, and no second one after a zero.
+// Whether a digit is first, and no other one after a zero: no number is written with leading zeros.
 #[inline(always)]
 fn is_plain(bytes: &[u8]) -> bool
     ensures { result ≡ is_plain bytes.now }
@@ -51,8 +52,8 @@ fn is_plain(bytes: &[u8]) -> bool
     }
 }
 
-// The same as `digits_at`, but as long as a number has under `FEW` digits it can't be too great, and no sum is tested. Where so many bytes have come,
-// nothing else is asked of a digit than whether it is one.
+// The number that the digits at the front spell, as `digits_at` gives it. It is quicker for a number of fewer than `FEW` digits with at least `FEW`
+// bytes from its first digit on: no sum can be too great and no index out of range, so neither is tested.
 #[inline(always)]
 fn few_digits_at(bytes: &[u8]) -> Option<(u64, &[u8])>
     ensures { Gives (λ x. (x.0, x.1.now)) result (digits_at bytes.now) }
@@ -66,13 +67,14 @@ fn few_digits_at(bytes: &[u8]) -> Option<(u64, &[u8])>
         number = number * 10 + (bytes[at] - b'0') as u64;
         at += 1;
     }
+    // The number may have more digits.
     if at == FEW {
         return digits_at(bytes);
     }
     Some((number, &bytes[at..]))
 }
 
-// The number in decimal that stands first, with no leading zeros.
+// The decimal number at the front. None if no digit is there, or the number has leading zeros or over 64 bits.
 #[inline(always)]
 #[tactic(auto, unfolding(crate::specs::Reading::number_at))]
 fn number_at(bytes: &[u8]) -> Option<(u64, &[u8])>
@@ -85,6 +87,7 @@ fn number_at(bytes: &[u8]) -> Option<(u64, &[u8])>
     }
 }
 
+// Minus this number. By way of the number one less, since -2^63 is an i64 and 2^63 isn't.
 fn negated(number: u64) -> i64
     requires some { 0 < number }
     requires fits { number - 1 < 2 ^ 63 }
@@ -94,6 +97,7 @@ fn negated(number: u64) -> i64
     -1 - below
 }
 
+// `true`, `false`, `signal`, or a number of 64 signed bits; `-0` is none.
 #[inline(always)]
 #[tactic(auto, unfolding(crate::specs::Reading::value_at))]
 fn value_at(bytes: &[u8]) -> Option<(Value, &[u8])>
@@ -122,6 +126,7 @@ fn value_at(bytes: &[u8]) -> Option<(Value, &[u8])>
     None
 }
 
+// A field is a space and what it holds. This one holds a number.
 #[inline(always)]
 #[tactic(auto, unfolding(crate::specs::Reading::number_field))]
 fn number_field(bytes: &[u8]) -> Option<(u64, &[u8])>
@@ -130,6 +135,7 @@ fn number_field(bytes: &[u8]) -> Option<(u64, &[u8])>
     number_at(after(b" ", bytes)?)
 }
 
+// A field with a value.
 #[inline(always)]
 #[tactic(auto, unfolding(crate::specs::Reading::value_field))]
 fn value_field(bytes: &[u8]) -> Option<(Value, &[u8])>
@@ -138,6 +144,7 @@ fn value_field(bytes: &[u8]) -> Option<(Value, &[u8])>
     value_at(after(b" ", bytes)?)
 }
 
+// Two fields with numbers.
 #[inline(always)]
 #[tactic(auto, unfolding(crate::specs::Reading::pair_field))]
 fn pair_field(bytes: &[u8]) -> Option<((u64, u64), &[u8])>
@@ -148,6 +155,7 @@ fn pair_field(bytes: &[u8]) -> Option<((u64, u64), &[u8])>
     Some(((first, second), rest))
 }
 
+// A field with a number, a mark or a cell, and one with a value.
 #[inline(always)]
 #[tactic(auto, unfolding(crate::specs::Reading::sent_field))]
 fn sent_field(bytes: &[u8]) -> Option<((u64, Value), &[u8])>
@@ -158,7 +166,7 @@ fn sent_field(bytes: &[u8]) -> Option<((u64, Value), &[u8])>
     Some(((mark, value), rest))
 }
 
-// ` halt`, or a mark and a value.
+// What a `return` has behind its call: ` halt` (None), or the fields of a mark and a value.
 #[inline(always)]
 #[tactic(auto, unfolding(crate::specs::Reading::outcome_field))]
 fn outcome_field(bytes: &[u8]) -> Option<(Option<(u64, Value)>, &[u8])>
@@ -171,7 +179,7 @@ fn outcome_field(bytes: &[u8]) -> Option<(Option<(u64, Value)>, &[u8])>
     Some((Some(sent), rest))
 }
 
-// The bytes before the first bracket, and the others.
+// The bytes before the first `(`, and those from it on. Without a `(` all bytes are before it.
 fn split_name(bytes: &[u8]) -> (&[u8], &[u8])
     ensures { (result.0.now, result.1.now) ≡ split_name bytes.now }
 {
@@ -182,7 +190,8 @@ fn split_name(bytes: &[u8]) -> (&[u8], &[u8])
     bytes.split_at(end)
 }
 
-// A guess at the built-in site by the first letters; `is_name_of` tests it. It follows `Builtin::ALL`.
+// A guess at the built-in site by the first letters: its number, by the order of `Builtin::ALL`. A wrong guess costs time alone, since `is_name_of`
+// tests it.
 fn likely_site(name: &[u8]) -> u32 {
     match name {
         [b'A', ..] => 0,
@@ -195,7 +204,7 @@ fn likely_site(name: &[u8]) -> u32 {
     }
 }
 
-// Whether a site has this name.
+// Whether the site of that number has this name.
 fn is_name_of(name: &[u8], site: u32, answers: &Answers) -> bool
     ensures { result ≡ true → slice_get answers.now.names site ≡ Some name.now }
 {
@@ -213,6 +222,7 @@ fn is_name_of(name: &[u8], site: u32, answers: &Answers) -> bool
 fn site_of(name: &[u8], answers: &Answers) -> Option<u32>
     ensures { result ≡ site_named answers.now.names name.now }
 {
+    // For the prover: no two sites have one name, so a site of this name is the one that the table would find.
     answers.are_apart();
     let site = likely_site(name);
     if is_name_of(name, site, answers) {
@@ -221,7 +231,7 @@ fn site_of(name: &[u8], answers: &Answers) -> Option<u32>
     answers.site_named(name)
 }
 
-// A site's number by its name.
+// A site's name, as far as the first `(`: its number. None if the table has no such site.
 #[tactic(auto, unfolding(crate::specs::Reading::name_at))]
 fn name_at<'a>(bytes: &'a [u8], answers: &Answers) -> Option<(u32, &'a [u8])>
     ensures { Gives (λ x. (x.0, x.1.now)) result (name_at answers.now.names bytes.now) }
@@ -231,7 +241,7 @@ fn name_at<'a>(bytes: &'a [u8], answers: &Answers) -> Option<(u32, &'a [u8])>
     Some((site, rest))
 }
 
-// The arguments of a call are put into `args`.
+// Puts the arguments of a call, in brackets, into `args`.
 #[tactic(auto, unfolding(crate::specs::Reading::arguments_at))]
 fn arguments_at<'a>(bytes: &'a [u8], args: &mut Args) -> Option<&'a [u8]>
     ensures { Gives (λ r. (args.new, r.now)) result (arguments_at bytes.now) }
@@ -244,7 +254,7 @@ fn arguments_at<'a>(bytes: &'a [u8], args: &mut Args) -> Option<&'a [u8]>
     values_at(rest, args)
 }
 
-// One to `MOST_ARGUMENTS` values with commas between them, and the bracket.
+// Puts one to `MOST_ARGUMENTS` values with commas between them, and the closing bracket behind them, into `args`.
 fn values_at<'a>(bytes: &'a [u8], args: &mut Args) -> Option<&'a [u8]>
     ensures { Gives (λ r. (args.new, r.now)) result (values_at MOST_ARGUMENTS bytes.now) }
 {
@@ -261,7 +271,7 @@ fn values_at<'a>(bytes: &'a [u8], args: &mut Args) -> Option<&'a [u8]>
     None
 }
 
-// The word of this kind.
+// The word of this kind: the kind itself.
 #[inline(always)]
 fn word_at(kind: Kind, bytes: &[u8]) -> Option<(Kind, &[u8])>
     ensures { Gives (λ x. (x.0, x.1.now)) result (kind_from (kind ∷ []) bytes.now) }
@@ -272,7 +282,7 @@ fn word_at(kind: Kind, bytes: &[u8]) -> Option<(Kind, &[u8])>
     }
 }
 
-// The word of one of two kinds.
+// The word of one of two kinds: which of them it is.
 #[inline(always)]
 fn either_at(kind: Kind, other: Kind, bytes: &[u8]) -> Option<(Kind, &[u8])>
     ensures { Gives (λ x. (x.0, x.1.now)) result (kind_from (kind ∷ other ∷ []) bytes.now) }
@@ -283,7 +293,7 @@ fn either_at(kind: Kind, other: Kind, bytes: &[u8]) -> Option<(Kind, &[u8])>
     }
 }
 
-// The word with which a line begins, by its first letter.
+// The word with which a line begins: its kind. The first letter leaves two kinds at most. `return` gives Return, whether its line halts or not.
 #[inline(always)]
 fn kind_at(bytes: &[u8]) -> Option<(Kind, &[u8])>
     ensures { Gives (λ x. (x.0, x.1.now)) result (kind_from all_kinds bytes.now) }
@@ -319,10 +329,11 @@ fn call_at<'a>(bytes: &'a [u8], answers: &Answers, entry: &mut Entry) -> Option<
     let (s, rest) = number_field(bytes)?;
     let (k, rest) = number_field(rest)?;
     let (site, rest) = name_at(after(b" ", rest)?, answers)?;
-    // The arguments are read where they stay.
+    // The arguments are read where they stay: they are not copied.
     *entry = Entry::Call(s, k, site, Args::new());
     match entry {
         Entry::Call(_, _, _, args) => arguments_at(rest, args),
+        // Never: it was made a call just before.
         _ => None,
     }
 }
@@ -411,6 +422,7 @@ fn send_at<'a>(bytes: &'a [u8], entry: &mut Entry) -> Option<&'a [u8]>
     Some(rest)
 }
 
+// Either kind of return: only its fields tell whether it halts.
 #[inline(never)]
 #[tactic(auto, unfolding(crate::specs::Reading::fields_at))]
 fn return_at<'a>(bytes: &'a [u8], entry: &mut Entry) -> Option<&'a [u8]>
@@ -491,7 +503,7 @@ fn cancel_at<'a>(bytes: &'a [u8], entry: &mut Entry) -> Option<&'a [u8]>
     Some(rest)
 }
 
-// The fields of an entry of this kind.
+// Puts the entry of this kind whose fields are at the front into `entry`.
 #[inline(always)]
 fn fields_at<'a>(
     kind: Kind,
@@ -522,7 +534,7 @@ fn fields_at<'a>(
     }
 }
 
-// The entry whose line stands first.
+// Puts the entry whose line is at the front into `entry`: its word, its fields and LF.
 #[inline(always)]
 #[tactic(auto, unfolding(crate::specs::Reading::entry_at))]
 fn entry_at<'a>(bytes: &'a [u8], answers: &Answers, entry: &mut Entry) -> Option<&'a [u8]>
@@ -533,14 +545,15 @@ fn entry_at<'a>(bytes: &'a [u8], answers: &Answers, entry: &mut Entry) -> Option
     after(b"\n", rest)
 }
 
-/// Puts the entry whose line stands first into `entry`, and gives the bytes after the line. None exactly where no line of an entry stands
-/// first; then `entry` may have become another one.
+/// Puts the entry whose line is at the front into `entry`, and gives the bytes after the line. None exactly if no line of an entry is there; then
+/// `entry` may have become another one.
 pub fn read_entry<'a>(bytes: &'a [u8], answers: &Answers, entry: &mut Entry) -> Option<&'a [u8]>
-    // What is read was written so.
+    // The bytes read are the entry's line.
     ensures found { IfSome result (λ r. (bytes.now ≡ line answers.now.names entry.new ++ r.now) × Fits answers.now.names entry.new) }
-    // What is written so is read, whatever follows it.
+    // An entry's line is read as that entry, whatever follows it.
     ensures only { (e : EntryOf) (rest : List ℕ) → Fits answers.now.names e → bytes.now ≡ line answers.now.names e ++ rest → Gives {Y = EntryOf × List ℕ} (λ r. (entry.new, r.now)) result (Some (e, rest)) }
 {
+    // For the prover: a site's name is read as its number only since no other site has the name and no name has a `(`.
     answers.are_apart();
     entry_at(bytes, answers, entry)
 }

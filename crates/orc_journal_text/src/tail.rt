@@ -1,4 +1,4 @@
-//! The end of a line, put together on the stack.
+//! A line's end, which is put together on the stack from right to left.
 
 ghost use Rattle.std.specs.Prelude.{◌≡◌, ◌++◌, ◌+◌, ◌≤◌, [], decimal, length};
 ghost use Rattle.orc_rules.specs.Text.{number, value, value_text};
@@ -7,12 +7,14 @@ ghost use Rattle.orc_journal_text.specs.declared.tail.TheConstants.{ROOM};
 use orc_rules::value::Value;
 use std::marker::Model;
 
-/// For how many bytes there is room: for a word of 7 letters, four numbers of 20 digits with a space each, and the line's end, and for some more.
+/// How many bytes a tail has room for. The longest line, calls aside, is an `open`: 4 letters, four numbers of 20 digits with
+/// a space each, and LF are 89 bytes.
 const ROOM: usize = 96;
 
-/// The end of a text, which grows at its front: so a number is written from its last digit on, where it stays.
+/// The end of a text, which grows at its front: so a number's digits are written from the last one on, straight into their place.
 #[derive(Drop)]
 pub(crate) struct Tail {
+    // The text is from `start` on.
     room: [u8; ROOM],
     start: usize,
 }
@@ -48,7 +50,7 @@ impl Tail {
         &self.room[self.start..]
     }
 
-    /// Puts a text before it.
+    /// Puts a text before it. There must be room for both.
     #[inline(always)]
     pub(crate) fn put(&mut self, text: &[u8])
         requires { length text.now + length self.old ≤ ROOM }
@@ -60,7 +62,7 @@ impl Tail {
         self.room[self.start..end].copy_from_slice(text);
     }
 
-    // Puts a number before it.
+    // Puts a number before it: 20 digits at most.
     #[inline(always)]
     fn put_digits(&mut self, n: u64)
         requires { 20 + length self.old ≤ ROOM }
@@ -70,7 +72,7 @@ impl Tail {
         self.start = itoa::write_digits(n, &mut self.room, self.start);
     }
 
-    /// Puts a space and a number before it.
+    /// Puts a space and a number before it: 21 bytes at most.
     #[inline(always)]
     pub(crate) fn put_number(&mut self, n: u64)
         requires { 21 + length self.old ≤ ROOM }
@@ -81,7 +83,7 @@ impl Tail {
         self.put(b" ");
     }
 
-    /// Puts a value before it.
+    /// Puts a value before it: 21 bytes at most.
     pub(crate) fn put_value(&mut self, v: Value)
         requires { 21 + length self.old ≤ ROOM }
         ensures text { self.new ≡ value_text v ++ self.old }
@@ -89,6 +91,7 @@ impl Tail {
     {
         match v {
             Value::Number(n) => {
+                // `unsigned_abs`, since -2^63 has no positive i64.
                 self.put_digits(n.unsigned_abs());
                 if n < 0 {
                     self.put(b"-");
@@ -100,7 +103,7 @@ impl Tail {
         }
     }
 
-    /// Puts a space and a value before it.
+    /// Puts a space and a value before it: 22 bytes at most.
     #[inline(always)]
     pub(crate) fn put_value_field(&mut self, v: Value)
         requires { 22 + length self.old ≤ ROOM }

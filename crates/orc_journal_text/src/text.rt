@@ -1,4 +1,4 @@
-//! The text of a journal.
+//! The text of a whole journal: read into memory, and written from it.
 
 ghost use Rattle.std.specs.Prelude.{◌≡◌, ◌++◌, ◌+◌, ◌<◌, ◌^◌, if◌then◌else◌, List, ℕ, true, false, IfOk, IfErr, IfSome, Some, OnOk, MatchResult};
 ghost use Rattle.orc_rules.specs.declared.entry.Entry.{Entry as EntryOf};
@@ -22,12 +22,12 @@ use std::alloc::{AllocError, Global};
 use std::error::Error;
 use std::fmt;
 
-/// Why a journal isn't read.
+/// Why a text isn't read as a journal: the J faults of docs/orc.md, *Faults*.
 #[derive(Clone, Copy, PartialEq, Eq, Debug)]
 pub enum JournalFault {
     /// J1: the first line is no header.
     Header,
-    /// J2: the first line that is none of an entry, counted from 1.
+    /// J2: the first line that isn't one of an entry. Lines count from 1, and the header is line 1.
     Line(usize),
     /// J3: over `LONGEST_JOURNAL` bytes, or over `MOST_ENTRIES` entries besides the cancels.
     Long,
@@ -35,7 +35,7 @@ pub enum JournalFault {
     Memory,
 }
 
-// Its code and its place.
+// The code, and for J2 the line.
 impl fmt::Display for JournalFault {
     ghost output = { λ f. Some (journal_line f) };
 
@@ -63,7 +63,7 @@ impl JournalFault {
     }
 }
 
-/// Writes the first line of a journal.
+/// Appends the first line of a journal. The error is refused memory.
 pub fn write_header(out: &mut Vec<u8>, version: Version) -> Result<(), AllocError>
     ensures { OnOk result (out.new.items ≡ out.old.items ++ header version) }
 {
@@ -73,7 +73,7 @@ pub fn write_header(out: &mut Vec<u8>, version: Version) -> Result<(), AllocErro
     }
 }
 
-// The fault of a text in memory. Such a text can always be read.
+// The fault of a text in memory, which can always be read: `Unread` never comes. J4 stands for it: it claims nothing of the text.
 fn fault_of(fault: LinesFault) -> JournalFault
     ensures { result ≡ journal_fault_of fault }
 {
@@ -83,21 +83,23 @@ fn fault_of(fault: LinesFault) -> JournalFault
     }
 }
 
-/// Reads a journal, whose sites are those of the table.
+/// Reads a journal from its text, with the sites that the table names. The fault is the first that the text has: J1, J2 or J3; or J4, refused memory.
 pub fn read_journal(alloc: Global, text: &[u8], answers: &Answers) -> Result<Journal, JournalFault>
-    // What is read is the text's journal.
+    // The text is that of the journal.
     ensures read { IfOk result (λ j. IsJournal answers.now.names text.now j) }
-    // The first thing that is wrong is named.
+    // The text has the fault.
     ensures fault { IfErr result (λ f. IsFault answers.now.names text.now f) }
-    // A journal's text is read as that journal, unless memory is refused.
+    // The text of a journal is read as that journal, unless memory is refused.
     ensures only { (j : Written) → IsJournal answers.now.names text.now j → MatchResult result (λ k. k ≡ j) (λ f. f ≡ MemoryFault) }
 {
+    // For the prover: no two sites have one name, so a text is that of one journal at most.
     answers.are_apart();
     let mut lines = match Lines::new(alloc, text) {
         Ok(lines) => lines,
         Err(fault) => return Err(fault_of(fault)),
     };
     let mut journal = Journal::new(alloc, lines.version());
+    // Any entry: `next` overwrites it.
     let mut entry = Entry::Tick(0);
     loop {
         match lines.next(answers, &mut entry) {
@@ -121,8 +123,8 @@ fn is_written(version: Version, entry: &Entry, answers: &Answers) -> bool
     is_known(version, entry) && has_line(entry, answers)
 }
 
-/// Writes the text of a journal. Ok(false) where one of its entries has no line: its site isn't one of the table, or it is a cancel in the first
-/// version. The lines before that one were written then. The error is refused memory.
+/// Appends the text of a journal. Ok(false) if one of its entries has no line: it calls a site that isn't in the table, or is a cancel in the first
+/// version; then the lines before it were appended. The error is refused memory; some lines may be appended by then.
 pub fn write_journal(
     journal: &Journal,
     answers: &Answers,
@@ -137,6 +139,7 @@ pub fn write_journal(
     write_header(out, journal.version())?;
     let mut entry = Entry::Tick(0);
     for at in 0..journal.len() {
+        // There is an entry at each place below the length.
         if journal.read(at, &mut entry) {
             if !is_written(journal.version(), &entry, answers) {
                 return Ok(false);

@@ -1,4 +1,4 @@
-//! Writing entries as lines.
+//! Writing one entry as its line, and values as text.
 
 ghost use Rattle.std.specs.Prelude.{◌≡◌, ◌++◌, ◌<◌, OnOk, length, ◌∷◌, []};
 ghost use Rattle.orc_rules.specs.Text.{value_text, closing, arguments, call, line, output, IsNamed};
@@ -10,7 +10,7 @@ use orc_rules::entry::Entry;
 use orc_rules::value::{Args, Value};
 use std::alloc::AllocError;
 
-/// Writes the text of a value.
+/// Appends the text of a value. The error is refused memory.
 pub fn write_value(out: &mut Vec<u8>, v: Value) -> Result<(), AllocError>
     ensures { OnOk result (out.new.items ≡ out.old.items ++ value_text v) }
 {
@@ -19,7 +19,7 @@ pub fn write_value(out: &mut Vec<u8>, v: Value) -> Result<(), AllocError>
     out.extend_from_slice(text.text())
 }
 
-// Writes the line of a publication: the text of the value, and LF.
+// Appends the line of a publication: the text of the value, and LF.
 fn write_publication(out: &mut Vec<u8>, v: Value) -> Result<(), AllocError>
     ensures { OnOk result (out.new.items ≡ out.old.items ++ output (v ∷ [])) }
 {
@@ -29,7 +29,7 @@ fn write_publication(out: &mut Vec<u8>, v: Value) -> Result<(), AllocError>
     out.extend_from_slice(text.text())
 }
 
-/// Writes a line for each value, in their order: what a run published. The error is refused memory; lines may be written by then.
+/// Appends a line for each value, in their order: what a run published. The error is refused memory; some lines may be appended by then.
 pub fn write_publications(out: &mut Vec<u8>, values: &[Value]) -> Result<(), AllocError>
     ensures { OnOk result (out.new.items ≡ out.old.items ++ output values.now) }
 {
@@ -39,7 +39,7 @@ pub fn write_publications(out: &mut Vec<u8>, values: &[Value]) -> Result<(), All
     Ok(())
 }
 
-// Writes the values after the first one, and the bracket.
+// Appends a call's arguments after the first one, each behind a comma, and the closing bracket.
 fn push_closing(out: &mut Vec<u8>, args: &[Value]) -> Result<(), AllocError>
     ensures { OnOk result (out.new.items ≡ out.old.items ++ closing args.now) }
 {
@@ -54,6 +54,7 @@ fn push_closing(out: &mut Vec<u8>, args: &[Value]) -> Result<(), AllocError>
     Ok(())
 }
 
+// Appends a call's arguments in brackets, as `(1, 2)`.
 fn push_arguments(out: &mut Vec<u8>, args: &[Value]) -> Result<(), AllocError>
     ensures { OnOk result (out.new.items ≡ out.old.items ++ arguments args.now) }
 {
@@ -68,13 +69,14 @@ fn push_arguments(out: &mut Vec<u8>, args: &[Value]) -> Result<(), AllocError>
     Ok(())
 }
 
-// Writes the site and the arguments of a call, with a space before.
+// Appends a space, the site's name and the arguments in brackets, as ` Add(1, 2)`.
 #[tactic(auto, using(std::proofs::lemmas::Option::get_or_from_slice_get))]
 fn push_call(out: &mut Vec<u8>, site: u32, args: &Args, answers: &Answers) -> Result<(), AllocError>
     requires { site < length answers.now.names }
     ensures { OnOk result (out.new.items ≡ out.old.items ++ call answers.now.names site args.now) }
 {
     out.push(b' ')?;
+    // The table has the site, by `requires`.
     let Some(name) = answers.name(site) else {
         return Ok(());
     };
@@ -83,7 +85,7 @@ fn push_call(out: &mut Vec<u8>, site: u32, args: &Args, answers: &Answers) -> Re
     Ok(())
 }
 
-// Writes the line of a call.
+// Appends the line of a call. Its front is put together on the stack; the site's name, whose length has no bound, is appended by itself.
 fn write_call(
     out: &mut Vec<u8>,
     token: u64,
@@ -105,11 +107,13 @@ fn write_call(
     Ok(())
 }
 
-/// Writes the line of an entry.
+/// Appends the line of an entry. If it is a call, the table must name its site (`has_line`). The error is refused memory; a part of a call's line may
+/// be appended by then.
 pub fn write_entry(entry: &Entry, answers: &Answers, out: &mut Vec<u8>) -> Result<(), AllocError>
     requires { IsNamed answers.now.names entry.now }
     ensures { OnOk result (out.new.items ≡ out.old.items ++ line answers.now.names entry.now) }
 {
+    // A tail grows at its front: the fields are put from the last one to the first.
     let mut line = Tail::new();
     line.put(b"\n");
     match entry {
