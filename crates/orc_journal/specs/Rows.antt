@@ -1,4 +1,4 @@
--- What the rows of a journal in memory stand for.
+-- What the rows of a journal in memory stand for: each for one entry, by its own numbers and by what it names in the tables.
 use Rattle.std.specs.Prelude.{◌≡◌, ℕ, ◌+◌, ◌<◌, ◌≤◌, List, ◌++◌, length, take, drop, slice_index_or}
 use Rattle.std.specs.List.{AllByRecursion}
 use Rattle.orc_rules.specs.declared.value.Value.{Value}
@@ -13,7 +13,7 @@ use Rattle.orc_journal.specs.declared.rows.Called.{Called}
 use Rattle.orc_journal.specs.declared.rows.Row.{Row}
 use Rattle.orc_journal.specs.declared.rows.Row.TheVariants.{Narrow, Wide}
 
--- what rows point to
+-- the tables: what rows name by its place
 pub record Contents : Type 0 where
   pub values : List Value
   pub calls : List Called
@@ -21,14 +21,16 @@ pub record Contents : Type 0 where
 
 -- ---- from a row to its entry
 
--- the fourth number of a narrow row, by its third
+-- the fourth number of a narrow row, by its third: only an `open` has one
 abbrev pub last_of : Kind → ℕ → ℕ
 last_of kinds.Open third = third + 1
 last_of _ third = 0
 
+-- what a place gives that isn't there; no row of a journal names one
 abbrev pub no_parts : Parts
 no_parts = record { kind = kinds.End; first = 0; second = 0; third = 0; fourth = 0 }
 
+-- the parts of a row
 abbrev pub parts_in : List Parts → Row → Parts
 parts_in wides (Narrow kind a b c) = record { kind = kind; first = a; second = b; third = c; fourth = last_of kind c }
 parts_in wides (Wide at) = slice_index_or wides at no_parts
@@ -65,6 +67,7 @@ given kinds.Bind a b v = Bind a b v
 given kinds.Publish a b v = Publish a v
 given _ a b v = Send a b v
 
+-- the entry with these numbers, whose third is a place for a value or a call
 abbrev pub entry_by : Contents → Kind → ℕ → ℕ → ℕ → ℕ → Entry
 entry_by t kinds.Send a b c d = given kinds.Send a b (value_at t.values c)
 entry_by t kinds.Return a b c d = given kinds.Return a b (value_at t.values c)
@@ -82,13 +85,14 @@ entry_of t r = entry_from t (parts_in t.wides r)
 
 -- ---- what is pointed to is there
 
+-- all arguments of a call are among the values
 abbrev pub HasArguments : List Value → Called → Type 0
 HasArguments values c = (c.start + c.count ≤ length values) × (c.count ≤ MOST_ARGUMENTS)
 
 abbrev pub HasCall : Contents → ℕ → Type 0
 HasCall t at = (at < length t.calls) × HasArguments t.values (slice_index_or t.calls at no_call)
 
--- by the third number
+-- the value or the call that the third number of an entry of this kind names is there
 abbrev pub IsPlaced : Contents → Kind → ℕ → Type 0
 IsPlaced t kinds.Send at = at < length t.values
 IsPlaced t kinds.Return at = at < length t.values
@@ -97,6 +101,7 @@ IsPlaced t kinds.Publish at = at < length t.values
 IsPlaced t kinds.Call at = HasCall t at
 IsPlaced t _ at = Unit {0}
 
+-- the parts of a wide row are there
 abbrev pub IsThere : List Parts → Row → Type 0
 IsThere wides (Narrow _ a b c) = Unit {0}
 IsThere wides (Wide at) = at < length wides
@@ -104,6 +109,7 @@ IsThere wides (Wide at) = at < length wides
 abbrev pub ArePlaced : Contents → Parts → Type 0
 ArePlaced t p = IsPlaced t p.kind p.third
 
+-- all that a row names is there
 abbrev pub IsWithin : Contents → Row → Type 0
 IsWithin t r = IsThere t.wides r × ArePlaced t (parts_in t.wides r)
 
@@ -133,7 +139,7 @@ HasValue kinds.Bind = Unit {0}
 HasValue kinds.Publish = Unit {0}
 HasValue _ = ⊥
 
--- more behind what is there
+-- the tables with more behind what is there
 abbrev pub grown : Contents → List Value → List Called → List Parts → Contents
 grown t vs cs ps = record { values = t.values ++ vs; calls = t.calls ++ cs; wides = t.wides ++ ps }
 
@@ -145,10 +151,10 @@ StandsAt values at v = (at < length values) × (value_at values at ≡ v)
 abbrev pub StandFrom : List Value → ℕ → List Value → Type 0
 StandFrom values start vs = (start + length vs ≤ length values) × (take (length vs) (drop start values) ≡ vs)
 
--- a row of these parts
+-- the row has these parts
 abbrev pub Names : List Parts → Row → Parts → Type 0
 Names wides r p = IsThere wides r × (parts_in wides r ≡ p)
 
--- the rows stand for the same entries as before
+-- with tables u in place of t each row stands for the entry for which it stood
 abbrev pub Keeps : Contents → Contents → Type 0
 Keeps t u = (r : Row) → IsWithin t r → IsWithin u r × (entry_of u r ≡ entry_of t r)

@@ -1,4 +1,4 @@
--- How a part's rows move behind those of the journal around it.
+-- How a part's rows move to the end of the enclosing journal's.
 use Rattle.std.specs.Prelude.{◌≡◌, ◌≤◌, ℕ, ◌+◌, ◌-◌, length, cond, nat_eq}
 use Rattle.orc_rules.specs.declared.kind.Kind.TheVariants as kinds
 use Rattle.orc_subrun.specs.declared.numbers.Numbering.{Numbering}
@@ -8,10 +8,11 @@ use Rattle.orc_journal.specs.declared.rows.Row.TheVariants.{Narrow}
 use Rattle.orc_journal.specs.declared.shift.Shift.{Shift}
 use Rattle.orc_journal.specs.Rows.{Contents}
 
--- the part's first mark is the token's
+-- a part's mark 1 becomes the token's, and to the others a number is added
 abbrev pub mark_by : Shift → ℕ → ℕ
 mark_by s own = cond (nat_eq own 1) s.token (s.marks + own)
 
+-- a part's row, moved: marks, calls, cells and places each by their own number
 abbrev pub row_by : Shift → Row → Row
 row_by s (Narrow kinds.End a b c) = Narrow kinds.End (mark_by s a) b c
 row_by s (Narrow kinds.Fork a b c) = Narrow kinds.Fork (mark_by s a) (mark_by s b) (mark_by s c)
@@ -30,15 +31,16 @@ row_by s (Narrow kinds.Right a b c) = Narrow kinds.Right (mark_by s a) (mark_by 
 row_by s (Narrow kinds.Publish a b c) = Narrow kinds.Publish (mark_by s a) b (s.values + c)
 row_by s r = r
 
--- a pruning was opened with two marks that follow one another still when they are moved: neither is the first mark
+-- the new marks of an `open` still follow one another when they are moved: neither is mark 1
 abbrev pub IsMovable : Row → Type 0
 IsMovable (Narrow kinds.Open a b c) = 2 ≤ c
 IsMovable _ = Unit {0}
 
+-- a part's call, moved: its arguments are behind the values that were there
 abbrev pub called_by : Shift → Called → Called
 called_by s c = record { site = c.site; count = c.count; start = s.values + c.start }
 
--- behind what these tables have, under these numbers
+-- the shift to the end of these tables, under these numbers; a part's marks behind mark 1 begin with 2
 abbrev pub shift_to : Contents → Numbering → Shift
 shift_to t n = record { token = n.token; marks = n.mark - 2; calls = n.calls; cells = n.cells; values = length t.values; called = length t.calls }
 

@@ -4,7 +4,7 @@ use Rattle.orc_rules.specs.declared.entry.Entry.{Entry}
 use Rattle.orc_rules.specs.declared.entry.Entry.TheVariants.{Fork, Open, Right, Other, Seq}
 use Rattle.orc_rules.specs.declared.limits.TheConstants.{MOST_TOKENS, MOST_GROUPS, MOST_FRAMES}
 
--- an entry that brings a token more, one that opens a side, and one that enters the left side of a `>x>`
+-- by how many an entry raises the number of tokens and calls, how many sides it opens, and how many left sides of a `>x>` it enters
 abbrev pub brings : Entry → ℕ
 brings (Fork s a b) = 1
 brings (Open s c a b) = 1
@@ -20,11 +20,11 @@ abbrev pub feeds : Entry → ℕ
 feeds (Seq s a) = 1
 feeds _ = 0
 
--- how many entries of a journal do
+-- the sum of such a number over the entries of a journal
 abbrev pub total : (Entry → ℕ) → List Entry → ℕ
 total w [] = 0
 total w (e ∷ es) = w e + total w es
 
--- one of the engine's numbers can have been reached: as many tokens and calls, open groups or frames as there may be
+-- a limit of the engine can have been reached: as many tokens and calls, open groups or frames as there may be
 abbrev pub IsCrowded : List Entry → Type 0
 IsCrowded es = (MOST_TOKENS ≤ total brings es + 1) ⊎ ((MOST_GROUPS ≤ total opens es + 1) ⊎ (MOST_FRAMES ≤ total feeds es))

@@ -18,6 +18,7 @@ abbrev pub counts : Entry → Bool
 counts (Cancel _) = false
 counts _ = true
 
+-- how many entries count for the limit
 abbrev pub count : List Entry → ℕ
 count [] = 0
 count (e ∷ es) = if counts e then suc (count es) else count es

@@ -17,19 +17,20 @@ use orc_rules::value::Value;
 use std::alloc::{AllocError, Global};
 use std::marker::Model;
 
-/// The version of a journal's text: cancels stand in the second one alone.
+/// The version of a journal's text: only the second one has cancels.
 #[derive(Clone, Copy, PartialEq, Eq, Debug)]
 pub enum Version {
     One,
     Two,
 }
 
-/// A journal: its version and its entries. An entry takes 16 bytes, a call 12 more, and a value or an argument 16 more; but a value, or a call's one
-/// argument, that was kept last is not kept again. One that names a number of over 32 bits, or opens a pruning with marks that don't follow one
-/// another, takes 40 bytes more.
+/// A journal: its version and its entries. An entry takes 16 bytes, a call 12 more, and a value or an argument 16 more; but a value, or a call's only
+/// argument, that equals the value stored last isn't stored again. An entry with a number of over 32 bits, or one that opens a pruning with marks
+/// that don't follow one another, takes 40 bytes more.
 #[derive(Drop)]
 pub struct Journal {
     version: Version,
+    // A row for each entry, and in the tables what doesn't fit into rows.
     pub(crate) rows: Vec<Row>,
     pub(crate) tables: Tables,
 }
@@ -43,7 +44,7 @@ impl Model for Journal {
 }
 
 impl Journal {
-    /// No entries.
+    /// A journal without entries.
     pub fn new(alloc: Global, version: Version) -> Journal
         ensures { result ≡ record { version = version; entries = [] } }
     {
@@ -61,7 +62,7 @@ impl Journal {
         self.version
     }
 
-    /// How many entries there are.
+    /// How many entries there are, cancels counted.
     pub fn len(&self) -> usize
         ensures { result ≡ length self.now.entries }
     {
@@ -72,6 +73,7 @@ impl Journal {
     pub fn next_number(&self) -> u64
         ensures { result ≡ length self.now.entries + 1 }
     {
+        // A slice has fewer than 2^63 items, so one more fits.
         let rows = self.rows.as_slice();
         rows.len() as u64 + 1
     }
@@ -85,7 +87,7 @@ impl Journal {
     }
 
     /// Adds an entry at the end. The error is refused memory, and then nothing changes.
-    // Inlined, so that where an entry's kind is known it is one call, and no `Entry` is made.
+    // Inlined, so that a caller which knows the entry's kind makes one call, and no `Entry`. 0 fills the numbers that a kind hasn't.
     #[inline(always)]
     pub fn push(&mut self, entry: &Entry) -> Result<(), AllocError>
         ensures added { OnOk result (self.new ≡ record { version = self.old.version; entries = self.old.entries ++ entry.now ∷ [] }) }
@@ -113,7 +115,7 @@ impl Journal {
     }
 
     // Adds an entry of numbers alone at the end. Where memory is refused nothing changes.
-    // Neither it nor `push_given` is inlined: so `push` stays small. Each writes its row where it stays, and hands none on.
+    // Neither it nor `push_given` is inlined, so that `push` stays small.
     #[inline(never)]
     fn push_plain(
         &mut self,
@@ -152,7 +154,7 @@ impl Journal {
         Ok(())
     }
 
-    /// Adds a `send` as `push` does, without an `Entry`, which has room for a call's arguments.
+    /// Adds a `send` as `push` does, but without an `Entry`, which is large since it has room for a call's arguments.
     pub fn push_send(&mut self, token: u64, mark: u64, value: Value) -> Result<(), AllocError>
         ensures added { OnOk result (self.new ≡ journal_with self.old (Send token mark value ∷ [])) }
         ensures refused { OnErr result (self.new ≡ self.old) }
@@ -194,14 +196,14 @@ impl Journal {
         Ok(())
     }
 
-    /// Keeps the first `len` entries alone, all where there are no more. What the others took stays reserved.
+    /// Drops all entries but the first `len`; none if there are no more. The memory of what is dropped stays reserved.
     pub fn truncate(&mut self, len: usize)
         ensures { self.new ≡ record { version = self.old.version; entries = take len self.old.entries } }
     {
         self.rows.truncate(len);
     }
 
-    // Adds the cancels of these calls. Where memory is refused some of them may have been added.
+    // Adds the cancels of these calls. The error is refused memory; some of them may be added by then.
     fn push_cancels(&mut self, calls: &[u64]) -> Result<(), AllocError>
         ensures added { OnOk result (self.new ≡ journal_with self.old (map Cancel calls.now)) }
         ensures begun { (es : List EntryOf) × (self.new ≡ journal_with self.old es) }
@@ -232,8 +234,8 @@ impl Journal {
         pushed
     }
 
-    /// Puts the entry at a place, from 0, into `entry`, which is overwritten where it stays: it has room for the arguments of a call, and to hand one on
-    /// takes longer than to write its line. The answer is whether there is one. If not, `entry` stays as it was.
+    /// Puts the entry at a place, counted from 0, into `entry`: whether there is one. If not, `entry` stays as it was. It is overwritten and not
+    /// returned, since it has room for a call's arguments: to copy it takes longer than to write its line.
     pub fn read(&self, at: usize, entry: &mut Entry) -> bool
         ensures read { result ≡ true → slice_get self.now.entries at ≡ Some entry.new }
         ensures none { result ≡ false → slice_get self.now.entries at ≡ None }
@@ -246,10 +248,11 @@ impl Journal {
         true
     }
 
-    /// The entry at a place, from 0.
+    /// The entry at a place, counted from 0. None if there are fewer entries.
     pub fn get(&self, at: usize) -> Option<Entry>
         ensures { result ≡ slice_get self.now.entries at }
     {
+        // Any entry: `read` overwrites it.
         let mut entry = Entry::Tick(0);
         if self.read(at, &mut entry) {
             Some(entry)

@@ -1,4 +1,7 @@
-//! Journals in memory: each entry in a row of few bytes, and the entries of a part put behind others under new numbers.
+//! Journals in memory, an entry in 16 bytes. Nothing here asks whether an entry is allowed.
+//!
+//! A *part* is a call of a definition that was run by itself. Its journal has marks, calls and cells of its own, which count from 1; `sub_journal`
+//! and `shift` append it to the journal of the enclosing run under the numbers that follow there.
 #![tactic(auto)]
 
 mod journal;

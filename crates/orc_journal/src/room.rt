@@ -1,10 +1,10 @@
-//! Room in a vector: an item is put into its place, and not handed to a call that copies it there.
+//! Adding to a vector, quicker than `Vec::push`: the test for room is inlined, so an item is written into its place and not handed to a call.
 
 ghost use Rattle.std.specs.Prelude.{◌≡◌, ◌<◌, ◌++◌, ◌∷◌, [], OnOk, OnErr, vec_len, vec_capacity};
 
 use std::alloc::AllocError;
 
-// Kept apart, since a vector seldom grows.
+// Not inlined, since a vector seldom grows.
 #[cold]
 #[inline(never)]
 fn grow<T: Drop>(items: &mut Vec<T>) -> Result<(), AllocError>
@@ -14,7 +14,7 @@ fn grow<T: Drop>(items: &mut Vec<T>) -> Result<(), AllocError>
     items.try_reserve(1)
 }
 
-/// Makes room for one more item. Where memory is refused nothing changes.
+/// Makes room for one more item, which `push_reserved` then adds without a test. The error is refused memory, and then nothing changes.
 #[inline(always)]
 pub(crate) fn make_room<T: Drop>(items: &mut Vec<T>) -> Result<(), AllocError>
     ensures items { items.new.items ≡ items.old.items }
@@ -26,7 +26,7 @@ pub(crate) fn make_room<T: Drop>(items: &mut Vec<T>) -> Result<(), AllocError>
     Ok(())
 }
 
-/// Adds an item at the end. Where memory is refused nothing changes.
+/// Adds an item at the end. The error is refused memory, and then nothing changes.
 #[inline(always)]
 pub(crate) fn put<T: Drop>(items: &mut Vec<T>, item: T) -> Result<(), AllocError>
     ensures added { OnOk result (items.new.items ≡ items.old.items ++ item ∷ []) }

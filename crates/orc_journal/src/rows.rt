@@ -1,4 +1,7 @@
-//! The entries of a journal in 16 bytes each, with tables of what doesn't fit there.
+//! The rows of a journal: an entry in 16 bytes each, and tables of what doesn't fit there.
+//!
+//! Tables only grow at their ends, so each row stands for one entry for good (`Keeps`). What a refused call has added stays in them, but no row names
+//! it. A value's place is its number among the values, from 0.
 
 ghost use Rattle.std.specs.Prelude.{◌≡◌, ◌≤◌, ◌∷◌, List, [], length, take, drop, slice_index_or, option_to_list, IfOk, IfSome, OnOk, OnErr};
 ghost use Rattle.orc_rules.specs.Trace.{published};
@@ -15,8 +18,8 @@ use std::alloc::{AllocError, Global};
 use std::marker::Model;
 use std::mem::size_of;
 
-/// An entry's numbers in the order of its line, 0 for those that it hasn't. The third number is the place of its value among the values,
-/// and a call's that of its site and arguments among the calls.
+/// An entry's numbers in the order of its line, 0 for those that it hasn't. If it has a value, the third one is the value's place; if it is a call,
+/// the third one is the place of its site and arguments among the calls.
 #[derive(Clone, Copy)]
 pub struct Parts {
     pub kind: Kind,
@@ -26,13 +29,16 @@ pub struct Parts {
     pub fourth: u64,
 }
 
-/// An entry by its first three numbers, of 32 bits each, and a fourth that they tell; else by the place of its parts.
+/// A row, which stands for an entry.
 #[derive(Clone, Copy)]
 pub enum Row {
+    /// The first three of its parts, if they fit 32 bits; the kind and the third one tell the fourth (`last_of`).
     Narrow(Kind, u32, u32, u32),
+    /// Any other entry: the place of its parts among `wides`.
     Wide(usize),
 }
 
+// The docstring of `Journal` says so.
 const _: () = prove!(size_of::<Row>() == 16);
 
 /// A call's site, the place of its first argument among the values, and how many it has.
@@ -45,7 +51,7 @@ pub struct Called {
 
 const _: () = prove!(size_of::<Called>() == 12);
 
-/// What the rows of a journal point to.
+/// What the rows of a journal name by its place: values, calls and parts of wide rows.
 #[derive(Drop)]
 pub(crate) struct Tables {
     pub(crate) values: Vec<Value>,
@@ -61,6 +67,7 @@ impl Model for Tables {
     ghost view = { λ t. record { values = t.values.items; calls = t.calls.items; wides = t.wides.items } };
 }
 
+// The parts with these numbers.
 #[inline(always)]
 fn numbered(kind: Kind, first: u64, second: u64, third: u64, fourth: u64) -> Parts
     ensures { result ≡ record { kind = kind; first = first; second = second; third = third; fourth = fourth } }
@@ -74,7 +81,7 @@ fn numbered(kind: Kind, first: u64, second: u64, third: u64, fourth: u64) -> Par
     }
 }
 
-// The fourth number of a narrow row by its third: the two marks of an `open` follow one another.
+// The fourth number of a narrow row, by its third: only an `open` has one, and its two new marks, the third and the fourth, follow one another.
 #[inline(always)]
 fn last_of(kind: Kind, third: u32) -> u64
     ensures { result ≡ last_of kind third }
@@ -85,7 +92,7 @@ fn last_of(kind: Kind, third: u32) -> u64
     }
 }
 
-// The number in 32 bits, where it fits.
+// The number in 32 bits. None if it doesn't fit.
 #[inline(always)]
 pub(crate) fn short(number: u64) -> Option<u32>
     ensures { IfSome result (λ n. n ≡ number) }
@@ -97,7 +104,7 @@ pub(crate) fn short(number: u64) -> Option<u32>
     }
 }
 
-// The narrow row of an entry's parts, where they have one.
+// The narrow row of these parts. None if a number doesn't fit 32 bits, or the fourth isn't the one that the third tells.
 #[inline(always)]
 fn narrow(parts: Parts) -> Option<Row>
     ensures { IfSome result (λ r. (wides : List PartsOf) → Names wides r parts) }
@@ -112,7 +119,7 @@ fn narrow(parts: Parts) -> Option<Row>
     }
 }
 
-// The arguments of a call.
+// These values as arguments of a call.
 fn args_of(values: &[Value]) -> Args
     requires { length values.now ≤ MOST_ARGUMENTS }
     ensures { result ≡ values.now }
@@ -124,7 +131,7 @@ fn args_of(values: &[Value]) -> Args
     args
 }
 
-// The value at a place.
+// The value at a place. There is one at each place that a row names.
 fn value_at(values: &Vec<Value>, at: u64) -> Value
     ensures { result ≡ value_at values.now.items at }
 {
@@ -146,7 +153,7 @@ impl Tables {
         }
     }
 
-    // The row of parts that have no narrow one.
+    // A wide row of these parts. The error is refused memory.
     #[cold]
     #[inline(never)]
     fn add_wide(&mut self, parts: Parts) -> Result<Row, AllocError>
@@ -158,7 +165,7 @@ impl Tables {
         Ok(Row::Wide(at))
     }
 
-    // A row of these parts.
+    // A row of these parts: a narrow one if they have one. The error is refused memory.
     #[inline(always)]
     fn add_parts(&mut self, parts: Parts) -> Result<Row, AllocError>
         ensures names { IfOk result (λ r. Names self.new.wides r parts) }
@@ -170,7 +177,7 @@ impl Tables {
         self.add_wide(parts)
     }
 
-    /// The row of an entry of numbers alone. The error is refused memory.
+    /// Makes the row of an entry that has only numbers: neither a value nor arguments. The error is refused memory.
     pub(crate) fn add_plain(
         &mut self,
         kind: Kind,
@@ -186,7 +193,8 @@ impl Tables {
         self.add_parts(numbered(kind, first, second, third, fourth))
     }
 
-    // The place of a value: the last one, where that is the same, since an answer is mostly sent on, and then asked about; else behind the others.
+    // The place of a value. It is put behind the others, unless the last one equals it: an answer is mostly sent on next, and then a call's argument.
+    // The error is refused memory.
     #[inline(always)]
     fn place(&mut self, value: Value) -> Result<usize, AllocError>
         ensures kept { Keeps self.old self.new }
@@ -201,7 +209,7 @@ impl Tables {
         Ok(end)
     }
 
-    // The place of the first of a call's arguments.
+    // The place of the first of a call's arguments, which follow one another. The error is refused memory.
     fn place_all(&mut self, values: &[Value]) -> Result<usize, AllocError>
         ensures kept { Keeps self.old self.new }
         ensures same { (self.new.calls ≡ self.old.calls) × (self.new.wides ≡ self.old.wides) }
@@ -217,7 +225,7 @@ impl Tables {
         }
     }
 
-    /// The row of an entry with a value. The error is refused memory.
+    /// Makes the row of an entry with a value. The error is refused memory.
     pub(crate) fn add_given(
         &mut self,
         kind: Kind,
@@ -233,7 +241,7 @@ impl Tables {
         self.add_parts(numbered(kind, first, second, at as u64, 0))
     }
 
-    /// The row of a call. The error is refused memory.
+    /// Makes the row of a call. The error is refused memory.
     #[inline(always)]
     pub(crate) fn add_call(
         &mut self,
@@ -247,10 +255,11 @@ impl Tables {
         ensures row { IfOk result (λ r. StandsFor self.new r (Call token call site args.now)) }
     {
         let at = self.calls.len() as u64;
-        // So many values take more memory than there is.
+        // 2^32 values would take 64 GiB: a place that doesn't fit 32 bits counts as refused memory.
         let Some(start) = short(self.place_all(args)? as u64) else {
             return Err(AllocError);
         };
+        // At most `MOST_ARGUMENTS`, which is 16.
         let count = args.len() as u8;
         let row = self.add_parts(numbered(Kind::Call, token, call, at, 0))?;
         put(&mut self.calls, Called { site, start, count })?;
@@ -271,7 +280,7 @@ impl Tables {
         }
     }
 
-    /// A call's site and where its arguments stand.
+    /// What the call at a place among the calls has: its site and where its arguments are.
     #[inline(always)]
     pub(crate) fn called(&self, at: u64) -> Called
         requires { HasCall self.now at }
@@ -281,7 +290,7 @@ impl Tables {
         self.calls[at as usize]
     }
 
-    /// The arguments of a call.
+    /// The arguments of such a call.
     #[inline(always)]
     pub(crate) fn args(&self, called: Called) -> &[Value]
         requires { HasArguments self.now.values called }
@@ -301,7 +310,7 @@ impl Tables {
         value_at(&self.values, at)
     }
 
-    // Makes `entry` a call, where it stays.
+    // Overwrites `entry` with a call: mark `s`, call `k`, and what the call at this place has.
     fn read_call(&self, s: u64, k: u64, at: u64, entry: &mut Entry)
         requires { HasCall self.now at }
         ensures { entry.new ≡ call_by self.now.values s k (slice_index_or self.now.calls at no_call) }
@@ -310,7 +319,7 @@ impl Tables {
         *entry = Entry::Call(s, k, called.site, args_of(self.args(called)));
     }
 
-    /// Makes `entry` that of a row, where it stays.
+    /// Overwrites `entry` with the entry of a row.
     pub(crate) fn read(&self, row: Row, entry: &mut Entry)
         requires { IsWithin self.now row }
         ensures { entry.new ≡ entry_of self.now row }

@@ -1,4 +1,4 @@
-//! The rows of a part's journal, moved behind those of the journal around it.
+//! A part's rows, moved to the end of the enclosing journal's rows: most of them by adding to each number what the enclosing run has used before.
 
 ghost use Rattle.std.specs.Prelude.{◌≡◌, ◌+◌, ◌≤◌, ◌++◌, [], true, false, length, map, IfOk, IfSome, OnErr, OnSome, vec_len, vec_capacity};
 ghost use Rattle.std.specs.List.{All};
@@ -13,20 +13,23 @@ use orc_rules::kind::Kind;
 use orc_subrun::Numbering;
 use std::alloc::AllocError;
 
-/// What is added to a part's numbers: to its marks but the first one, which is the token's, to its calls and its cells, and to the places of its
-/// values and of what it called.
+/// What is added to a part's own numbers. `token` isn't added: it is the mark of the token that stood where the part is, and replaces the part's
+/// mark 1.
 #[derive(Clone, Copy)]
 pub struct Shift {
     pub token: u32,
+    /// To its other marks.
     pub marks: u32,
     pub calls: u32,
     pub cells: u32,
+    /// To the places of its values.
     pub values: u32,
+    /// To the places of its calls, of which each has a site and arguments.
     pub called: u32,
 }
 
 impl Shift {
-    // The mark that stands for the part's own one. None where it doesn't fit 32 bits, as in the other two.
+    // The mark in the enclosing run for the part's own one. None if it doesn't fit 32 bits.
     #[inline(always)]
     fn mark(self, own: u32) -> Option<u32>
         ensures { IfSome result (λ mark. mark ≡ mark_by self own) }
@@ -37,8 +40,8 @@ impl Shift {
         self.marks.checked_add(own)
     }
 
-    // Makes a part's row that of the same entry here. None where a number doesn't fit 32 bits, for a wide row, and where an opened pruning's marks
-    // wouldn't follow one another any more, since one of them is the first mark; then some numbers may have moved.
+    // Makes a part's row that of the moved entry. None for a wide row, if a number doesn't fit 32 bits, or if an `open` has mark 1 among its new
+    // marks, which wouldn't follow one another then; some of the row's numbers may be moved by then.
     #[inline(always)]
     fn move_row(self, row: &mut Row) -> Option<()>
         ensures moved { OnSome result (row.new ≡ row_by self row.old) }
@@ -59,6 +62,7 @@ impl Shift {
                 *b = self.mark(*b)?;
             }
             Kind::Open => {
+                // Mark 1 becomes the token's, far from the mark behind it. A run's own `open` never has it as a new mark.
                 if *c < 2 {
                     return None;
                 }
@@ -92,12 +96,13 @@ impl Shift {
                 *a = self.mark(*a)?;
                 *c = self.values.checked_add(*c)?;
             }
+            // A part that is appended has neither (`are_local`); they stay as they are.
             Kind::Tick | Kind::Cancel => {}
         }
         Some(())
     }
 
-    // The same site and arguments, which stand behind the values that were there.
+    // A call of the part's, whose arguments have places behind the values that were there. None if the place doesn't fit 32 bits.
     #[inline(always)]
     fn called(self, called: Called) -> Option<Called>
         ensures { IfSome result (λ c. c ≡ called_by self called) }
@@ -111,7 +116,7 @@ impl Shift {
     }
 }
 
-// Makes a part's rows those of the same entries here, as far as each has one.
+// Makes a part's rows those of the moved entries. None if one of them can't be; then some may be moved.
 fn move_rows(rows: &mut [Row], shift: Shift) -> Option<()>
     ensures len { length rows.new ≡ length rows.old }
     ensures moved { OnSome result (rows.new ≡ map (row_by shift) rows.old) }
@@ -123,7 +128,7 @@ fn move_rows(rows: &mut [Row], shift: Shift) -> Option<()>
     Some(())
 }
 
-// Adds a part's rows, and moves them there. The answer is whether each has a moved one. If not, or if memory is refused, nothing changes.
+// Adds a part's rows and moves them in their new place: whether each could be moved. If not, or if memory is refused, nothing changes.
 fn push_rows(rows: &mut Vec<Row>, part: &[Row], shift: Shift) -> Result<bool, AllocError>
     ensures added { IfOk result (λ fit. fit ≡ true → rows.new.items ≡ rows.old.items ++ map (row_by shift) part.now) }
     ensures movable { IfOk result (λ fit. fit ≡ true → All IsMovable part.now) }
@@ -140,7 +145,7 @@ fn push_rows(rows: &mut Vec<Row>, part: &[Row], shift: Shift) -> Result<bool, Al
     Ok(true)
 }
 
-// Adds the moved calls. The answer is whether the places of all their arguments fit 32 bits. If not, nothing changes.
+// Adds a part's calls, moved: whether the places of all their arguments fit 32 bits. If not, nothing changes. There must be room for them.
 fn push_calls(calls: &mut Vec<Called>, part: &[Called], shift: Shift) -> bool
     requires room { vec_len calls.old + length part.now ≤ vec_capacity calls.old }
     ensures added { result ≡ true → calls.new.items ≡ calls.old.items ++ map (called_by shift) part.now }
@@ -158,13 +163,14 @@ fn push_calls(calls: &mut Vec<Called>, part: &[Called], shift: Shift) -> bool
 }
 
 impl Tables {
-    // What is added to a part's numbers. None where a number doesn't fit 32 bits, or the part has a wide row.
+    // The shift of a part's journal to the end of these tables. None if a summand doesn't fit 32 bits, or the part has a wide row.
     fn shift(&self, part: &Tables, numbering: Numbering) -> Option<Shift>
         ensures { IfSome result (λ s. Shifts self.now part.now numbering s) }
     {
         if part.wides.len() > 0 {
             return None;
         }
+        // A part's own marks behind mark 1 begin with 2, which becomes `numbering.mark`.
         let before = numbering.mark.checked_sub(2)?;
         Some(Shift {
             token: short(numbering.token)?,
@@ -176,7 +182,8 @@ impl Tables {
         })
     }
 
-    // Puts a part's values and calls behind the others. The answer is whether the places of all arguments fit 32 bits. The error is refused memory.
+    // Adds a part's values and calls behind the others: whether the places of all arguments fit 32 bits. The error is refused memory. In each case
+    // the rows so far stand for what they did.
     fn append(&mut self, part: &Tables, shift: Shift) -> Result<bool, AllocError>
         ensures kept { Keeps self.old self.new }
         ensures added { IfOk result (λ fit. fit ≡ true → self.new ≡ grown self.old part.now.values (map (called_by shift) part.now.calls) []) }
@@ -191,8 +198,8 @@ impl Tables {
 }
 
 impl Journal {
-    // Adds a part's entries by its rows, each moved in one step. The answer is whether all of them have rows of 32-bit numbers, there and here. If not,
-    // or if memory is refused, nothing changes.
+    // Adds a part's entries by moving its rows: whether all of them have narrow rows, in the part and here. If not, or if memory is refused, the
+    // entries stay as they were; values and calls of the part may be left in the tables, which no row names.
     pub(crate) fn push_shifted(
         &mut self,
         part: &Journal,

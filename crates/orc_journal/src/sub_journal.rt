@@ -1,4 +1,4 @@
-//! The journal of a part's own run, taken into that of the run around it.
+//! The journal of a part's own run, appended to the enclosing run's journal under the numbers that `Numbering` gives. `own` is a number in the part.
 
 ghost use Rattle.std.specs.Prelude.{◌≡◌, ◌+◌, ◌∷◌, [], List, map, true, IfOk, OnOk, OnErr};
 ghost use Rattle.orc_rules.specs.declared.entry.Entry.{Entry as EntryOf};
@@ -14,7 +14,7 @@ use orc_rules::kind::Kind;
 use orc_subrun::Numbering;
 use std::alloc::AllocError;
 
-// The mark that stands for the part's own one. The error: it doesn't fit 64 bits.
+// The mark for the part's own one. The error is that it doesn't fit 64 bits, which counts as refused memory.
 #[inline(always)]
 fn mark_of(numbering: Numbering, own: u64) -> Result<u64, AllocError>
     ensures { IfOk result (λ mark. mark ≡ mark_in numbering own) }
@@ -22,7 +22,7 @@ fn mark_of(numbering: Numbering, own: u64) -> Result<u64, AllocError>
     numbering.mark_of(own).ok_or(AllocError)
 }
 
-// The number of the part's own call. The error: it doesn't fit 64 bits.
+// The number for the part's own call. The error is that it doesn't fit 64 bits.
 #[inline(always)]
 fn call_of(numbering: Numbering, own: u64) -> Result<u64, AllocError>
     ensures { IfOk result (λ call. call ≡ numbering.calls + own) }
@@ -30,7 +30,7 @@ fn call_of(numbering: Numbering, own: u64) -> Result<u64, AllocError>
     numbering.call_of(own).ok_or(AllocError)
 }
 
-// The number of the part's own cell. The error: it doesn't fit 64 bits.
+// The number for the part's own cell. The error is that it doesn't fit 64 bits.
 #[inline(always)]
 fn cell_of(numbering: Numbering, own: u64) -> Result<u64, AllocError>
     ensures { IfOk result (λ cell. cell ≡ cell_in numbering own) }
@@ -39,7 +39,7 @@ fn cell_of(numbering: Numbering, own: u64) -> Result<u64, AllocError>
 }
 
 impl Tables {
-    // Whether the entry of a row is local.
+    // Whether the entry of a row is local: no tick, no cancel, and no call that a script answers.
     #[inline(always)]
     fn is_local(&self, row: Row, answers: &Answers) -> bool
         requires { IsWithin self.now row }
@@ -69,7 +69,8 @@ impl Tables {
         }
     }
 
-    // The row of an entry of a part, by its row there, under these numbers. The error is refused memory, or a number that doesn't fit 64 bits.
+    // Makes the row here of a part's entry under these numbers, from its row in the part. The error is refused memory, or a number that doesn't fit
+    // 64 bits.
     #[inline(always)]
     fn add_moved(
         &mut self,
@@ -131,13 +132,15 @@ impl Tables {
                 let s = mark_of(n, p.first)?;
                 self.add_given(Kind::Publish, s, 0, part.value(p.third))
             }
+            // A part that is appended has neither (`are_local`); they stay as they are.
             Kind::Tick | Kind::Cancel => self.add_plain(p.kind, p.first, 0, 0, 0),
         }
     }
 }
 
 impl Journal {
-    /// Whether all entries are local: nothing around the part whose run they are bears on them.
+    /// Whether all entries are local: no tick, no cancel, and no call that a script answers. A local entry of a part doesn't depend on what the
+    /// enclosing run does, since only a script's answers depend on how many such calls there were.
     pub fn are_local(&self, answers: &Answers) -> bool
         ensures { result ≡ true → AreLocal answers.now.sites self.now.entries }
     {
@@ -161,7 +164,8 @@ impl Journal {
         true
     }
 
-    // Adds the entry of a part by its row there, under these numbers. Where memory is refused, or a number doesn't fit 64 bits, nothing changes.
+    // Adds a part's entry under these numbers, from its row in the part. The error is refused memory, or a number that doesn't fit 64 bits; then no
+    // entry is added.
     #[inline(always)]
     fn push_moved(
         &mut self,
@@ -179,8 +183,8 @@ impl Journal {
         Ok(())
     }
 
-    // Adds a part's entries under these numbers, one by one. Where memory is refused, or a number doesn't fit 64 bits, some of them may have been
-    // added. Kept apart, since the rows of a part mostly move as they are.
+    // Adds a part's entries under these numbers, one by one. The error is refused memory, or a number that doesn't fit 64 bits; some of them may be
+    // added by then. Not inlined, since mostly `push_shifted` does it all.
     #[cold]
     #[inline(never)]
     fn push_each(&mut self, part: &Journal, numbering: Numbering) -> Result<(), AllocError>
@@ -194,12 +198,13 @@ impl Journal {
         Ok(())
     }
 
-    /// Adds the entries of a part's own run under these numbers. The error is refused memory, or a number that doesn't fit 64 bits, and then
-    /// nothing changes.
+    /// Adds the entries of a part's own run at the end, under these numbers. The error is refused memory, or a number that doesn't fit 64 bits, and
+    /// then nothing changes.
     pub fn append(&mut self, part: &Journal, numbering: Numbering) -> Result<(), AllocError>
         ensures added { OnOk result (self.new ≡ journal_with self.old (map (moved numbering) part.now.entries)) }
         ensures refused { OnErr result (self.new ≡ self.old) }
     {
+        // First by moving the rows; if one of them can't be moved, nothing was added, and the entries are added one by one.
         if self.push_shifted(part, numbering)? {
             return Ok(());
         }
