@@ -1,4 +1,4 @@
--- A part's own run is a run of the whole: what it comes to, wherever the part stands.
+-- A part's own run continues the enclosing run: what that needs, and where it leads.
 use Rattle.std.specs.Prelude.{◌≡◌, ◌<◌, ◌≤◌, ℕ, ◌+◌, ◌^◌, List, [], ◌++◌, ◌⊎◌, false, length, map}
 use Rattle.std.specs.List.{AllByRecursion}
 use Rattle.orc_rules.specs.declared.entry.Entry.{Entry}
@@ -11,14 +11,14 @@ use Rattle.orc_rules.specs.Nodes.{Listing, code, definitions}
 use Rattle.orc_subrun.specs.declared.numbers.Numbering.{Numbering}
 use Rattle.orc_subrun.specs.Moved.{moved, moved_marked, AreLocal, AreSilent, IsStill, AreStill}
 
--- m becomes m' where one x in it becomes y, round which there are only sides of `|` and left sides of open cells: all that it publishes the whole publishes
+-- m becomes m' where one x in it becomes y, which only sides of `|` and left sides of opened prunings enclose: the whole publishes all that x publishes
 pub data Branches (x y : Marked) : Marked → Marked → Type 0 where
   whole : Branches x y x y
   on_left : {f g f' : Marked} → Branches x y f f' → Branches x y (in_par f g) (in_par f' g)
   on_right : {f g g' : Marked} → Branches x y g g' → Branches x y (in_par f g) (in_par f g')
   on_main : {f g f' : Marked} {c : ℕ} → Branches x y f f' → Branches x y (in_opened f c g) (in_opened f' c g)
 
--- m becomes m' where x in it becomes y: anywhere if the entries publish nothing, else where all that it publishes the whole publishes
+-- m becomes m' where x in it becomes y: anywhere if the entries publish nothing, else where the whole publishes all that x publishes
 abbrev pub Hangs : List Entry → Marked → Marked → Marked → Marked → Type 0
 Hangs es x y m m' = Branches x y m m' ⊎ (AreSilent es × (cs : List ℕ) × Replaces x y m cs m')
 
@@ -29,11 +29,11 @@ pub record Follows (n : Numbering) (p : Place) : Type 0 where
   pub cells : n.cells ≡ length p.cells
   pub later : 2 ≤ p.mark
 
--- a call of the part: behind those that were made, and no script answers it
+-- a call of the part: its number is behind those made before, and no script answers it
 abbrev pub IsNewCall : List Site → ℕ → CallMade → Type 0
 IsNewCall sites made c = (made < c.number) × (is_scripted sites c.site ≡ false)
 
--- the whole's journal goes on by the part's entries from p to r, where the part has come to its own place q
+-- the part's entries, under their new numbers, continue the whole's journal from p to r; in the part's own run they lead to q
 pub record Grafts (x : Context) (n : Numbering) (es : List Entry) (q p r : Place) : Type 0 where
   pub leads : Journal x p (map (moved n) es) r
   pub mark : r.mark + 2 ≡ p.mark + q.mark
@@ -45,7 +45,8 @@ pub record Grafts (x : Context) (n : Numbering) (es : List Entry) (q p r : Place
   pub new : AllByRecursion (IsNewCall x.sites (length p.calls)) calls
   pub opened : length r.cells ≡ length p.cells + length q.cells
 
--- the journal of a part's own run, put behind that of a run in which the part stands as a token, is a journal
+-- the journal of a part's own run continues that of a run in which the part is still a token: q is where the part's own run leads, p where the
+-- enclosing run is, and r where it is afterwards, with the part's marked term in the token's place
 abbrev pub PartIsGrafted : Type 0
 PartIsGrafted = (x : Context) (n : Numbering) (t : Term) (es : List Entry) (q p : Place) (m : Marked)
     → AreStill x.definitions → IsStill t

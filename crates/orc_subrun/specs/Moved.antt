@@ -1,4 +1,4 @@
--- A part's own run under the numbers of the run around it.
+-- A part's own run under the numbers that it has in the enclosing run.
 use Rattle.std.specs.Prelude.{◌≡◌, ℕ, ◌+◌, ◌-◌, List, [], ◌∷◌, Some, false, cond, map, nat_eq, slice_get}
 use Rattle.orc_rules.specs.declared.param.Param.{Param}
 use Rattle.orc_rules.specs.declared.param.Param.TheVariants.{Name, Is, Cell}
@@ -18,7 +18,7 @@ mark_in n own = cond (nat_eq own 1) n.token (n.mark + own - 2)
 abbrev pub cell_in : Numbering → ℕ → ℕ
 cell_in n own = n.cells + own
 
--- the entry of the part's own run as it stands in the run around it
+-- an entry of the part's own run as it is in the enclosing run; a tick and a cancel, which no local journal has, stay as they are
 abbrev pub moved : Numbering → Entry → Entry
 moved n (End s) = End (mark_in n s)
 moved n (Fork s a b) = Fork (mark_in n s) (mark_in n a) (mark_in n b)
@@ -37,14 +37,14 @@ moved n (Right s a) = Right (mark_in n s) (mark_in n a)
 moved n (Publish s v) = Publish (mark_in n s) v
 moved n e = e
 
--- the same of what stands for a name
+-- a parameter of the part as it is in the enclosing run: only cells get other numbers
 abbrev pub moved_param : Numbering → Param → Param
 moved_param n (Name x) = Name x
 moved_param n (Is v) = Is v
 moved_param n (Cell c) = Cell (cell_in n c)
 moved_param n param_is.Void = param_is.Void
 
--- and of a term
+-- a term of the part, with the new numbers of its cells and pending calls
 abbrev pub moved_term : Numbering → Term → Term
 moved_term n stop = stop
 moved_term n (param p) = param (moved_param n p)
@@ -57,7 +57,7 @@ moved_term n (other f g) = other (moved_term n f) (moved_term n g)
 moved_term n (pending k) = pending (n.calls + k)
 moved_term n (opened f c g) = opened (moved_term n f) (cell_in n c) (moved_term n g)
 
--- and of a marked term
+-- a marked term of the part, with the new numbers of its marks too
 abbrev pub moved_marked : Numbering → Marked → Marked
 moved_marked n ended = ended
 moved_marked n (token s t) = token (mark_in n s) (moved_term n t)
@@ -74,7 +74,7 @@ IsStill t = (n : Numbering) → moved_term n t ≡ t
 abbrev pub AreStill : List Definition → Type 0
 AreStill ds = (e : ℕ) (d : Definition) → slice_get ds e ≡ Some d → IsStill d.body
 
--- nothing around the part bears on the entry: it is no tick and no cancel, and no script answers what it calls
+-- nothing outside the part affects the entry: it is no tick and no cancel, and no script answers what it calls
 abbrev pub IsLocal : List Site → Entry → Type 0
 IsLocal sites (Tick t) = ⊥
 IsLocal sites (Cancel k) = ⊥

@@ -1,14 +1,15 @@
-//! Laws of the definitions: each function's contract is one.
+//! Laws of the definitions: each function's contract is one, and its body is empty. A proof that needs a law calls its function.
 
 ghost use Rattle.orc_subrun.specs.Grafts.{PartIsGrafted, ProgramIsStill};
 
-/// A part's own run, under the numbers that it has in the run around it, is a journal of that run: wherever the part stands if it publishes nothing, and
-/// else where all that it publishes is published by the whole.
+/// The journal of a part's own run, under its numbers in the enclosing run, continues that run's journal, if it has only local entries (no tick, no
+/// cancel, no call that a script answers) and no cancel is due. If the part publishes something, no `>x>`, no `;` and no right side of a `<x<` may
+/// enclose it: so the whole publishes that.
 pub fn part_is_grafted()
     ensures { PartIsGrafted }
 {}
 
-/// The terms of a program name no cell, so they are the same under other numbers.
+/// The terms of a program name no cell and have no pending call, so other numbers leave them as they are.
 pub fn program_is_still()
     ensures { ProgramIsStill }
 {}

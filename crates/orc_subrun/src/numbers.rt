@@ -1,20 +1,24 @@
-//! The numbers of a part's own run in the run around it.
+//! The numbers of a part's own run in the enclosing run. `own` is a number in the part, counted from 1.
 
 ghost use Rattle.std.specs.Prelude.{◌≡◌, ◌+◌, IfSome};
 ghost use Rattle.orc_subrun.specs.Moved.{cell_in, mark_in};
 
-/// How a part's own run is numbered in the run around it: its first mark is that of the token which stood there, its other marks follow one
-/// another from that run's next mark on, and its calls and cells are counted behind those that were made and opened.
+/// How a part's own run is numbered in the enclosing run. The part's mark 1 is that of the token which stood there; its marks from 2 on are that
+/// run's next marks; its calls and cells are counted on behind those that were made and opened there.
 #[derive(Clone, Copy)]
 pub struct Numbering {
+    /// The mark of the token that stood where the part is.
     pub token: u64,
+    /// The next mark of the enclosing run, at least 2: the part's mark 2.
     pub mark: u64,
+    /// How many calls were made before.
     pub calls: u64,
+    /// How many cells were opened before.
     pub cells: u64,
 }
 
 impl Numbering {
-    /// The mark that stands for the part's own one. None where it would not fit 64 bits.
+    /// The mark in the enclosing run for the part's own one. None if `mark + own` doesn't fit 64 bits or is under 2.
     #[inline(always)]
     pub fn mark_of(&self, own: u64) -> Option<u64>
         ensures { IfSome result (λ mark. mark ≡ mark_in self.now own) }
@@ -22,11 +26,12 @@ impl Numbering {
         if own == 1 {
             return Some(self.token);
         }
+        // The part's mark 2 becomes `mark`.
         let sum = self.mark.checked_add(own)?;
         sum.checked_sub(2)
     }
 
-    /// The number of the part's own call. None where it would not fit 64 bits.
+    /// The number in the enclosing run for the part's own call. None if it doesn't fit 64 bits.
     #[inline(always)]
     pub fn call_of(&self, own: u64) -> Option<u64>
         ensures { IfSome result (λ call. call ≡ self.now.calls + own) }
@@ -34,7 +39,7 @@ impl Numbering {
         self.calls.checked_add(own)
     }
 
-    /// The number of the part's own cell. None where it would not fit 64 bits.
+    /// The number in the enclosing run for the part's own cell. None if it doesn't fit 64 bits.
     #[inline(always)]
     pub fn cell_of(&self, own: u64) -> Option<u64>
         ensures { IfSome result (λ cell. cell ≡ cell_in self.now own) }
