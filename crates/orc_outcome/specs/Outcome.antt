@@ -17,11 +17,11 @@ use Rattle.orc_outcome.specs.declared.end.End.{End}
 use Rattle.orc_outcome.specs.declared.end.End.TheVariants as ends
 use Rattle.orc_outcome.specs.declared.end.Summary.{Summary}
 
--- what a run goes by: the program's definitions and the sites, with cancels recorded
+-- what a run depends on: the program's definitions and the sites; cancels are recorded
 abbrev pub context : Listing → Table → Context
 context l t = record { definitions = definitions l; sites = t.sites; cancels = true }
 
--- a run with this limit of entries, cancels not counted, ends so: Halted where its term has halted, Quiet by the definition of quiet, Limit with as many entries as the limit where it isn't quiet, Full only where one of the engine's numbers can have been reached
+-- a run with this limit of entries, cancels not counted, ends so: Halted if its term has halted, Quiet by the definition of quiet, Limit with as many entries as the limit if it isn't quiet, Full only if a limit of the engine can have been reached
 abbrev pub EndsAt : Context → ℕ → List Entry → Place → End → Type 0
 EndsAt x limit es p ends.Halted = Halted (erase p.marked)
 EndsAt x limit es p ends.Quiet = IsQuiet x (moment p)
@@ -44,14 +44,14 @@ pub record IsRun (l : Listing) (t : Table) (limit : ℕ) (outcome : Outcome) : T
   pub now : outcome.now ≡ place.now
   pub within : count outcome.journal ≤ limit
 
--- the summary tells of the outcome
+-- the summary is that of the outcome
 pub record Tells (s : Summary) (o : Outcome) : Type 0 where
   pub end : s.end ≡ o.end
   pub entries : s.entries ≡ length o.journal
   pub now : s.now ≡ o.now
   pub published : s.published ≡ length (published o.journal)
 
--- what an engine owes: a run of the program with these sites, of which the summary tells, with what it published, and the run's journal if there is one
+-- what an engine returns: the summary of a run of the program with these sites, what it published, and the run's journal, if one was kept
 pub record IsPlayed (l : Listing) (t : Table) (limit : ℕ) (s : Summary) (values : List Value) (journal : Option Written) : Type 0 where
   pub outcome : Outcome
   pub is_run : IsRun l t limit outcome

@@ -1,4 +1,4 @@
-//! How runs end.
+//! How runs end, and the process's status for it.
 
 ghost use Rattle.std.specs.Prelude.{◌≡◌};
 ghost use Rattle.orc_outcome.specs.Status.{end_status_of};
@@ -10,15 +10,15 @@ pub enum End {
     Halted,
     /// Nothing can happen any more, though the term has not halted.
     Quiet,
-    /// The journal has as many entries as the limit allows, and the run is not quiet.
+    /// The journal has as many entries as the limit allows, cancels not counted, and the run is not quiet. Its term may have halted.
     Limit,
-    /// As many tokens and calls, open groups or frames as there may be: one more was to come.
+    /// The run needs more tokens and calls, open groups or frames than `MOST_TOKENS`, `MOST_GROUPS` or `MOST_FRAMES` of `orc_rules::limits` allow.
     Full,
-    /// Memory was refused.
+    /// Memory was refused during the run; what it did before is a run all the same.
     Memory,
 }
 
-/// What is told of a run.
+/// What is reported of a run.
 #[derive(Clone, Copy, Debug, PartialEq, Eq)]
 pub struct Summary {
     pub end: End,
@@ -31,7 +31,7 @@ pub struct Summary {
 }
 
 impl End {
-    /// The process's status of a run that ended so.
+    /// The process's status after a run that ended so.
     pub fn status(self) -> u8
         ensures { result ≡ end_status_of self }
     {

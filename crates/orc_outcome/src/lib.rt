@@ -1,7 +1,7 @@
-//! How a run ends, and what a whole run was: what every engine owes to those who call it.
+//! How a run ends, and what every engine promises its callers of a whole run.
 //!
-//! `specs/Outcome` has the words. An engine is a function with the parameters and the contract of `orc_engine::run_alone`: what it
-//! answers is the outcome of a run of the program with these sites within the limit (`IsPlayed`).
+//! `specs/Outcome` defines what a run is. An engine is a function with the parameters and the contract of `orc_engine::run_alone`: it
+//! returns the outcome of a run of the program with these sites within the limit (`IsPlayed`).
 #![tactic(auto)]
 
 mod end;

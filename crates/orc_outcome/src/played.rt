@@ -1,4 +1,4 @@
-//! What an engine answers.
+//! What an engine returns: a run that has ended, or why there is none.
 
 use crate::end::Summary;
 use orc_journal::Journal;
@@ -9,7 +9,7 @@ pub struct Played {
     pub summary: Summary,
     /// What it published, in order.
     pub published: Vec<Value>,
-    /// Its journal in the second version, where it was kept.
+    /// Its journal in the second version. None if it wasn't kept.
     pub journal: Option<Journal>,
 }
 
@@ -29,6 +29,6 @@ impl Drop for Played {
 pub enum PlayFault {
     /// Memory was refused before the run began.
     Memory,
-    /// The rules refused an entry that the engine had chosen to come next, or it found none where one is left.
+    /// A mistake of the engine: the rules refused the entry that it chose, or it found no entry although the run is neither halted nor quiet.
     Broken,
 }
