@@ -1,4 +1,4 @@
-//! Texts that are written whole: any text, what a run published, and its journal.
+//! Writing to an output: any text, what a run published, and its journal. Each text is written whole, or a prefix of it and then a fault.
 #![tactic(auto)]
 
 mod output;

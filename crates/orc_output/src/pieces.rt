@@ -1,4 +1,4 @@
-//! The text of a journal, in pieces.
+//! Writing the text of a journal in pieces, so that not all of it is in memory at one time.
 
 ghost use Rattle.std.specs.Prelude.{◌≡◌, OnOk, OnErr};
 ghost use Rattle.std.specs.Io.KnownBytes.{Appends};
@@ -14,11 +14,11 @@ use orc_rules::entry::Entry;
 use std::alloc::Global;
 use std::io::Write;
 
-/// A piece is written once it has so many bytes.
+/// A piece is written as soon as it has so many bytes.
 const PIECE: usize = 65_536;
 
-/// Writes the text of a journal of the second version, of which no more is held at one time than a piece. At a fault a prefix of it was written: the output
-/// didn't take more, memory for a piece was refused, or the site of a call has no name.
+/// Writes the text of a journal of the second version; no more than a piece of it is in memory at one time. The fault is that the output failed or
+/// took nothing, that memory for a piece was refused, or that a call's site has no name in the table; then a prefix of the text was written.
 pub fn write_journal<W: Write>(
     alloc: Global,
     journal: &Journal,
@@ -33,8 +33,10 @@ pub fn write_journal<W: Write>(
     if write_header(&mut piece, journal.version()).is_err() {
         return Err(WriteFault);
     }
+    // Any entry: `read` overwrites it.
     let mut entry = Entry::Tick(0);
     for at in 0..journal.len() {
+        // There is an entry at each place below the length.
         if !journal.read(at, &mut entry) {
             unreachable!()
         }

@@ -1,4 +1,4 @@
-//! The text of what a run published.
+//! Writing what a run published.
 
 ghost use Rattle.std.specs.Prelude.{OnOk, OnErr};
 ghost use Rattle.std.specs.Io.KnownBytes.{Appends};
@@ -11,7 +11,8 @@ use orc_rules::value::Value;
 use std::alloc::Global;
 use std::io::Write;
 
-/// Writes a line for each value, in their order. At a fault a prefix of that was written: nothing, where memory for the text was refused.
+/// Writes a line for each value, in their order. The fault is that the output failed or took nothing, and then a prefix of the text was written; or
+/// that memory for the text was refused, and then nothing was.
 pub fn write_values<W: Write>(
     alloc: Global,
     values: &[Value],
