@@ -1,4 +1,4 @@
--- What stands for names: environments of numbered scopes.
+-- What names mean: the environments of numbered scopes.
 use Rattle.std.specs.Prelude.{ℕ, List, [], ◌∷◌, ◌++◌, cond, nat_eq, slice_index_or}
 use Rattle.orc_rules.specs.declared.param.Param.{Param}
 use Rattle.orc_rules.specs.declared.param.Param.TheVariants as is
@@ -11,12 +11,13 @@ use Rattle.orc_rules.specs.Term.{Term, put, put_param}
 abbrev pub Env : Type 0
 Env = List (ℕ × Bound)
 
+-- what is put for a name, as a parameter of a term
 abbrev pub given : Bound → Param
 given (Is v) = is.Is v
 given (Cell c) = is.Cell c
 given Void = is.Void
 
--- an environment put into a term, the newest name first
+-- a term with an environment's meanings put for its names, the newest name first
 abbrev pub close : Env → Term → Term
 close [] f = f
 close (b ∷ e) f = close e (put (given b.1) b.0 f)
@@ -30,17 +31,17 @@ abbrev pub without : ℕ → Env → Env
 without x [] = []
 without x (b ∷ e) = cond (nat_eq b.0 x) (without x e) (b ∷ without x e)
 
--- what a cell has become, an unbound one itself
+-- what has become of a cell: itself if it isn't bound; values and void stay as they are
 abbrev pub current : List Bound → Bound → Bound
 current cells (Is v) = Is v
 current cells (Cell c) = slice_index_or cells c (Cell c)
 current cells Void = Void
 
--- the environment of each scope, after those that are there
+-- the environments es of the first scopes, and behind them those of the scopes ss
 abbrev pub envs_from : List Bound → List Env → List Scope → List Env
 envs_from cells es [] = es
 envs_from cells es (s ∷ ss) = envs_from cells (es ++ ((s.name, current cells s.bound) ∷ slice_index_or es s.outer []) ∷ []) ss
 
--- scope 0 has no names, scope n is the n-th record
+-- the environment of scope n: scope 0 has no names, and scope n is at place n - 1
 abbrev pub env_of : List Bound → List Scope → ℕ → Env
 env_of cells ss n = slice_index_or (envs_from cells ([] ∷ []) ss) n []

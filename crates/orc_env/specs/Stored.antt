@@ -1,4 +1,4 @@
--- What is put for a name, as it is stored.
+-- How the meaning of a name is stored.
 use Rattle.std.specs.Prelude.{◌≡◌, refl}
 use Rattle.orc_rules.specs.declared.value.Value.TheVariants.{Number, Truth, Signal}
 use Rattle.orc_env.specs.declared.names.Bound.{Bound}
@@ -6,7 +6,7 @@ use Rattle.orc_env.specs.declared.names.Bound.TheVariants.{Is, Cell, Void}
 use Rattle.orc_env.specs.declared.stored.Put.{Put}
 use Rattle.orc_env.specs.declared.stored.Put.TheVariants as put
 
--- what is put for a name that is stored
+-- the meaning that is stored so
 abbrev pub bound_in : Put → Bound
 bound_in (put.Number n) = Is (Number n)
 bound_in (put.Truth b) = Is (Truth b)
@@ -22,7 +22,7 @@ put_for (Is Signal) = put.Signal
 put_for (Cell c) = put.Cell c
 put_for Void = put.Void
 
--- what is stored is the same again
+-- a meaning that was read and stored again is stored as it was
 pub is_again : (p : Put) → put_for (bound_in p) ≡ p
 is_again (put.Number n) = refl
 is_again (put.Truth b) = refl

@@ -1,4 +1,4 @@
-// Scopes and cells, and what stands for an operand in them.
+//! Scopes and cells, and what an operand means in them.
 
 ghost use Rattle.std.specs.Prelude.{◌≡◌, true, false, IfSome, IfNone, Some, None, slice_get};
 ghost use Rattle.orc_rules.specs.declared.param.Operand.TheVariants.{Name};
@@ -9,15 +9,17 @@ use crate::stored::StoredScope;
 use orc_rules::param::Operand;
 use orc_rules::value::Value;
 
-/// What is put for a name.
+/// What a name means, and what has become of a cell.
 #[derive(Clone, Copy)]
 pub enum Bound {
     Is(Value),
+    /// A cell, by its number from 1. In the table of cells a cell that isn't bound has itself.
     Cell(u64),
+    /// It will never have a value.
     Void,
 }
 
-/// One more name in a scope: `outer` is the number of the scope that it extends. Scope 0 has no names; scope n is the n-th record.
+/// A scope: one name, with its meaning, more than in the scope with the number `outer`. Scope 0 has no names, and scope n is record n - 1 of a list.
 #[derive(Clone, Copy)]
 pub struct Scope {
     pub name: u32,
@@ -25,7 +27,7 @@ pub struct Scope {
     pub outer: u32,
 }
 
-// What a cell has become, an unbound one itself.
+// What has become of a cell: itself if it isn't bound, or isn't in the table. A value and void stay as they are.
 fn current(cells: &[Bound], bound: Bound) -> Bound
     ensures { result ≡ current cells.now bound }
 {
@@ -38,6 +40,7 @@ fn current(cells: &[Bound], bound: Bound) -> Bound
     }
 }
 
+// The record at a place, counted from 0. None if there are fewer records.
 fn scope_at(scopes: &[StoredScope], i: usize) -> Option<&StoredScope>
     ensures there { IfSome result (λ s. slice_get scopes.now i ≡ Some s.now) }
     ensures none { IfNone result (slice_get scopes.now i ≡ None) }
@@ -48,16 +51,18 @@ fn scope_at(scopes: &[StoredScope], i: usize) -> Option<&StoredScope>
     }
 }
 
-// What is put for a name in a scope.
+// What a name means in a scope. None if the scope has no such name.
 fn bound_of(scopes: &[StoredScope], cells: &[Bound], name: u32, scope: usize) -> Option<Bound>
     ensures bound { IfSome result (λ b. Means cells.now scopes.now scope (Name name) b) }
     ensures free { IfNone result (IsFree cells.now scopes.now scope (Name name)) }
 {
     let mut at = scope;
+    // Each scope extends one of a lower number, so scope 0 is reached in time; the bound makes the loop end for any list.
     for _step in 0..=scopes.len() {
         if at == 0 {
             return None;
         }
+        // Scope n is record n - 1.
         let inner = match scope_at(scopes, at - 1) {
             Some(inner) => inner,
             None => return None,
@@ -70,8 +75,8 @@ fn bound_of(scopes: &[StoredScope], cells: &[Bound], name: u32, scope: usize) ->
     None
 }
 
-/// What stands for an operand in a scope: a value, a cell that isn't bound, or void. None for a name that isn't bound there. It looks at no
-/// more scopes than the name lies inside of.
+/// What an operand means in a scope: a value, a cell that isn't bound, or void. None for a name that the scope doesn't have. The clauses promise this
+/// of scopes of which each extends an earlier one. The time grows with the number of scopes from this one outwards to the one that adds the name.
 pub fn meaning(
     scopes: &[StoredScope],
     cells: &[Bound],
@@ -87,7 +92,8 @@ pub fn meaning(
     }
 }
 
-/// Whether the operands are these values in a scope, as many and in this order.
+/// Whether the operands mean these values in a scope, as many and in this order: not if one of them is a cell that isn't bound, void, or a name that
+/// the scope doesn't have. The clauses promise this of scopes of which each extends an earlier one.
 pub fn are_arguments(
     scopes: &[StoredScope],
     cells: &[Bound],
@@ -98,7 +104,7 @@ pub fn are_arguments(
     ensures are { result ≡ true → AreArguments cells.now scopes.now scope operands.now args.now }
     ensures others { result ≡ false → AreOthers cells.now scopes.now scope operands.now args.now }
 {
-    // It recurses over the arguments of one call, which are `MOST_ARGUMENTS` at most.
+    // It recurses once an argument of one call, `MOST_ARGUMENTS` times at most.
     match operands {
         [] => args.is_empty(),
         [operand, operands @ ..] => match args {

@@ -1,4 +1,4 @@
-//! Scopes as they are stored.
+//! Scopes as they are stored, in 24 bytes.
 
 ghost use Rattle.std.specs.Prelude.{◌≡◌, ◌≤◌, ◌^◌, IfOk, OnErr};
 
@@ -8,7 +8,7 @@ use std::alloc::AllocError;
 use std::marker::Model;
 use std::mem::size_of;
 
-// What is put for a name, in one enum, so that it takes 16 bytes.
+// A `Bound` with its value in one enum and not in two, so that it takes 16 bytes.
 #[derive(Clone, Copy)]
 enum Put {
     Number(i64),
@@ -18,7 +18,7 @@ enum Put {
     Void,
 }
 
-/// A scope as it is stored, in 24 bytes.
+/// A scope as it is stored, in 24 bytes. A contract sees it as the `Scope` that it stands for.
 #[derive(Clone, Copy)]
 pub struct StoredScope {
     name: u32,
@@ -36,13 +36,14 @@ impl Model for StoredScope {
 
     ghost view = { λ s. record { name = s.name; bound = bound_in s.put; outer = s.outer } };
 
+    // `Copy` needs it: how a `Scope` is stored is a function of it.
     ghost inverse = { λ s. record { name = s.name; outer = s.outer; put = put_for s.bound } };
 
     ghost inverse_ok = { λ s h. λ i. record { name = s.name; outer = s.outer; put = is_again s.put i } };
 }
 
 impl StoredScope {
-    /// The scope stored.
+    /// This scope, stored.
     #[inline(always)]
     pub fn new(scope: Scope) -> StoredScope
         ensures { result ≡ scope }
@@ -61,7 +62,7 @@ impl StoredScope {
         }
     }
 
-    /// The name that it adds.
+    /// The name that it adds, as a variable's number.
     #[inline(always)]
     pub fn name(&self) -> u32
         ensures { result ≡ self.now.name }
@@ -69,7 +70,7 @@ impl StoredScope {
         self.name
     }
 
-    /// What is put for the name.
+    /// What the name means: if it is a cell, perhaps one that has been bound since.
     #[inline(always)]
     pub fn bound(&self) -> Bound
         ensures { result ≡ self.now.bound }
@@ -92,7 +93,7 @@ impl StoredScope {
     }
 }
 
-/// The number of a scope, as one that extends it keeps it. The error is refused memory: there is no room for a number of over 32 bits.
+/// The number of a scope in 32 bits, as a scope that extends it stores it. The error is that it has over 32 bits, which counts as refused memory.
 #[inline(always)]
 pub fn outer_number(scope: usize) -> Result<u32, AllocError>
     ensures number { IfOk result (λ outer. outer ≡ scope) }
