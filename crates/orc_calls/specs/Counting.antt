@@ -8,7 +8,7 @@ use Rattle.orc_rules.specs.declared.value.Found.{Found}
 use Rattle.orc_rules.specs.Sites.{Site, values_eq, find, is_scripted}
 use Rattle.orc_rules.specs.Timed.{CallMade, nth_of}
 
--- numbers from 0 on, negative ones, truth values, `signal`
+-- the kind of a value: a number from 0 on, a negative one, a truth value, `signal`
 abbrev pub kind_of : Value → ℕ
 kind_of (Number (pos n)) = 0
 kind_of (Number (negsuc n)) = 1
@@ -21,6 +21,7 @@ amount_of (Number n) = unsigned_abs n
 amount_of (Truth b) = cond b 1 0
 amount_of Signal = 0
 
+-- two numbers for each value: its kind, and which of its kind it is
 abbrev pub words_of : List Value → List ℕ
 words_of [] = []
 words_of (v ∷ vs) = kind_of v ∷ amount_of v ∷ words_of vs
@@ -29,7 +30,7 @@ words_of (v ∷ vs) = kind_of v ∷ amount_of v ∷ words_of vs
 abbrev pub key : ℕ → List Value → List ℕ
 key m args = m ∷ words_of args
 
--- a key as a map has it, with what stands there
+-- an entry of the map: a key, and which call is the next one
 abbrev pub entry_of : Vec ℕ × ℕ → List ℕ × ℕ
 entry_of e = (e.0.items, e.1)
 
@@ -37,19 +38,19 @@ entry_of e = (e.0.items, e.1)
 abbrev pub nth_in : List (List ℕ × ℕ) → ℕ → List Value → ℕ
 nth_in counts m args = unwrap_or (lookup (bytes_eq (key m args)) counts) 1
 
--- one more call of site m with these arguments is counted
+-- one more call of site m with these arguments is counted, and no other
 abbrev pub CountsOne : ℕ → List Value → List (List ℕ × ℕ) → List (List ℕ × ℕ) → Type 0
 CountsOne m args counts counts' = (n : ℕ) (others : List Value) → nth_in counts' n others ≡ cond (nat_eq n m && values_eq others args) (suc (nth_in counts n others)) (nth_in counts n others)
 
--- of the calls that were made those which scripts answer are counted
+-- the counts are those of the calls that were made, for each site that a script answers
 abbrev pub AreCounted : List Site → List (List ℕ × ℕ) → List CallMade → Type 0
 AreCounted sites counts calls = (m : ℕ) (args : List Value) → is_scripted sites m ≡ true → nth_in counts m args ≡ nth_of m args calls
 
--- where the calls that were made are counted, they are so with one more call of this site with these arguments
+-- if the calls that were made are counted before, they are counted afterwards with one more call of this site with these arguments
 abbrev pub CountsCall : List Site → ℕ → List Value → List (List ℕ × ℕ) → List (List ℕ × ℕ) → Type 0
 CountsCall sites m args counts counts' = (calls : List CallMade) (c : CallMade) → c.site ≡ m → c.args ≡ args → AreCounted sites counts calls → AreCounted sites counts' (c ∷ calls)
 
--- the table's word on the next call of a site with these arguments, after the calls that are counted
+-- the table's answer to the next call of a site with these arguments, after the calls that are counted
 abbrev pub NextFound : List Site → List (List ℕ × ℕ) → ℕ → List Value → Found → Type 0
 NextFound sites counts m args found = (calls : List CallMade) → AreCounted sites counts calls → found ≡ find sites m args (nth_of m args calls)
 

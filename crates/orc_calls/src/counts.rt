@@ -11,10 +11,11 @@ use std::collections::HashMap;
 use std::hash::{BuildHasherDefault, FoldHasher};
 use std::marker::Model;
 
-/// Which call the next one is of a site with the same arguments, from 1, by their key; 1 where there is no such key. Only the calls of sites
-/// that scripts answer are counted, since no other site's answers depend on it. Which calls of a run are counted is `AreCounted`.
+/// How many calls there were of each site with the same arguments. Only the calls of sites that scripts answer are counted, since no other site's
+/// answers depend on it (`AreCounted`).
 #[derive(Drop)]
 pub struct Counts {
+    // By the key of a site with its arguments: which such call is the next one, from 1. Without a key it is the first.
     next: HashMap<Vec<u64>, u64, BuildHasherDefault<FoldHasher>>,
     alloc: Global,
 }
@@ -31,17 +32,17 @@ impl Model for Counts {
     ghost invariant = { λ c. (words : List ℕ) → 1 ≤ unwrap_or (lookup (bytes_eq words) (map entry_of c.next.entries)) 1 };
 }
 
-/// The next call of a site with the same arguments.
+/// The next call of a site with some arguments.
 #[derive(Clone, Copy)]
 pub struct NextCall {
-    /// Which call of the site with these arguments it is, from 1; 1 where no script answers the site.
+    /// Which call of the site with these arguments it is, from 1. If no script answers the site it is always 1.
     pub nth: u64,
-    /// What the table of sites says of it.
+    /// The table's answer to it and its delay, or that there will be none.
     pub found: Found,
 }
 
 impl Counts {
-    /// No calls.
+    /// No call is counted yet.
     pub fn new(alloc: Global) -> Counts
         ensures { result ≡ [] }
     {
@@ -51,7 +52,7 @@ impl Counts {
         }
     }
 
-    /// The same counts once more. The error is refused memory.
+    /// A copy. The error is refused memory.
     pub fn copy(&self) -> Result<Counts, AllocError>
         ensures { IfOk result (λ c. c ≡ self.now) }
     {
@@ -63,7 +64,7 @@ impl Counts {
     }
 
     // Which call of a site with these arguments the next one is, from 1; 1 for a site whose calls aren't counted.
-    // Not inlined: the key's room would be cleared at each call of a site, counted or not.
+    // Not inlined: a caller would clear the key's 272 bytes at each call of a site, counted or not.
     #[inline(never)]
     fn nth(&self, site: u32, args: &Args) -> u64
         ensures nth { result ≡ nth_in self.now site args.now }
@@ -77,8 +78,8 @@ impl Counts {
         }
     }
 
-    /// The next call of a site with these arguments: which one it is and what the table of sites says of it. The counts are looked into once
-    /// where a script answers the site, and else not at all.
+    /// The next call of a site with these arguments: which one it is, and the table's answer to it. Nothing is counted yet (`add`). The counts are
+    /// looked up once if a script answers the site, and else not at all.
     #[inline(always)]
     pub fn next_call(&self, answers: &Answers, site: u32, args: &Args) -> NextCall
         ensures nth { NextNth answers.now.sites self.now site args.now result.nth }
@@ -96,8 +97,8 @@ impl Counts {
         }
     }
 
-    /// A call of a site with these arguments is made: it is counted where the table has a script for the site. The error is refused memory;
-    /// nothing changes then.
+    /// Counts a call of a site with these arguments if a script answers the site; else nothing changes. The error is refused memory, and then nothing
+    /// changes either.
     pub fn add(&mut self, answers: &Answers, site: u32, args: &Args) -> Result<(), AllocError>
         ensures added { OnOk result (CountsCall answers.now.sites site args.now self.old self.new) }
         ensures refused { OnErr result (self.new ≡ self.old) }
@@ -108,7 +109,7 @@ impl Counts {
         Ok(())
     }
 
-    // One more call of a site with these arguments. Where memory is refused nothing changes.
+    // Counts one more call of a site with these arguments. The error is refused memory, and then nothing changes.
     #[inline(never)]
     fn add_one(&mut self, site: u32, args: &Args) -> Result<(), AllocError>
         ensures added { OnOk result (CountsOne site args.now self.old self.new) }
@@ -125,6 +126,7 @@ impl Counts {
             return Ok(());
         }
         let words = Vec::from_slice(self.alloc, key.as_slice())?;
+        // This was the first such call, so the next one is the second.
         self.next.insert(words, 2)?;
         Ok(())
     }

@@ -6,8 +6,8 @@ ghost use Rattle.orc_calls.specs.Due.{due_by, DueNow, IsNotDue};
 use orc_rules::entry::RuleFault;
 use orc_rules::value::{Answer, Found};
 
-/// The time at which a call is due, in units of logical time: that of the call and its delay. None where the table says never, or the sum is
-/// over the greatest time, 2^64 - 1.
+/// The logical time at which a call is due: the time at which it was made, and the delay of its answer. None if it is never due: the table says
+/// never, or the sum is over the greatest time, 2^64 - 1.
 pub fn due_time(found: Found, made_at: u64) -> Option<u64>
     ensures { result ≡ due_by made_at found }
 {
@@ -17,8 +17,8 @@ pub fn due_time(found: Found, made_at: u64) -> Option<u64>
     }
 }
 
-/// Whether a call is due now with this answer. The error is Answer where the table says another one or never, and Time where the call is due
-/// at another time or over the greatest one.
+/// Checks that a call is due now with this answer, by what the table said when it was made. The error is Answer if the table said another answer or
+/// never, and Time if the call is due at another time, or never since the sum is over the greatest time.
 pub fn check_due(found: Found, made_at: u64, answer: Answer, now: u64) -> Result<(), RuleFault>
     ensures due { IfOk result (λ _. DueNow made_at found answer now) }
     ensures not_due { IfErr result (λ r. IsNotDue made_at found answer now r) }

@@ -1,4 +1,4 @@
-// A site with its arguments as a list of numbers, by which a map finds them.
+//! A site with its arguments as a list of numbers, which is a key in a hash table.
 
 ghost use Rattle.std.specs.Prelude.{◌≡◌, ◌<◌, ◌++◌, ◌∷◌, [], length};
 ghost use Rattle.orc_calls.specs.Counting.{kind_of, amount_of, key};
@@ -6,9 +6,11 @@ ghost use Rattle.orc_calls.specs.Counting.{kind_of, amount_of, key};
 use orc_rules::value::{Args, Value};
 use std::marker::Model;
 
-/// The site, and two numbers for each argument: its kind, and which of its kind it is.
+/// The site, and two numbers for each argument: its kind, and which value of its kind it is. Two calls have one key exactly if their sites and
+/// arguments are the same.
 #[derive(Drop)]
 pub(crate) struct Key {
+    // 33: the site, and two numbers for each of 16 arguments (`MOST_ARGUMENTS`). From `len` on there is only filling.
     words: [u64; 33],
     len: usize,
 }
@@ -23,6 +25,7 @@ impl Model for Key {
     ghost invariant = { λ k. k.len ≤ 33 };
 }
 
+// A value's kind: 0 for a number from 0 on, 1 for a negative one, 2 for a truth value, 3 for `signal`.
 fn kind_of(value: Value) -> u64
     ensures { result ≡ kind_of value }
 {
@@ -33,6 +36,7 @@ fn kind_of(value: Value) -> u64
     }
 }
 
+// Which value of its kind it is: a number without its sign, or 1 for `true`.
 fn amount_of(value: Value) -> u64
     ensures { result ≡ amount_of value }
 {
@@ -44,7 +48,7 @@ fn amount_of(value: Value) -> u64
 }
 
 impl Key {
-    /// No numbers.
+    /// An empty list, which is no call's key.
     #[inline(always)]
     pub(crate) fn new() -> Key
         ensures { result ≡ [] }
@@ -56,7 +60,7 @@ impl Key {
     }
 
     /// Becomes the key of a site with these arguments.
-    // Written where it stays: a key that was handed out would be copied twice, all of its 272 bytes.
+    // `&mut self` and no result: a key that is returned would be copied twice, all of its 272 bytes.
     pub(crate) fn write(&mut self, site: u32, args: &Args)
         ensures { self.new ≡ key site args.now }
     {
@@ -68,6 +72,7 @@ impl Key {
         }
     }
 
+    // Adds a number at the end.
     fn push(&mut self, word: u64)
         requires { length self.old < 33 }
         ensures { self.new ≡ self.old ++ word ∷ [] }

@@ -1,4 +1,5 @@
-//! The calls of a run: how many there were of each site with the same arguments, what the table of sites says of the next one, and when a call is due.
+//! The calls of a run: how many there were of each site with the same arguments, what the table of sites answers to the next one, and when a call is
+//! due.
 #![tactic(auto)]
 
 mod counts;
