@@ -5,6 +5,7 @@ use Rattle.orc_rules.specs.declared.entry.RuleFault.TheVariants as reason
 use Rattle.orc_rules.specs.declared.entry.State.{State}
 use Rattle.orc_rules.specs.declared.entry.State.TheVariants as state
 
+-- the word of a reason
 abbrev pub reason_word : RuleFault → List ℕ
 reason_word reason.Cancel = codes "Cancel"
 reason_word reason.Mark = codes "Mark"
@@ -21,6 +22,7 @@ abbrev pub reason_status : RuleFault → ℕ
 reason_status reason.Memory = 5
 reason_status r = 1
 
+-- the word of a state
 abbrev pub state_word : State → List ℕ
 state_word state.Halted = codes "Halted"
 state_word state.Quiet = codes "Quiet"

@@ -13,11 +13,13 @@ has_halted (opened f c g) = has_halted f && has_halted g
 has_halted (seq f x g) = has_halted f
 has_halted _ = false
 
+-- whether some parameter is void
 abbrev pub has_void : List Param → Bool
 has_void [] = false
 has_void (Void ∷ ps) = true
 has_void (_ ∷ ps) = has_void ps
 
+-- whether a parameter has become a value or void
 abbrev pub is_ready : Param → Bool
 is_ready (Is v) = true
 is_ready Void = true
@@ -41,7 +43,7 @@ abbrev pub one : Bool → ℕ
 one true = 1
 one false = 0
 
--- how many tokens can move, and how many sides have halted that hold up a cell or an otherwise
+-- how many tokens can move, and how many sides have halted whose cell isn't lost yet or whose otherwise hasn't gone on to its right side
 abbrev pub movable : List Definition → Marked → ℕ
 movable defs ended = 0
 movable defs (token s t) = one (can_move defs t)

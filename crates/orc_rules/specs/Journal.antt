@@ -21,7 +21,7 @@ pub record Place : Type 0 where
   pub cells : List ℕ
   pub to_cancel : List ℕ
 
--- the same without the marks
+-- the place without the marks
 abbrev pub moment : Place → Moment
 moment p = record { term = erase p.marked; now = p.now; calls = p.calls; cells = p.cells; to_cancel = p.to_cancel }
 

@@ -11,6 +11,7 @@ use Rattle.orc_rules.specs.declared.lines.Line.{Line as CodeLine}
 use Rattle.orc_rules.specs.declared.lines.TheConstants.{MOST_SHAPES}
 use Rattle.orc_rules.specs.Sites.{Line, value_eq, matches}
 
+-- a line of the code, as the definitions have it
 abbrev pub line_of : CodeLine → Line
 line_of l = record { patterns = l.patterns.items; answers = l.answers.items }
 
@@ -41,6 +42,7 @@ filled (true ∷ bs) (v ∷ vs) = Some v ∷ filled bs vs
 filled (false ∷ bs) (v ∷ vs) = None ∷ filled bs vs
 filled _ _ = []
 
+-- whether a shape is one of these
 abbrev pub is_among : List Bool → List (Vec Bool) → Bool
 is_among shape shapes = list_any (λ s. pointwise beq s.items shape) shapes
 
@@ -56,6 +58,7 @@ place_in places shape args = if length shape == length args then found (filled s
 abbrev pub Indexes : List Line → List (Vec (Option Value) × ℕ) → List (Vec Bool) → Type 0
 Indexes ls places shapes = length shapes ≤ MOST_SHAPES → ((ps : List (Option Value)) → found ps places ≡ first_place ls ps) × AllByRecursion (λ l. is_among (shape_of l.patterns) shapes ≡ true) ls
 
+-- the place that patterns have; if they have none, the new place if b
 abbrev pub or_place : Option ℕ → Bool → ℕ → Option ℕ
 or_place (Some k) b place = Some k
 or_place None b place = if b then Some place else None

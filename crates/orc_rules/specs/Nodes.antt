@@ -45,6 +45,7 @@ HasParts n (Prune f x g) = (f < n) × (g < n)
 HasParts n (Other f g) = (f < n) × (g < n)
 HasParts n _ = Unit {0}
 
+-- each node is behind its parts
 abbrev pub ArePartsFirst : List TermNode → Type 0
 ArePartsFirst nodes = (i : ℕ) (n : TermNode) → slice_get nodes i ≡ Some n → HasParts i n
 
@@ -73,6 +74,7 @@ code l i = code_of l.lists l.nodes i
 abbrev pub source : Listing → Term
 source l = code l l.root
 
+-- a definition with the term of its body
 abbrev pub definition_of : Listing → Routine → Definition
 definition_of l r = record { params = r.params; body = code l r.body }
 

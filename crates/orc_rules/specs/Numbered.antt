@@ -14,6 +14,7 @@ pub data Name : Type 0 where
   call : ℕ → Name
   cell : ℕ → Name
 
+-- whether two names are the same
 abbrev pub name_eq : Name → Name → Bool
 name_eq (mark s) (mark r) = nat_eq s r
 name_eq (call k) (call j) = nat_eq k j

@@ -21,15 +21,19 @@ use Rattle.orc_rules.specs.Journal.{Place, moment, next, IsVoid, Leads}
 abbrev pub Stands : Marked → Marked → Type 0
 Stands x m = (cs : List ℕ) × Replaces x x m cs m
 
+-- a token has the mark s
 abbrev pub HasToken : Place → ℕ → Type 0
 HasToken p s = (t : Term) × Stands (token s t) p.marked
 
+-- call k is pending
 abbrev pub HasCall : Place → ℕ → Type 0
 HasCall p k = Stands (in_call k) p.marked
 
+-- the pruning with cell c is open
 abbrev pub HasCell : Place → ℕ → Type 0
 HasCell p c = (f g : Marked) × Stands (in_opened f c g) p.marked
 
+-- the otherwise s is there: its left side was entered and has published nothing yet
 abbrev pub HasOther : Place → ℕ → Type 0
 HasOther p s = (f : Marked) × (g : Term) × Stands (in_other s f g) p.marked
 

@@ -17,6 +17,7 @@ value_eq (Truth a) (Truth b) = cond a b (not b)
 value_eq Signal Signal = true
 value_eq _ _ = false
 
+-- as many values, and each the same
 abbrev pub values_eq : List Value → List Value → Bool
 values_eq [] [] = true
 values_eq (v ∷ vs) (w ∷ ws) = value_eq v w && values_eq vs ws
@@ -42,15 +43,16 @@ abbrev pub site_named : List (List ℕ) → List ℕ → Option ℕ
 site_named [] name = None
 site_named (n ∷ ns) name = if bytes_eq n name then Some 0 else option_map suc (site_named ns name)
 
--- no byte of a name is an opening bracket
+-- no byte of a name is a `(`, whose code is 40
 abbrev pub IsBare : List ℕ → Type 0
 IsBare name = AllByRecursion (λ c. c ≢ 40) name
 
--- names that differ from one another, each with no bracket
+-- names that differ from one another, none with a `(`
 abbrev pub AreNames : List (List ℕ) → Type 0
 AreNames [] = Unit {0}
 AreNames (n ∷ ns) = IsBare n × (site_named ns n ≡ None) × AreNames ns
 
+-- each site has a name, no two have the same, and a site's number fits 32 bits
 abbrev pub IsTable : Table → Type 0
 IsTable t = AreNames t.names × (length t.names ≡ length t.sites) × (length t.names < 2 ^ 32)
 
@@ -82,7 +84,7 @@ abbrev pub names_with : List (List ℕ) → List ℕ → List (List ℕ)
 names_with [] name = name ∷ []
 names_with (n ∷ ns) name = if bytes_eq n name then n ∷ ns else n ∷ names_with ns name
 
--- the sites of these names, where the line is one of the site of that name
+-- the sites ss, which have these names, with one more line for the site of that name; a new site behind them if there is none
 abbrev pub sites_with : List (List ℕ) → List Site → List ℕ → Line → List Site
 sites_with [] ss name l = ss ++ scripted (l ∷ []) ∷ []
 sites_with (n ∷ ns) [] name l = []
@@ -92,13 +94,15 @@ sites_with (n ∷ ns) (s ∷ ss) name l = if bytes_eq n name then site_with s l 
 abbrev pub with_line : Table → List ℕ → Line → Table
 with_line t name l = record { names = names_with t.names name; sites = sites_with t.names t.sites name l }
 
+-- this value without delay
 abbrev pub at_once : Value → Found
 at_once v = After (Gives v) 0
 
+-- halt without delay
 abbrev pub halts : Found
 halts = After Halt 0
 
--- a number of 64 signed bits at once, else halt
+-- the number at once if it fits 64 signed bits, else halt
 abbrev pub in_range : ℤ → Found
 in_range z = cond (int_le (negsuc (2 ^ 63 - 1)) z && int_lt z (pos (2 ^ 63))) (at_once (Number z)) halts
 
@@ -132,11 +136,12 @@ nth_answer (a ∷ []) n = a
 nth_answer (a ∷ b ∷ more) zero = a
 nth_answer (a ∷ b ∷ more) (suc n) = nth_answer (b ∷ more) n
 
--- the first line that matches
+-- the answer of the first line that matches, to the call with the number n from 0; halt if none does
 abbrev pub line_answer : List Line → List Value → ℕ → Found
 line_answer [] args n = halts
 line_answer (l ∷ ls) args n = cond (matches l.patterns args) (nth_answer l.answers n) (line_answer ls args n)
 
+-- the answer of a site to the nth call, from 1
 abbrev pub site_answer : Option Site → List Value → ℕ → Found
 site_answer None args nth = halts
 site_answer (Some (built_in b)) args nth = built_in_answer b args
@@ -147,7 +152,7 @@ abbrev pub last_of_line : List Line → List Value → ℕ
 last_of_line [] args = 0
 last_of_line (l ∷ ls) args = cond (matches l.patterns args) (length l.answers - 1) (last_of_line ls args)
 
--- that of a site
+-- the number, from 0, of the last answer of a site; 0 for a built-in one
 abbrev pub last_answer : Option Site → List Value → ℕ
 last_answer None args = 0
 last_answer (Some (built_in b)) args = 0
@@ -157,6 +162,7 @@ last_answer (Some (scripted ls)) args = last_of_line ls args
 abbrev pub find : List Site → ℕ → List Value → ℕ → Found
 find sites site args nth = site_answer (slice_get sites site) args nth
 
+-- whether there is a site and a script answers it
 abbrev pub is_script : Option Site → Bool
 is_script (Some (scripted ls)) = true
 is_script _ = false

@@ -26,7 +26,7 @@ IsInner (loses c) = Unit {0}
 IsInner silent = Unit {0}
 IsInner (opens c) = Unit {0}
 
--- the same step as one inside the right side of cell c: a call's label gains the cell, the outermost first
+-- a step of the right side of cell c, as the whole pruning does it: a call's label gains the cell, the outermost first
 abbrev pub within : ℕ → Act → Act
 within c (calls k m args cs) = calls k m args (c ∷ cs)
 within c (returns k a) = returns k a

@@ -8,6 +8,7 @@ use Rattle.orc_rules.specs.declared.value.Value.TheVariants.{Number, Truth, Sign
 use Rattle.orc_rules.specs.declared.entry.Entry.{Entry}
 use Rattle.orc_rules.specs.declared.entry.Entry.TheVariants.{End, Fork, Seq, Other, Def, Void, Open, Send, Call, Return, ReturnHalt, Bind, Lost, Right, Publish, Tick, Cancel}
 
+-- the text of a value
 abbrev pub value_text : Value → List ℕ
 value_text (Number z) = signed_decimal z
 value_text (Truth true) = codes "true"
@@ -24,13 +25,15 @@ abbrev pub arguments : List Value → List ℕ
 arguments [] = codes "()"
 arguments (v ∷ vs) = codes "(" ++ value_text v ++ closing vs
 
--- fields, each after one space
+-- a field: a space and a number
 abbrev pub number : ℕ → List ℕ
 number n = codes " " ++ decimal n
 
+-- a space and a value
 abbrev pub value : Value → List ℕ
 value v = codes " " ++ value_text v
 
+-- a space, the name of a site and the arguments of its call
 abbrev pub call : List (List ℕ) → ℕ → List Value → List ℕ
 call names site args = codes " " ++ slice_index_or names site [] ++ arguments args
 
@@ -67,7 +70,7 @@ abbrev pub output : List Value → List ℕ
 output [] = []
 output (v ∷ vs) = value_text v ++ (codes "\n" ++ output vs)
 
--- a site in it is one that the table has
+-- if it is a call, the table has its site
 abbrev pub IsNamed : List (List ℕ) → Entry → Type 0
 IsNamed names (Call s k m args) = m < length names
 IsNamed names e = Unit {0}
@@ -82,7 +85,7 @@ abbrev pub AreValues : List Value → Type 0
 AreValues [] = Unit {0}
 AreValues (v ∷ vs) = IsValue v × AreValues vs
 
--- what has a line: numbers of 64 bits, a site of the table, no more arguments than a call may have
+-- an entry that has a line: its numbers fit 64 bits, the table has its site, and it has no more arguments than a call may have
 abbrev pub Fits : List (List ℕ) → Entry → Type 0
 Fits names (End s) = s < 2 ^ 64
 Fits names (Fork s a b) = (s < 2 ^ 64) × ((a < 2 ^ 64) × (b < 2 ^ 64))

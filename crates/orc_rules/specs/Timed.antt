@@ -9,7 +9,7 @@ use Rattle.orc_rules.specs.Term.{Term, Definition, Halted, pending_of}
 use Rattle.orc_rules.specs.Sites.{Site, find, values_eq}
 use Rattle.orc_rules.specs.Step.{Act, calls, returns, binds, opens, Used, Step}
 
--- what a run goes by: the program's definitions, the table of sites, and whether cancels are recorded
+-- what a run depends on: the program's definitions, the table of sites, and whether cancels are recorded
 pub record Context : Type 0 where
   pub definitions : List Definition
   pub sites : List Site
@@ -23,7 +23,7 @@ pub record CallMade : Type 0 where
   pub nth : ℕ
   pub at : ℕ
 
--- where a run stands: its term, the time, the calls made and the cells opened, the newest first, and the calls whose cancel is due
+-- where a run is: its term, the time, the calls made and the cells opened, the newest first, and the calls whose cancel is due
 pub record Moment : Type 0 where
   pub term : Term
   pub now : ℕ
@@ -34,6 +34,7 @@ pub record Moment : Type 0 where
 abbrev pub number_of : CallMade → ℕ
 number_of c = c.number
 
+-- the numbers that a run has used so far
 abbrev pub used : Moment → Used
 used s = record { calls = map number_of s.calls; cells = s.cells }
 
@@ -60,7 +61,7 @@ pub record IsDue (sites : List Site) (made : List CallMade) (k : ℕ) (a : Answe
   pub sum : t ≡ by.at + delay
   pub fits : t < 2 ^ 64
 
--- a return stands at the call's due time and has the table's answer
+-- if it is a return: the call is due now, with this answer
 abbrev pub IsTimely : List Site → Moment → Act → Type 0
 IsTimely sites s (returns k a) = IsDue sites s.calls k a s.now
 IsTimely sites s _ = Unit {0}

@@ -16,7 +16,7 @@ abbrev pub AreTaken : Context → Place → List Entry → Place → Type 0
 AreTaken x p [] q = p ≡ q
 AreTaken x p (e ∷ es) q = (mid : Place) × IsTaken x p e mid × AreTaken x mid es q
 
--- where a run stands
+-- the state that a run is in
 abbrev pub IsAt : Context → Place → State → Type 0
 IsAt x p HasHalted = Halted (erase p.marked)
 IsAt x p Quiet = IsQuiet x (moment p)
