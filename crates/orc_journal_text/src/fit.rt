@@ -9,7 +9,7 @@ use orc_rules::value::Value;
 
 // Facts for the proof of `has_line`; nothing in them runs. `Fits` asks of each field that it fits 64 bits, which its type already says.
 
-// A u64 is below 2^64.
+// A u64 is below 2^64: the prover knows that once a function looks at the number.
 fn number_fits(number: u64)
     ensures { number < 2 ^ 64 }
 {

@@ -106,7 +106,9 @@ fn next_entry<'a>(
     answers: &Answers,
     entry: &mut Entry,
 ) -> Option<&'a [u8]>
+    // The bytes read are the entry's line.
     ensures found { IfSome result (λ r. (bytes.now ≡ line answers.now.names entry.new ++ r.now) × Fits answers.now.names entry.new × (is_of version entry.new ≡ true)) }
+    // If the line of an entry of that version is at the front, that entry is read.
     ensures only { (e : EntryOf) (rest : List ℕ) → Fits answers.now.names e → is_of version e ≡ true → bytes.now ≡ line answers.now.names e ++ rest → Gives {Y = EntryOf × List ℕ} (λ r. (entry.new, r.now)) result (Some (e, rest)) }
 {
     let rest = read_entry(bytes, answers, entry)?;
@@ -121,7 +123,9 @@ impl<R: Read + Drop> Lines<R> {
     /// Begins to read a text: reads its header, and no entry. The fault is J1 if there is no header, or J3 if the text is also longer than a journal
     /// may be; J4 if memory is refused; or `Unread`.
     pub fn new(alloc: Global, source: R) -> Result<Lines<R>, LinesFault>
+        // One piece of the text has come, and none of its entries was read.
         ensures begun { IfOk result (λ l. (piece : List ℕ) × Consumes (R.remaining source) l.coming.left piece × ((names : List (List ℕ)) → HasRead names piece l [])) }
+        // The fault is that of the whole text, whatever names the sites have.
         ensures fault { IfErr result (λ f. (names : List (List ℕ)) → IsLinesFault names (R.remaining source) [] f) }
     {
         let Ok(mut pieces) = Pieces::new(alloc, source) else {
@@ -169,8 +173,11 @@ impl<R: Read + Drop> Lines<R> {
     // nothing is used, but `entry` may have become another one. The fault is J3: the entry is one too many.
     fn take_line(&mut self, answers: &Answers, entry: &mut Entry) -> Result<bool, LinesFault>
         ensures version { self.new.version ≡ self.old.version }
+        // It reads nothing from the reader.
         ensures left { self.new.coming.left ≡ self.old.coming.left }
+        // true: after the entries that were read so far this one was read.
         ensures more { IfOk result (λ some. some ≡ true → (text : List ℕ) (es : List EntryOf) → HasRead answers.now.names text self.old es → HasRead answers.now.names text self.new (es ++ entry.new ∷ [])) }
+        // Fewer bytes are left to read: a loop that calls it ends.
         ensures less { IfOk result (λ some. some ≡ true → to_read self.new < to_read self.old) }
         ensures none { IfOk result (λ some. some ≡ false → (self.new ≡ self.old) × NoLine answers.now.names self.old.version self.old.coming.rest) }
         ensures same { OnErr result (self.new ≡ self.old) }
@@ -196,9 +203,11 @@ impl<R: Read + Drop> Lines<R> {
     /// `Unread`. At a fault `entry` may have become another one.
     pub fn next(&mut self, answers: &Answers, entry: &mut Entry) -> Result<bool, LinesFault>
         ensures version { self.new.version ≡ self.old.version }
+        // true: a piece more of the text has come, perhaps an empty one, and of all that has come one entry more was read.
         ensures more { IfOk result (λ some. some ≡ true → (piece : List ℕ) × Consumes self.old.coming.left self.new.coming.left piece × ((text : List ℕ) (es : List EntryOf) → HasRead answers.now.names text self.old es → HasRead answers.now.names (text ++ piece) self.new (es ++ entry.new ∷ []))) }
         ensures less { IfOk result (λ some. some ≡ true → to_read self.new < to_read self.old) }
         ensures same { IfOk result (λ some. some ≡ false → self.new.read ≡ self.old.read) }
+        // false: with what has come by then, the text is that of the journal of the entries read.
         ensures end { IfOk result (λ some. some ≡ false → (piece : List ℕ) × MayCome self.old.coming.left piece × ((text : List ℕ) (es : List EntryOf) → HasRead answers.now.names text self.old es → IsJournal answers.now.names (text ++ piece) (record { version = self.old.version; entries = es }))) }
         ensures fault { IfErr result (λ f. (text : List ℕ) (es : List EntryOf) → HasRead answers.now.names text self.old es → IsLinesFault answers.now.names self.old.coming.left text f) }
     {
@@ -212,7 +221,7 @@ impl<R: Read + Drop> Lines<R> {
                 if self.pieces.rest().is_empty() {
                     return Ok(false);
                 }
-                // The text ends within a line.
+                // What is left is no line, or only the beginning of one.
                 return Err(line_fault(self.read));
             }
         }
@@ -221,6 +230,7 @@ impl<R: Read + Drop> Lines<R> {
 
     /// Reads the entries that are left and keeps none of them: only whether the text is a journal's is asked. The fault is that of `next`.
     pub fn finish(&mut self, answers: &Answers) -> Result<(), LinesFault>
+        // The text is that of a journal that begins with the entries read so far.
         ensures end { IfOk result (λ _. (piece : List ℕ) × MayCome self.old.coming.left piece × ((text : List ℕ) (es : List EntryOf) → HasRead answers.now.names text self.old es → (more : List EntryOf) × IsJournal answers.now.names (text ++ piece) (record { version = self.old.version; entries = es ++ more }))) }
         ensures fault { IfErr result (λ f. (text : List ℕ) (es : List EntryOf) → HasRead answers.now.names text self.old es → IsLinesFault answers.now.names self.old.coming.left text f) }
     {

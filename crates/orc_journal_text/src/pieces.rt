@@ -122,6 +122,7 @@ impl<R: Read + Drop> Pieces<R> {
     /// Reads some more of the text: true if bytes came, false at its end. The fault is J3 if more has come already than the longest text has, J4 if
     /// memory is refused, or `Unread`; then what has come stays.
     pub(crate) fn fill(&mut self) -> Result<bool, LinesFault>
+        // One piece more has come. It is empty only at the end of the text.
         ensures came { IfOk result (λ some. (piece : List ℕ) × Consumes self.old.left self.new.left piece × (self.new ≡ comes_with self.old piece self.new.left) × (some ≡ true → 0 < length piece) × (some ≡ false → (piece ≡ []) × IsAtEnd self.new.left)) }
         ensures fits { OnOk result (self.old.came ≤ LONGEST_JOURNAL) }
         ensures few { self.new.came < LONGEST_JOURNAL + 2 ^ 63 }
@@ -155,6 +156,7 @@ impl<R: Read + Drop> Pieces<R> {
     /// all of the text was used. The fault is J3 if more comes than the longest text has, J4 if memory is refused, or `Unread`.
     pub(crate) fn skip(&mut self) -> Result<(), LinesFault>
         requires { 0 < length self.old.rest }
+        // All of the text has come, and it is no longer than the longest journal.
         ensures end { IfOk result (λ _. (more : List ℕ) × MayCome self.old.left more × (self.old.came + length more ≤ LONGEST_JOURNAL)) }
         ensures fault { IfErr result (λ f. (more : List ℕ) × MayCome self.old.left more × IsUnfilled (self.old.came + length more) f) }
         ensures first { self.new.rest ≡ take 1 self.old.rest }

@@ -1,5 +1,5 @@
 //! Reading one entry from its line. Each function takes what it reads from the front of the bytes, and gives the bytes behind it; None if something
-//! else is there.
+//! else is there. Its contract says that it returns what the definition of its name in `specs/Reading` gives.
 
 ghost use Rattle.std.specs.Prelude.{◌≡◌, ◌++◌, ◌∷◌, [], List, length, option_map, ℕ, IfSome, Some, true, slice_get, ◌<◌, ◌≤◌, ◌^◌, ◌-◌, negsuc};
 ghost use Rattle.orc_rules.specs.Digits.{Gives, digits_at};
@@ -318,8 +318,9 @@ fn kind_at(bytes: &[u8]) -> Option<(Kind, &[u8])>
     }
 }
 
-// The fields of an entry are put into `entry`, which is overwritten in its place: it has room for the arguments of a call, and to copy it takes longer
-// than to read a line. Each kind has a function of its own, since one for all would clear the room of all their fields at each line.
+// A function for each kind, which puts the entry whose fields are at the front into `entry`; the letters are those of `Entry`. `entry` is overwritten
+// in its place: it has room for the arguments of a call, and to copy it takes longer than to read a line. One function for all kinds would clear the
+// room of all their fields at each line.
 
 #[inline(never)]
 #[tactic(auto, unfolding(crate::specs::Reading::fields_at, crate::specs::Reading::call_field))]
