@@ -4,6 +4,7 @@ ghost use Rattle.std.specs.Prelude.{◌≡◌};
 ghost use Rattle.orc_rules.specs.Kinds.{word_of};
 
 /// The kind of an entry: one for each form of a line. A `return` with a value and one that halts are two forms.
+/// The variants are those of `Entry`, whose comments show the lines.
 #[derive(Clone, Copy, PartialEq, Eq, Debug)]
 pub enum Kind {
     End,
