@@ -35,6 +35,7 @@ pub struct Journal {
     pub(crate) tables: Tables,
 }
 
+// Contracts see the version and the entries for which the rows stand. All that a row names is in the tables.
 impl Model for Journal {
     ghost Value = { Written };
 

@@ -59,6 +59,7 @@ pub(crate) struct Tables {
     pub(crate) wides: Vec<Parts>,
 }
 
+// Contracts see the three lists.
 impl Model for Tables {
     ghost use Rattle.orc_journal.specs.Rows.{Contents};
 
