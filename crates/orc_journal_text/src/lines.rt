@@ -49,6 +49,7 @@ pub struct Lines<R: Read + Drop> {
     counted: u64,
 }
 
+// Each entry that was read had one byte at least, so no more were read than bytes came: `read` can't overflow.
 impl<R: Read + Drop> Model for Lines<R> {
     ghost use Rattle.std.specs.Prelude.{◌≤◌, ◌<◌, ◌+◌, ◌^◌, length};
     ghost use Rattle.orc_rules.specs.declared.limits.TheConstants.{LONGEST_JOURNAL, MOST_ENTRIES};

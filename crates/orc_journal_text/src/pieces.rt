@@ -30,6 +30,7 @@ pub(crate) struct Pieces<R: Read + Drop> {
     came: usize,
 }
 
+// Contracts see the bytes that came and aren't used, those that the reader still has, if they are known, and how many came.
 impl<R: Read + Drop> Model for Pieces<R> {
     ghost use Rattle.std.specs.Prelude.{◌≤◌, ◌<◌, ◌-◌, ◌+◌, ◌^◌, length, slice_range};
     ghost use Rattle.orc_rules.specs.declared.limits.TheConstants.{LONGEST_JOURNAL};

@@ -1,5 +1,6 @@
 //! Reading one entry from its line. Each function takes what it reads from the front of the bytes, and gives the bytes behind it; None if something
-//! else is there. Its contract says that it returns what the definition of its name in `specs/Reading` gives.
+//! else is there. Its contract says that it returns what the definition of its name in `specs/Reading` gives; a line `#[tactic(..)]` only tells the
+//! prover which of these definitions to unfold.
 
 ghost use Rattle.std.specs.Prelude.{◌≡◌, ◌++◌, ◌∷◌, [], List, length, option_map, ℕ, IfSome, Some, true, slice_get, ◌<◌, ◌≤◌, ◌^◌, ◌-◌, negsuc};
 ghost use Rattle.orc_rules.specs.Digits.{Gives, digits_at};

@@ -19,6 +19,7 @@ pub(crate) struct Tail {
     start: usize,
 }
 
+// Contracts see the text.
 impl Model for Tail {
     ghost use Rattle.std.specs.Prelude.{◌≤◌, List, ℕ, drop};
     ghost use Rattle.orc_journal_text.specs.declared.tail.TheConstants.{ROOM};

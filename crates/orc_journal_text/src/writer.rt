@@ -70,6 +70,7 @@ fn push_arguments(out: &mut Vec<u8>, args: &[Value]) -> Result<(), AllocError>
 }
 
 // Appends a space, the site's name and the arguments in brackets, as ` Add(1, 2)`.
+// The attribute names a lemma that the prover needs.
 #[tactic(auto, using(std::proofs::lemmas::Option::get_or_from_slice_get))]
 fn push_call(out: &mut Vec<u8>, site: u32, args: &Args, answers: &Answers) -> Result<(), AllocError>
     requires { site < length answers.now.names }
