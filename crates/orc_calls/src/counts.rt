@@ -20,6 +20,7 @@ pub struct Counts {
     alloc: Global,
 }
 
+// Contracts see the keys, each with its next call; that is 1 or more, also for a key that isn't there.
 impl Model for Counts {
     ghost use Rattle.std.specs.Prelude.{ℕ, ◌≤◌, List, map, bytes_eq, unwrap_or};
     ghost use Rattle.std.specs.Map.{lookup};

@@ -15,6 +15,7 @@ pub(crate) struct Key {
     len: usize,
 }
 
+// Contracts see a list of numbers.
 impl Model for Key {
     ghost use Rattle.std.specs.Prelude.{ℕ, ◌≤◌, List, take};
 

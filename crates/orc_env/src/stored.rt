@@ -18,7 +18,7 @@ enum Put {
     Void,
 }
 
-/// A scope as it is stored, in 24 bytes. A contract sees it as the `Scope` that it stands for.
+/// A scope as it is stored, in 24 bytes.
 #[derive(Clone, Copy)]
 pub struct StoredScope {
     name: u32,
@@ -28,6 +28,7 @@ pub struct StoredScope {
 
 const _: () = prove!(size_of::<StoredScope>() == 24);
 
+// Contracts see the scope that is stored.
 impl Model for StoredScope {
     ghost use Rattle.orc_env.specs.Stored.{bound_in, put_for, is_again};
     ghost use Rattle.orc_env.specs.declared.names.Scope.{Scope};
