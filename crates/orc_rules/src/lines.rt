@@ -54,6 +54,7 @@ impl Drop for Lines {
     }
 }
 
+// Contracts see a list of lines, and nothing of the index.
 impl Model for Lines {
     ghost use Rattle.std.specs.Prelude.{◌<◌, List, length};
     ghost use Rattle.orc_rules.specs.declared.lines.TheConstants.{FEW_LINES};
@@ -67,6 +68,7 @@ impl Model for Lines {
     ghost invariant = { λ l. FEW_LINES < length l.lines.items → Indexes (lines_of l.lines.items) l.index.places.entries l.index.shapes.items };
 }
 
+// Contracts see a list of patterns.
 impl Model for Patterns {
     ghost use Rattle.std.specs.Prelude.{◌≤◌, List, Option, take};
     ghost use Rattle.orc_rules.specs.declared.limits.TheConstants.{MOST_ARGUMENTS};
@@ -176,6 +178,7 @@ impl Patterns {
 
     // Adds the patterns of this shape that match these arguments: an argument's value where the shape has one, else `_`. Each line of the shape that
     // matches a call of these arguments has these patterns.
+    // The attribute names a lemma that the prover needs.
     #[tactic(auto, using(crate::proofs::Places::none_filled))]
     fn fill(&mut self, shape: &[bool], args: &[Value])
         requires { length self.old + length args.now ≤ MOST_ARGUMENTS }

@@ -35,6 +35,7 @@ pub struct Operands {
     len: usize,
 }
 
+// Contracts see a list of operands.
 impl Model for Operands {
     ghost Value = { List Argument };
 

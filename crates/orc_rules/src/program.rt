@@ -36,6 +36,7 @@ pub struct Terms {
     lists: Vec<Operands>,
 }
 
+// Contracts see the nodes and the lists of operands.
 impl Model for Terms {
     ghost Value = { Listed };
 
@@ -101,6 +102,7 @@ pub struct Program {
     source: usize,
 }
 
+// Contracts see all of it as one `Listing`, whose terms are `code`, `source` and `definitions` of `specs/Nodes`.
 impl Model for Program {
     ghost Value = { Listing };
 
