@@ -159,6 +159,7 @@ impl Tables {
     #[inline(never)]
     fn add_wide(&mut self, parts: Parts) -> Result<Row, AllocError>
         ensures names { IfOk result (λ r. Names self.new.wides r parts) }
+        // Refused or not, the tables only gain parts at the end.
         ensures grown { (more : List PartsOf) × (self.new ≡ grown self.old [] [] more) }
     {
         let at = self.wides.len();
@@ -170,6 +171,7 @@ impl Tables {
     #[inline(always)]
     fn add_parts(&mut self, parts: Parts) -> Result<Row, AllocError>
         ensures names { IfOk result (λ r. Names self.new.wides r parts) }
+        // Refused or not, the tables only gain parts at the end.
         ensures grown { (more : List PartsOf) × (self.new ≡ grown self.old [] [] more) }
     {
         if let Some(row) = narrow(parts) {
