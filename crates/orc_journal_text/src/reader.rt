@@ -321,7 +321,7 @@ fn kind_at(bytes: &[u8]) -> Option<(Kind, &[u8])>
 
 // A function for each kind, which puts the entry whose fields are at the front into `entry`; the letters are those of `Entry`. `entry` is overwritten
 // in its place: it has room for the arguments of a call, and to copy it takes longer than to read a line. One function for all kinds would clear the
-// room of all their fields at each line.
+// room of all their fields at each line. Only a call's line has the name of a site: the other contracts hold for any `names`.
 
 #[inline(never)]
 #[tactic(auto, unfolding(crate::specs::Reading::fields_at, crate::specs::Reading::call_field))]
