@@ -1,4 +1,4 @@
--- What the numbered nodes of a marked term mean.
+-- What the numbered nodes of a marked term mean. A place is the number of a node; in every definition p is that of the node above.
 use Rattle.std.specs.Prelude.{◌≡◌, ◌≤◌, ◌+◌, ℕ, List, [], ◌∷◌, cond, nat_eq, Option, Some, None, slice_get}
 use Rattle.orc_rules.specs.declared.param.Param.TheVariants as is
 use Rattle.orc_term.specs.declared.arena.Tip.{Tip}
@@ -20,6 +20,7 @@ pub data Tree : Type 0 where
   one : ℕ → Single → Tree → Tree
   two : ℕ → Double → Tree → Tree → Tree
 
+-- the number of a tree's top node
 abbrev pub place : Tree → ℕ
 place (leaf i k) = i
 place (one i k t) = i
@@ -35,16 +36,18 @@ count u (leaf i k) = hits u i
 count u (one i k t) = hits u i + count u t
 count u (two i k t v) = hits u i + (count u t + count u v)
 
--- the scopes that a node names are there
+-- the scope that a node names is there, with n scopes
 abbrev pub TipIn : ℕ → Tip → Type 0
 TipIn n (Token s f e) = e ≤ n
 TipIn n _ = Unit {0}
 
+-- the same of a node with one part
 abbrev pub SingleIn : ℕ → Single → Type 0
 SingleIn n (Feeds x g e) = e ≤ n
 SingleIn n (Entered m g e) = e ≤ n
 SingleIn n Passed = Unit {0}
 
+-- node i is of this kind, and below node p
 abbrev pub at : List Node → ℕ → ℕ → Kind → Type 0
 at nodes p i k = slice_get nodes i ≡ Some (record { kind = k; parent = p })
 
@@ -54,10 +57,12 @@ Holds nodes n p (leaf i k) = at nodes p i (Leaf k) × TipIn n k
 Holds nodes n p (one i k t) = at nodes p i (One k (place t)) × SingleIn n k × Holds nodes n i t
 Holds nodes n p (two i k t u) = at nodes p i (Two k (place t) (place u)) × Holds nodes n i t × Holds nodes n i u
 
+-- 0 where a node is gone, else 1
 abbrev pub living_kind : Kind → ℕ
 living_kind (Leaf Gone) = 0
 living_kind _ = 1
 
+-- the same of a node that may not be there, 0 where it isn't
 abbrev pub living : Option Node → ℕ
 living (Some n) = living_kind (Node.kind n)
 living None = 0
@@ -100,11 +105,13 @@ pub data Frame : Type 0 where
   on_left : ℕ → Double → Tree → Frame
   on_right : ℕ → Double → Tree → Frame
 
+-- a frame with its hole filled by a tree
 abbrev pub fit : Frame → Tree → Tree
 fit (on_one i k) t = one i k t
 fit (on_left i k u) t = two i k t u
 fit (on_right i k u) t = two i k u t
 
+-- the frames around a tree, from the innermost on
 abbrev pub plug : List Frame → Tree → Tree
 plug [] t = t
 plug (f ∷ k) t = plug k (fit f t)

@@ -4,6 +4,7 @@ use Rattle.orc_term.specs.declared.arena.Node.{Node}
 use Rattle.orc_term.specs.declared.arena.Kind.TheVariants.{One, Two}
 use Rattle.orc_term.specs.Arena.{place, hits, count, at, SingleIn, Holds, Frame, on_one, on_left, on_right}
 
+-- the number of a frame's node
 abbrev pub place_of : Frame → ℕ
 place_of (on_one i s) = i
 place_of (on_left i d t) = i

@@ -40,6 +40,7 @@ abbrev pub call_of : Kind → List ℕ
 call_of (Leaf (Waits k)) = k ∷ []
 call_of _ = []
 
+-- the same of a node that may not be there
 abbrev pub call_at : Option Node → List ℕ
 call_at (Some n) = call_of (Node.kind n)
 call_at None = []

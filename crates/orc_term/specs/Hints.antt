@@ -45,6 +45,7 @@ restless (Leaf (Token s f e)) = true
 restless (Leaf (Bears s v)) = true
 restless _ = false
 
+-- the number is in the list
 abbrev pub IsListed : ℕ → List ℕ → Type 0
 IsListed i list = (k : ℕ) × (k < length list) × (slice_index_or list k 0 ≡ i)
 
@@ -61,10 +62,11 @@ pub record Follows (x y : Node) : Type 0 where
   pub parent : y.parent ≡ x.parent
   pub passes : (i : ℕ) → lets x.kind i ≡ true → lets y.kind i ≡ true
 
+-- node i can become y, which may have a token
 abbrev pub CanWake : List Node → ℕ → Node → Type 0
 CanWake nodes i y = (x : Node) → slice_get nodes i ≡ Some x → Follows x y
 
--- the same, and it has a token only if it had one
+-- node i can become y, which has a token only if node i had one
 abbrev pub CanBecome : List Node → ℕ → Node → Type 0
 CanBecome nodes i y = (x : Node) → slice_get nodes i ≡ Some x → Follows x y × (restless y.kind ≡ true → restless x.kind ≡ true)
 

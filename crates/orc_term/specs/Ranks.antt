@@ -6,6 +6,7 @@ use Rattle.orc_term.specs.declared.arena.Kind.TheVariants.{Leaf, One, Two}
 use Rattle.orc_term.specs.declared.ranks.Ranks.{Ranks}
 use Rattle.orc_term.specs.Arena.{Tree, leaf, one, two, place, Holds}
 
+-- a node's rank, 0 where there is no node
 abbrev pub rank : List ℕ → ℕ → ℕ
 rank ranks i = slice_index_or ranks i 0
 
@@ -15,6 +16,7 @@ IsPart (Leaf k) i = ⊥
 IsPart (One s p) i = p ≡ i
 IsPart (Two d p q) i = (p ≡ i) ⊎ (q ≡ i)
 
+-- the number is in the list
 abbrev pub IsIn : ℕ → List ℕ → Type 0
 IsIn j [] = ⊥
 IsIn j (i ∷ list) = (j ≡ i) ⊎ IsIn j list
@@ -25,9 +27,11 @@ pub record AreRankedBut (nodes : List Node) (ranks : List ℕ) (most : ℕ) (lat
   pub low : (i : ℕ) → rank ranks i ≤ most
   pub each : (j i : ℕ) (y x : Node) → slice_get nodes j ≡ Some y → slice_get nodes i ≡ Some x → x.parent ≡ j → IsPart y.kind i → IsIn j late ⊎ (rank ranks j < rank ranks i)
 
+-- the ranks are right at every node
 abbrev pub AreRanked : List Node → List ℕ → ℕ → Type 0
 AreRanked nodes ranks most = AreRankedBut nodes ranks most []
 
+-- the ranks are right, where they say that they are kept
 abbrev pub AreKept : List Node → Ranks → Type 0
 AreKept nodes r = r.are_kept ≡ true → AreRanked nodes r.numbers.items r.most
 

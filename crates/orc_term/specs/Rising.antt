@@ -28,7 +28,7 @@ act_of Whole v = publishes v
 act_of (Fed i) v = silent
 act_of (Bound c i) v = binds c v
 
--- what is around the part that it comes to
+-- what is around the part that it comes to: what takes it, and all above
 abbrev pub rest : List Frame → List Frame
 rest [] = []
 rest (on_one i (Feeds x g e) ∷ k) = on_one i (Feeds x g e) ∷ k
@@ -38,7 +38,7 @@ rest (on_left i d t ∷ k) = rest k
 rest (on_right i Both t ∷ k) = rest k
 rest (on_right i (Side c) t ∷ k) = on_right i (Side c) t ∷ k
 
--- the part that it comes to, before it
+-- the part that it comes to, before it: below what takes it
 abbrev pub under : List Frame → Tree → Tree
 under [] t = t
 under (on_one i (Feeds x g e) ∷ k) t = t
@@ -48,7 +48,7 @@ under (on_left i d u ∷ k) t = under k (two i d t u)
 under (on_right i Both u ∷ k) t = under k (two i Both u t)
 under (on_right i (Side c) u ∷ k) t = t
 
--- the same after it: each otherwise between is left
+-- the part that it comes to, after it: each otherwise between has lost its right side
 abbrev pub risen : List Frame → Tree → Tree
 risen [] t = t
 risen (on_one i (Feeds x g e) ∷ k) t = t
@@ -58,10 +58,12 @@ risen (on_left i d u ∷ k) t = risen k (two i d t u)
 risen (on_right i Both u ∷ k) t = risen k (two i Both u t)
 risen (on_right i (Side c) u ∷ k) t = t
 
+-- what a node is once a publication has gone through it: an otherwise loses its right side
 abbrev pub pass_kind : Kind → Kind
 pass_kind (One (Entered n g e) i) = One Passed i
 pass_kind k = k
 
+-- the same, below the same node
 abbrev pub pass_node : Node → Node
 pass_node x = record { kind = pass_kind (Node.kind x); parent = Node.parent x }
 

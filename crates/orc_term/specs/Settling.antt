@@ -59,6 +59,7 @@ Settles nodes flags i b flags' = (halts : List Bool) (n : ℕ) (k : List Frame) 
 abbrev pub parent_at : List Node → ℕ → ℕ
 parent_at nodes i = Node.parent (slice_index_or nodes i nowhere)
 
+-- a node's kind, gone where there is no node
 abbrev pub kind_at : List Node → ℕ → Kind
 kind_at nodes i = Node.kind (slice_index_or nodes i nowhere)
 

@@ -23,6 +23,7 @@ is_side (One (Entered m g e) i) p = nat_eq i p
 is_side (Two (Side c) i j) p = nat_eq j p
 is_side _ p = false
 
+-- whether the part at a place is a side
 abbrev pub is_side_at : List Node → ℕ → Bool
 is_side_at nodes p = is_side (kind_at nodes (parent_at nodes p)) p
 

@@ -40,6 +40,7 @@ parent_in (flat.Passed p i) = p
 parent_in (flat.Both p i j) = p
 parent_in (flat.Side p c i j) = p
 
+-- the node that is stored
 abbrev pub node_in : Flat → Node
 node_in f = record { kind = kind_in f; parent = parent_in f }
 

@@ -1,4 +1,5 @@
-//! The sides that may have halted.
+//! The sides that may have halted. A *side* is the right side of an opened pruning, or the left side of an entered otherwise: once it has halted a
+//! `lost` or a `right` ends it.
 
 ghost use Rattle.std.specs.Prelude.{◌≡◌, ◌∷◌, ℕ, false, [], IfOk, Some, slice_get};
 ghost use Rattle.orc_term.specs.Sides.{MayBe, AreKnown, is_side, is_side_at, has_ended, is_set, HasEnded};
@@ -9,10 +10,11 @@ use std::alloc::{AllocError, Global};
 use std::collections::VecDeque;
 use std::marker::Model;
 
-/// The places of the sides that may have halted: of all that have, and of some that haven't, or that stand no more. Where memory for a
-/// place was refused, all places are meant from then on.
+/// The nodes of all sides that have halted, and some other nodes. The question for a halted side looks at these alone. If memory for one was
+/// refused, all nodes are candidates from then on.
 #[derive(Drop)]
 pub struct Candidates {
+    /// In the order in which they were added.
     places: VecDeque<u32>,
     all: bool,
 }
@@ -25,7 +27,7 @@ impl Model for Candidates {
     ghost view = { λ c. record { all = c.all; listed = c.places.items } };
 }
 
-/// Whether a node's part is a side that ends it once it has halted.
+/// Whether node `part` is a side of a node of this kind.
 pub fn is_side(kind: Kind, part: usize) -> bool
     ensures { result ≡ is_side kind part }
 {
@@ -44,7 +46,7 @@ pub(crate) fn is_side_at(nodes: &Nodes, place: usize) -> bool
     is_side(nodes.node_at(parent as usize).kind, place)
 }
 
-/// Whether a place has a flag that is set.
+/// Whether a node has a flag that is set; false where there is no node, unlike `flag_at`.
 fn is_set(flags: &Vec<bool>, place: usize) -> bool
     ensures { result ≡ is_set flags.now.items place }
 {
@@ -84,7 +86,7 @@ impl Candidates {
         }
     }
 
-    /// The same places once more. The error is refused memory.
+    /// A copy of the candidates. The error is refused memory.
     pub fn copy(&self, alloc: Global) -> Result<Candidates, AllocError>
         ensures { IfOk result (λ c. c ≡ self.now) }
     {
@@ -95,7 +97,7 @@ impl Candidates {
         })
     }
 
-    /// A place may be that of a side which has halted.
+    /// Adds a node that may be a side which has halted. If memory for it is refused, all nodes are candidates from then on.
     pub fn add(&mut self, place: u32)
         ensures added { MayBe self.new place }
         ensures kept { (p : ℕ) → MayBe self.old p → MayBe self.new p }
@@ -133,7 +135,8 @@ impl Candidates {
     }
 }
 
-/// A side that has halted, the first that became a candidate. The candidates before it, which haven't, go.
+/// The node of a side that has halted, and None if there is none: of several the one that was added first, or the least where all are candidates.
+/// Candidates before it are taken out; it stays one.
 pub fn ended_side(nodes: &Nodes, flags: &Vec<bool>, candidates: &mut Candidates) -> Option<usize>
     requires { AreKnown nodes.now.items flags.now.items candidates.old }
     ensures ends { HasEnded nodes.now.items flags.now.items result }
@@ -146,6 +149,7 @@ pub fn ended_side(nodes: &Nodes, flags: &Vec<bool>, candidates: &mut Candidates)
         if has_ended(nodes, flags, place) {
             return Some(place);
         }
+        // It is added again when it halts.
         candidates.drop_first();
     }
     None

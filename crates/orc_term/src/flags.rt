@@ -1,4 +1,4 @@
-//! Flags of the nodes that have halted.
+//! Flags of the nodes that have halted, by their numbers. A flag that is set stays set.
 
 ghost use Rattle.std.specs.Prelude.{◌≡◌, vec_len, [], ◌<◌, ◌≤◌, ◌∷◌, ◌++◌, ℕ, ◌&&◌, ◌⊎◌, true, false, List, Bool, length, slice_set, vec_capacity, IfSome, IfNone, slice_index_or};
 ghost use Rattle.orc_term.specs.Settling.{flag, inner_flag, HaltsNext, EndsAt, Settles};
@@ -38,6 +38,7 @@ fn inner_halts(flags: &Vec<bool>, kind: Kind) -> bool
 {
     match kind {
         Kind::Leaf(_) => false,
+        // Once its left side has halted, its right side starts in its place.
         Kind::One(Single::Entered(_, _, _), _) => false,
         Kind::One(_, part) => flag_at(flags, part as usize),
         Kind::Two(_, left, right) => {
@@ -53,7 +54,7 @@ pub fn both(left: bool, right: bool) -> bool
     left && right
 }
 
-/// The node above, where it halts with its parts and has no flag yet.
+/// The node above, if its flag isn't set yet and it has halted by the flags of its parts.
 fn halts_next(nodes: &Nodes, flags: &Vec<bool>, place: u32) -> Option<u32>
     ensures next { IfSome result (λ p. HaltsNext nodes.now.items flags.now.items place p) }
     ensures last { IfNone result (EndsAt nodes.now.items flags.now.items place) }
@@ -70,7 +71,7 @@ fn halts_next(nodes: &Nodes, flags: &Vec<bool>, place: u32) -> Option<u32>
     }
 }
 
-/// Adds the flag of a new place, which is a candidate where the flag is set.
+/// Adds the flag of a new node. If it is set, the node is a candidate: a side that may have halted.
 #[inline(always)]
 pub fn push_flag(flags: &mut Vec<bool>, candidates: &mut Candidates, place: u32, flag: bool)
     requires { vec_len flags.old < vec_capacity flags.old }
@@ -85,7 +86,7 @@ pub fn push_flag(flags: &mut Vec<bool>, candidates: &mut Candidates, place: u32,
     }
 }
 
-/// Sets the flag of a place, which is a candidate where it is a side.
+/// Sets the flag of a node. If the node is a side, it becomes a candidate.
 fn set_flag(nodes: &Nodes, flags: &mut Vec<bool>, candidates: &mut Candidates, place: u32)
     ensures items { flags.new.items ≡ slice_set flags.old.items place true }
     ensures capacity { vec_capacity flags.new ≡ vec_capacity flags.old }
@@ -98,7 +99,8 @@ fn set_flag(nodes: &Nodes, flags: &mut Vec<bool>, candidates: &mut Candidates, p
     }
 }
 
-/// Flags a node that hadn't halted, where `halted` is true, and each node above it that halts with it. Sides among them are candidates.
+/// If `halted` is true, sets the flag of a node that hadn't halted, and of each node above it that halts with it. Sides among them become
+/// candidates. Otherwise nothing changes.
 #[inline(always)]
 pub fn settle(
     nodes: &Nodes,

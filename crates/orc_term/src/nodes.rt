@@ -1,4 +1,4 @@
-//! The nodes of a marked term by their numbers.
+//! The nodes of a marked term by their numbers, with three indexes that save time: hints, the list of restless nodes, and ranks.
 
 ghost use Rattle.std.specs.Prelude.{◌≡◌, ◌∷◌, ◌++◌, [], ◌+◌, ◌≤◌, ◌<◌, ◌^◌, List, length, slice_get, slice_set, slice_index_or, vec_len, vec_capacity, IfOk, IfSome};
 ghost use Rattle.orc_term.specs.Grafting.{relink};
@@ -13,18 +13,21 @@ use crate::slot::Slot;
 use std::alloc::{AllocError, Global};
 use std::marker::Model;
 
-/// The nodes, each with a hint: itself, or a node above it to which all on the way let through what it publishes, and stay as they are.
-/// A walk upward goes from hint to hint, so that what it costs doesn't grow with the number of `|` on its way.
-/// What asks whether a token can move goes over the list of restless nodes, so that what it costs doesn't grow with what is over or waits for a call.
-/// How deep the nodes nest is told by their ranks.
+/// The nodes of a marked term. Their numbers count from 0, and a node keeps its number.
 #[derive(Drop)]
 pub struct Nodes {
     items: Vec<Slot>,
+    /// Each node's *hint*: itself, or a node above it such that this one and all between let through what is published below them, and stay as they
+    /// are. A walk upward goes from hint to hint, so that its cost doesn't grow with the number of `|` on its way.
     hints: Vec<u32>,
-    /// The numbers of all nodes with tokens, which can move now or later, and of some without any more.
+    /// The numbers of all *restless* nodes, those with a token, which can move now or later, and of some without. The question whether a token can
+    /// move looks at these alone, so that its cost doesn't grow with what has ended or waits for a call.
     restless: Vec<u32>,
+    /// They bound how deep the nodes nest.
     ranks: Ranks,
 }
+
+// What contracts see of it: the nodes, and `room`, how many `push_within` can still add.
 
 impl Model for Nodes {
     ghost use Rattle.std.specs.Prelude.{◌-◌, ◌^◌, min, vec_len, vec_capacity};
@@ -38,7 +41,7 @@ impl Model for Nodes {
     ghost invariant = { λ n. AreHints n.items.items n.hints.items × AreListed n.items.items n.restless.items × AreKept n.items.items n.ranks };
 }
 
-/// The node of that number, one that is gone where there is none.
+/// The node of that number; where there is none, one that is gone, with parent 0.
 #[inline(always)]
 pub fn item(items: &Vec<Slot>, i: usize) -> Node
     ensures { result ≡ slice_index_or items.now.items i nowhere }
@@ -52,7 +55,7 @@ pub fn item(items: &Vec<Slot>, i: usize) -> Node
     }
 }
 
-// Writes a node that is there.
+// Writes a node that is there; at another number nothing changes.
 #[inline(always)]
 fn set_item(items: &mut Vec<Slot>, i: usize, node: Node)
     ensures items { items.new.items ≡ slice_set items.old.items i node }
@@ -64,7 +67,8 @@ fn set_item(items: &mut Vec<Slot>, i: usize, node: Node)
     }
 }
 
-// Whether a node lets through what its part publishes, and stays as it is.
+// Whether a node lets through what its part publishes, and stays as it is. One that is gone has no parts; true of it means that any node can become
+// gone and the hints that go past it stay right.
 fn lets_through(kind: Kind, part: u32) -> bool
     ensures { result ≡ lets kind part }
 {
@@ -72,6 +76,7 @@ fn lets_through(kind: Kind, part: u32) -> bool
         Kind::Leaf(Tip::Gone) => true,
         Kind::One(Single::Passed, _) => true,
         Kind::Two(Double::Both, _, _) => true,
+        // What the right side publishes is bound to the cell.
         Kind::Two(Double::Side(_), left, _) => left == part,
         _ => false,
     }
@@ -87,7 +92,7 @@ fn is_restless(kind: Kind) -> bool
     }
 }
 
-// Takes those out of a list that can't any more.
+// Takes out of a list the nodes that have no token any more.
 fn keep_restless(items: &Vec<Slot>, list: &mut Vec<u32>)
     ensures { AreListed items.now.items list.old.items → AreListed items.now.items list.new.items }
 {
@@ -101,8 +106,8 @@ fn keep_restless(items: &Vec<Slot>, list: &mut Vec<u32>)
     }
 }
 
-// Room for two more in a list of those with tokens. A full list forgets the others first, and grows only where more than a quarter of it stays: so
-// it is as long as four times the tokens at one time at most, and not as there were nodes.
+// Room for two more in a list of those with tokens. A full list drops the others first, and grows only if it is full without them too. So its length
+// depends on the most tokens at one time, not on how many nodes there were.
 fn reserve_listed(items: &Vec<Slot>, list: &mut Vec<u32>) -> Result<(), AllocError>
     ensures listed { AreListed items.now.items list.old.items → AreListed items.now.items list.new.items }
     ensures room { IfOk result (λ _. vec_len list.new + 2 ≤ vec_capacity list.new) }
@@ -112,6 +117,7 @@ fn reserve_listed(items: &Vec<Slot>, list: &mut Vec<u32>) -> Result<(), AllocErr
     }
     keep_restless(items, list);
     if list.len() < list.capacity() / 4 {
+        // Less than a quarter of four items or more is taken, so two more fit.
         return Ok(());
     }
     list.try_reserve(2)
@@ -127,7 +133,7 @@ fn hint_at(hints: &Vec<u32>, i: usize) -> usize
     }
 }
 
-// The same, as it is stored.
+// The hint of that number as it is stored, in 32 bits; the number itself where there is none.
 fn stored_hint(hints: &Vec<u32>, i: u32) -> u32
     ensures { result ≡ slice_index_or hints.now.items i i }
 {
@@ -148,7 +154,7 @@ fn set_hint(hints: &mut Vec<u32>, i: u32, hint: u32)
     }
 }
 
-// The hint of a node below `parent`, where it had none.
+// The hint of node `i` below `parent`: that of the parent where the parent lets through what the node publishes, otherwise the node itself.
 #[inline(always)]
 fn hint_below(items: &Vec<Slot>, hints: &Vec<u32>, i: u32, parent: u32) -> u32
     ensures { IsHintBelow items.now.items hints.now.items i parent result }
@@ -159,7 +165,7 @@ fn hint_below(items: &Vec<Slot>, hints: &Vec<u32>, i: u32, parent: u32) -> u32
     }
 }
 
-/// A node whose part `from` is now `to`.
+/// A node's kind with `to` in place of its part `from`, which one of its parts is.
 fn relinked(kind: Kind, from: u32, to: u32) -> Kind
     ensures { result ≡ relink kind from to }
 {
@@ -193,7 +199,7 @@ impl Nodes {
         })
     }
 
-    /// The same nodes once more. The error is refused memory.
+    /// A copy of the nodes with their indexes. It may have no room for more. The error is refused memory.
     pub fn copy(&self, alloc: Global) -> Result<Nodes, AllocError>
         ensures { IfOk result (λ n. n.items ≡ self.now.items) }
     {
@@ -222,7 +228,7 @@ impl Nodes {
         self.items.len()
     }
 
-    /// The number of the next node, to which one can be added.
+    /// The number of the next node. It and the one after it have 32 bits, since there is room for two.
     pub fn next_number(&self) -> u32
         requires { 2 ≤ self.now.room }
         ensures count { result ≡ length self.now.items }
@@ -257,15 +263,15 @@ impl Nodes {
         item(&self.items, i)
     }
 
-    /// A node's hint.
+    /// A node's hint: the node itself, or one above it up to which nothing takes a publication of the node or is changed by it.
     pub fn hint(&self, i: usize) -> usize
         ensures { IsAbove self.now.items i result }
     {
         hint_at(&self.hints, i)
     }
 
-    /// A node's hint goes on to that of the node above it, where that one lets through. Walks that do so at each hint on their way halve it for
-    /// those that come after them.
+    /// Replaces a node's hint by the hint of the node above it, if that one lets through what comes from below. Walks that do so at each hint on
+    /// their way halve the way for later ones, as in a union-find. Callers see no change.
     pub(crate) fn shorten(&mut self, i: u32)
         ensures { self.new ≡ self.old }
     {
@@ -276,14 +282,14 @@ impl Nodes {
         }
     }
 
-    /// The numbers of all nodes with tokens, which can move now or later, and of some without any more.
+    /// The numbers of all nodes with tokens, which can move now or later, and of some without. They are in no order, and a number may come twice.
     pub fn restless(&self) -> &Vec<u32>
         ensures { AreListed self.now.items result.now.items }
     {
         &self.restless
     }
 
-    /// At most so many nodes stand one below the other, under the one above all. None where that isn't known.
+    /// At most so many nodes are one below another under node 0. None while ranks aren't kept, after memory or a rank was refused.
     pub fn levels_below(&self) -> Option<usize>
         ensures { IfSome result (AreLevelsAtMost self.now.items) }
     {
@@ -294,21 +300,22 @@ impl Nodes {
         }
     }
 
-    /// Ranks all nodes again, by as small numbers as there are.
+    /// Looks at all nodes to give them the least ranks, so that `levels_below` is as small as ranks can make it; None if memory is
+    /// refused. The nodes stay.
     pub fn renew_ranks(&mut self)
         ensures { self.new ≡ self.old }
     {
         self.ranks.renew(&self.items);
     }
 
-    /// Forgets those that can't any more.
+    /// Takes out of the list of `restless` the nodes that have no token any more. The nodes stay.
     pub fn tidy(&mut self)
         ensures { self.new.items ≡ self.old.items }
     {
         keep_restless(&self.items, &mut self.restless);
     }
 
-    /// Memory for two more nodes, whose numbers have 32 bits.
+    /// Reserves memory for two more nodes, whose numbers have 32 bits. The error is refused memory, or that 32 bits are too few. The nodes stay.
     pub fn reserve(&mut self) -> Result<(), AllocError>
         ensures items { self.new.items ≡ self.old.items }
         ensures room { IfOk result (λ _. 2 ≤ self.new.room) }
@@ -320,7 +327,7 @@ impl Nodes {
         Ok(())
     }
 
-    /// Adds a node.
+    /// Adds a node, with the number `next_number`. Refused memory for its rank is no error: then `levels_below` is None until `renew_ranks`.
     #[inline(always)]
     pub fn push_within(&mut self, node: Node)
         requires { 1 ≤ self.old.room }
@@ -332,10 +339,11 @@ impl Nodes {
         self.ranks.add(&self.items, node);
         push_within(&mut self.items, Slot::new(node));
         push_within(&mut self.hints, hint);
+        // With a token or not; those without are taken out later.
         push_within(&mut self.restless, number);
     }
 
-    /// Writes a node that is there, and can move only if it could before.
+    /// Replaces a node by one below the same parent that lets through what it let through, and has a token only if it had one.
     #[inline(always)]
     pub fn write_node(&mut self, i: usize, node: Node)
         requires { CanBecome self.old.items i node }
@@ -346,7 +354,8 @@ impl Nodes {
         set_item(&mut self.items, i, node);
     }
 
-    /// Writes a node that is there and may move from now on.
+    /// Replaces a node by one below the same parent that lets through what it let through, and may have a token. It uses up room for one node, since
+    /// the list of restless nodes gets one more.
     #[inline(always)]
     pub fn wake(&mut self, i: u32, node: Node)
         requires room { 1 ≤ self.old.room }
@@ -358,7 +367,8 @@ impl Nodes {
         push_within(&mut self.restless, i);
     }
 
-    /// Puts a node, with all that is below it, below the `|` of number `both` in its place.
+    /// Puts the `|` of number `both`, whose left part is node `i`, in the place of node `i`, and node `i` with all that is below it under the `|`. No
+    /// hint changes, since a `|` lets everything through.
     #[inline(always)]
     pub fn lift(&mut self, i: u32, both: u32)
         requires { IsBeside self.old.items i both }

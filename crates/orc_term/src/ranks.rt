@@ -1,4 +1,4 @@
-//! Ranks of the nodes, which tell how many stand one below the other.
+//! Ranks of the nodes: each node has a greater one than its parent, so that the greatest rank is a bound for the levels below node 0.
 
 ghost use Rattle.std.specs.Prelude.{◌≡◌, ◌<◌, ◌≤◌, ◌∷◌, ◌++◌, [], true, ℕ, List, length, Some, slice_get, slice_set, slice_index_or, IfOk, IfSome};
 ghost use Rattle.orc_term.specs.Hints.{lifted, Follows};
@@ -12,22 +12,25 @@ use crate::nodes::item;
 use crate::slot::Slot;
 use std::alloc::{AllocError, Global};
 
-/// For each node a number that is greater than that of the node above it, while `are_kept` says so; none is greater than `most`.
-/// A node that is put in between takes a number that is free; where there is none, those below it become greater.
+/// The ranks of all nodes. A node that is put between two others takes a free rank between theirs; if there is none, those below get greater ranks.
 #[derive(Drop)]
 pub struct Ranks {
+    /// Each node's rank, by the node's number.
     pub numbers: Vec<u32>,
+    /// No rank is greater.
     pub most: u32,
+    /// False once memory or a rank of 32 bits was refused. Then nothing is known of the ranks until `renew`.
     pub are_kept: bool,
 }
 
 // How many numbers are left free above a node that comes below another, so that the first `|` that a send puts there costs nothing.
 const FREE: u32 = 1;
 
-// The most `|` above a node that are counted.
+// The most `|` above a node that are counted: no checked term has more levels.
 const LONGEST_QUEUE: u32 = 10_000;
 
-// How much greater a new node's number is than that of the node above it.
+// How much greater a new node's rank is than that of the node above it. The only new node with two parts is the `|` of a send, which takes the free
+// rank.
 fn step_below(kind: Kind) -> u32
     ensures { 0 < result }
 {
@@ -55,7 +58,7 @@ fn set_rank(numbers: &mut Vec<u32>, i: usize, rank: u32)
     }
 }
 
-// A number for a new node, where there is one.
+// A rank for a new node. None if it would have over 32 bits.
 #[inline(always)]
 fn rank_below(numbers: &Vec<u32>, node: Node) -> Option<u32>
     ensures { IfSome result (λ r. rank numbers.now.items (NodeOf.parent node) < r) }
@@ -63,7 +66,8 @@ fn rank_below(numbers: &Vec<u32>, node: Node) -> Option<u32>
     rank_at(numbers, node.parent as usize).checked_add(step_below(node.kind))
 }
 
-// Whether a part of node `number`, which is to come, doesn't stand below it yet.
+// Whether a part of node `number`, which is added next, doesn't name it as its parent yet. Only then is it free to have any rank: it gets a greater
+// one when it is added or lifted.
 #[inline(always)]
 fn stands_apart(items: &Vec<Slot>, number: usize, part: usize) -> bool
     ensures { result ≡ true → StandsApart items.now.items number part }
@@ -77,6 +81,7 @@ fn stands_apart(items: &Vec<Slot>, number: usize, part: usize) -> bool
     }
 }
 
+// Whether that holds of all parts of the node.
 #[inline(always)]
 fn stand_apart(items: &Vec<Slot>, number: usize, kind: Kind) -> bool
     ensures { result ≡ true → (i : ℕ) → IsPart kind i → StandsApart items.now.items number i }
@@ -91,7 +96,7 @@ fn stand_apart(items: &Vec<Slot>, number: usize, kind: Kind) -> bool
     }
 }
 
-// Whether a part that stands below a node has a greater number.
+// Whether a part that names node `above` as its parent has a greater rank.
 #[inline(always)]
 fn is_ranked_below(items: &Vec<Slot>, numbers: &Vec<u32>, above: usize, part: usize) -> bool
     ensures { result ≡ true → IsRankedBelow items.now.items numbers.now.items above part }
@@ -104,6 +109,7 @@ fn is_ranked_below(items: &Vec<Slot>, numbers: &Vec<u32>, above: usize, part: us
     }
 }
 
+// Whether that holds of all parts of the node.
 #[inline(always)]
 fn are_ranked_below(items: &Vec<Slot>, numbers: &Vec<u32>, above: usize, kind: Kind) -> bool
     ensures { result ≡ true → (i : ℕ) → IsPart kind i → IsRankedBelow items.now.items numbers.now.items above i }
@@ -118,7 +124,7 @@ fn are_ranked_below(items: &Vec<Slot>, numbers: &Vec<u32>, above: usize, kind: K
     }
 }
 
-// How many `|` stand one above the other right above a node on their left.
+// How many `|` are directly above a node, each the left part of the next one: sends to one `>x>` make such a queue.
 fn queue_above(items: &Vec<Slot>, at: usize) -> u32 {
     let mut place = at;
     for count in 0..LONGEST_QUEUE {
@@ -131,14 +137,14 @@ fn queue_above(items: &Vec<Slot>, at: usize) -> u32 {
     LONGEST_QUEUE
 }
 
-// By how much the number of one node is greater than that of the node above it, where it changes.
+// A gap to leave while ranks grow: node `below` gets a rank that is `step` greater than that of the node above it.
 #[derive(Clone, Copy)]
 struct Gap {
     below: usize,
     step: u32,
 }
 
-// The same for any node: the others take the next number.
+// By how much a part's rank is to be greater than that of the node above it: 1 but for the node of the gap.
 #[inline(always)]
 fn step_to(part: usize, gap: Gap) -> u32
     ensures { 0 < result }
@@ -150,7 +156,8 @@ fn step_to(part: usize, gap: Gap) -> u32
     }
 }
 
-// Adds the numbers before `len` to a list, with 0 once more as the last one, and rank 0 for each. The error is refused memory.
+// Adds rank 0 for each of `len` nodes, and the nodes to the list `late`, with node 0 once more as the last one, which is settled first. The error is
+// refused memory.
 fn push_all(numbers: &mut Vec<u32>, late: &mut Vec<usize>, len: usize) -> Result<(), AllocError>
     ensures len { IfOk result (λ _. numbers.old.items ≡ [] → length numbers.new.items ≡ len) }
     ensures none { IfOk result (λ _. numbers.old.items ≡ [] → (i : ℕ) → rank numbers.new.items i ≡ 0) }
@@ -176,7 +183,7 @@ impl Ranks {
         }
     }
 
-    /// The same ranks once more. The error is refused memory.
+    /// A copy of the ranks. The error is refused memory.
     pub fn copy(&self, alloc: Global) -> Result<Ranks, AllocError>
         ensures { IfOk result (λ r. (nodes : List NodeOf) → AreKept nodes self.now → AreKept nodes r) }
     {
@@ -188,12 +195,13 @@ impl Ranks {
         })
     }
 
-    /// Ranks a node that comes behind the others.
+    /// Ranks a node that is added behind the others. If memory or a rank is refused, ranks aren't kept from then on.
     #[inline(always)]
     pub fn add(&mut self, items: &Vec<Slot>, node: Node)
         ensures { AreKept items.now.items self.old → AreKept (items.now.items ++ node ∷ []) self.new }
     {
         let were_kept = self.are_kept;
+        // Until the node has its rank, so that each early return leaves it so.
         self.are_kept = false;
         if !were_kept || !stand_apart(items, items.len(), node.kind) {
             return;
@@ -210,7 +218,7 @@ impl Ranks {
         }
     }
 
-    /// A node becomes another one, below the same node.
+    /// Node `i` is about to become `node`, below the same parent. No rank changes; ranks aren't kept if a part has none that is greater.
     #[inline(always)]
     pub fn write(&mut self, items: &Vec<Slot>, i: usize, node: Node)
         ensures { ((x : NodeOf) → slice_get items.now.items i ≡ Some x → Follows x node) → AreKept items.now.items self.old → AreKept (slice_set items.now.items i node) self.new }
@@ -220,7 +228,7 @@ impl Ranks {
         }
     }
 
-    /// A node went below another one, which was put in its place below `parent`.
+    /// Node `i` went below node `both`, which took its place below `parent`. Ranks below `both` grow if there was no free one for it.
     #[inline(always)]
     pub fn lift(&mut self, items: &Vec<Slot>, i: usize, both: usize, parent: usize)
         ensures { (nodes : List NodeOf) → parent ≡ NodeOf.parent (slice_index_or nodes i nowhere) → items.now.items ≡ lifted nodes i both → AreKept nodes self.old → AreKept items.now.items self.new }
@@ -239,7 +247,8 @@ impl Ranks {
         }
     }
 
-    // The nodes below `both` get greater numbers where they need them, and above node `i` as many are left free as `|` stand there.
+    // The nodes below `both` get greater ranks where they need them. Above node `i` as many stay free as `|` are there: the room doubles each time,
+    // so that many sends to one `>x>` seldom need this.
     fn make_room(&mut self, items: &Vec<Slot>, i: usize, both: usize)
         ensures { AreRankedBut items.now.items self.old.numbers.items self.old.most (both ∷ []) → AreKept items.now.items self.new }
     {
@@ -254,7 +263,8 @@ impl Ranks {
         }
     }
 
-    // The number of a part becomes greater than that of the node above it; then what is below the part comes late too. False where that can't be.
+    // Makes the rank of a part greater than that of node `above`. If it has to grow, the part is put on the list `late`, of the nodes whose parts may
+    // need greater ranks. False if memory or a rank is refused.
     #[inline(always)]
     fn settle_part(
         &mut self,
@@ -288,7 +298,7 @@ impl Ranks {
         true
     }
 
-    // The same for all parts of a node.
+    // Makes the ranks of all parts of node `above` greater than its own. False if memory or a rank is refused.
     #[inline(always)]
     fn settle_parts(
         &mut self,
@@ -310,12 +320,13 @@ impl Ranks {
         }
     }
 
-    // The same for all nodes of the list, the last one first. False where that can't be.
+    // Does so for all nodes of the list, the last one first, and for those that are put on it. False if memory or a rank is refused.
     fn settle(&mut self, items: &Vec<Slot>, late: Vec<usize>, gap: Gap) -> bool
         ensures { result ≡ true → AreRankedBut items.now.items self.old.numbers.items self.old.most late.items → AreRankedBut items.now.items self.new.numbers.items self.new.most [] }
     {
         let mut late = late;
-        // Each node comes twice at most, since none changes before those above it did.
+        // A node comes at most once from the list and once because its rank grew, which is after those above it grew. A vector has less than 2^63
+        // items, so that twice their number is no overflow.
         for _step in 0..=2 * items.len() {
             let Some(above) = late.pop() else {
                 return true;
@@ -328,7 +339,8 @@ impl Ranks {
         false
     }
 
-    /// Ranks all nodes again, by as small numbers as there are, whether they were kept or not.
+    /// Gives all nodes the least ranks, whether ranks were kept or not: each is one greater than that of the node above. If memory is refused, they
+    /// aren't kept.
     pub(crate) fn renew(&mut self, items: &Vec<Slot>)
         ensures { AreKept items.now.items self.new }
     {

@@ -1,11 +1,11 @@
-//! Room for new nodes and numbers.
+//! Room for new nodes and numbers. An entry reserves all that it adds before its first change, so that a refusal of memory changes nothing.
 
 ghost use Rattle.std.specs.Prelude.{◌≡◌, ◌∷◌, ◌++◌, [], ◌+◌, ◌<◌, ◌≤◌, ◌^◌, List, length, vec_len, vec_capacity, IfOk};
 
 use crate::nodes::Nodes;
 use std::alloc::AllocError;
 
-/// Adds an item where there is room.
+/// Adds an item for which room is reserved.
 pub fn push_within<T: Drop>(items: &mut Vec<T>, item: T)
     requires { vec_len items.old < vec_capacity items.old }
     ensures items { items.new.items ≡ items.old.items ++ item ∷ [] }
@@ -14,7 +14,8 @@ pub fn push_within<T: Drop>(items: &mut Vec<T>, item: T)
     items.push_reserved(item);
 }
 
-/// Memory for two more nodes with their flags and two more marks.
+/// Reserves memory for two more nodes with their flags and two more marks, the most that one entry adds. The error is refused memory, or a node's
+/// number of over 32 bits. What the lists have stays.
 pub fn reserve(
     nodes: &mut Nodes,
     flags: &mut Vec<bool>,
@@ -31,7 +32,7 @@ pub fn reserve(
     Ok(())
 }
 
-/// A number that a node names has 32 bits. The error is refused memory: there is no room for greater ones.
+/// Whether a number has the 32 bits in which a node keeps it. The error is a greater one, which no journal within the limits reaches.
 pub fn fits(number: usize) -> Result<(), AllocError>
     ensures { IfOk result (λ _. number < 2 ^ 32) }
 {
@@ -41,7 +42,7 @@ pub fn fits(number: usize) -> Result<(), AllocError>
     Ok(())
 }
 
-/// The same memory, for nodes that name two numbers.
+/// Reserves what `reserve` does, for nodes that name the two numbers. The error is refused memory, or a number of over 32 bits.
 pub fn reserve_numbered(
     nodes: &mut Nodes,
     flags: &mut Vec<bool>,

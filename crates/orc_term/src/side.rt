@@ -1,4 +1,4 @@
-//! The nodes of a part, and what dropping a part does.
+//! The nodes of a part of the marked term, with all that is below its node, and what dropping a part does.
 
 ghost use Rattle.std.specs.Prelude.{◌≡◌, ◌++◌, ℕ, IfOk, OnOk, length, reverse};
 ghost use Rattle.orc_term.specs.Sides.{NoNewSides};
@@ -29,6 +29,7 @@ pub fn nodes_of(alloc: Global, nodes: &Nodes, root: u32) -> Result<Vec<u32>, All
 {
     let mut found = Vec::new(alloc);
     found.push(root)?;
+    // The list grows in the loop: each of its nodes adds its parts.
     for next in 0..nodes.len() {
         if next == found.len() {
             return Ok(found);
@@ -36,7 +37,7 @@ pub fn nodes_of(alloc: Global, nodes: &Nodes, root: u32) -> Result<Vec<u32>, All
         let node = nodes.node_at(found[next] as usize);
         push_parts(&mut found, node.kind)?;
     }
-    // Each node stands once below another, so that there are less than `nodes.len()` of them.
+    // A side has each node at most once, and never node 0, so that the loop has returned before.
     Err(AllocError)
 }
 
@@ -62,7 +63,7 @@ fn pending_at(alloc: Global, nodes: &Nodes, side: &Vec<u32>) -> Result<Vec<u64>,
     Ok(calls)
 }
 
-/// The same in falling order.
+/// The calls that pend at these nodes, the greatest number first. The error is refused memory.
 pub fn falling_calls(alloc: Global, nodes: &Nodes, side: &Vec<u32>) -> Result<Vec<u64>, AllocError>
     ensures { IfOk result (λ calls. AreRising (calls_at nodes.now.items side.now.items) (reverse calls.items)) }
 {
@@ -72,7 +73,7 @@ pub fn falling_calls(alloc: Global, nodes: &Nodes, side: &Vec<u32>) -> Result<Ve
     Ok(calls)
 }
 
-/// The nodes of the list are gone.
+/// Makes the nodes of the list gone. Each keeps its number, and all others stay as they are.
 pub fn drop_nodes(nodes: &mut Nodes, found: &Vec<u32>)
     ensures dropped { IsDropped nodes.old.items found.now.items nodes.new.items }
     ensures len { length nodes.new.items ≡ length nodes.old.items }

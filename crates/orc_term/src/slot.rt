@@ -1,4 +1,4 @@
-//! Nodes as they are stored.
+//! Nodes as they are stored, in fewer bytes than a `Node` takes.
 
 ghost use Rattle.std.specs.Prelude.{◌≡◌};
 
@@ -6,7 +6,8 @@ use crate::arena::{Double, Kind, Node, Single, Tip};
 use orc_rules::value::Value;
 use std::marker::Model;
 
-// A node in one enum, the number of the one that it is a part of first, so that no kind takes more than 24 bytes.
+// A node in one enum, so that no kind takes more than 24 bytes: first the parent, then the fields of `arena` in their order. `Tip::Bears` has a
+// variant for each kind of value.
 #[derive(Clone, Copy)]
 enum Flat {
     Gone(u32),
@@ -29,6 +30,7 @@ pub struct Slot {
     flat: Flat,
 }
 
+// `inverse` gets a slot back from its node: only so may a type with a model be `Copy`.
 impl Model for Slot {
     ghost use Rattle.orc_term.specs.Slots.{flat_of, node_in, is_again};
     ghost use Rattle.orc_term.specs.declared.arena.Node.{Node};
@@ -43,7 +45,7 @@ impl Model for Slot {
 }
 
 impl Slot {
-    /// The node stored.
+    /// Stores a node.
     #[inline(always)]
     pub fn new(node: Node) -> Slot
         ensures { result ≡ node }
@@ -76,7 +78,7 @@ impl Slot {
         Slot { flat }
     }
 
-    /// The node.
+    /// The node that is stored.
     #[inline(always)]
     pub fn node(&self) -> Node
         ensures { result ≡ self.now }

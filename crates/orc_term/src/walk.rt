@@ -1,4 +1,4 @@
-//! The walk of a publication, from the token upward.
+//! The walk of a publication, from the token upward to the `>x>` or the pruning that takes it.
 
 ghost use Rattle.std.specs.Prelude.{◌≡◌, ℕ, List, length, IfSome, IfNone};
 ghost use Rattle.orc_term.specs.Arena.{Frame, Tree};
@@ -7,15 +7,18 @@ ghost use Rattle.orc_term.specs.Rising.{pass_node, up, TakesThere, IsTaker, Rise
 use crate::arena::{Double, Kind, Node, Single};
 use crate::nodes::Nodes;
 
-/// What takes a publication: nothing, the `>x>` at a node, or the right side of a cell's pruning at a node.
+/// What takes a publication.
 #[derive(Clone, Copy)]
 pub enum Taker {
+    /// Nothing: the whole program publishes it.
     Whole,
+    /// The `>x>` at this node.
     Fed(u32),
+    /// The pruning of this cell, at this node: the publication is from its right side.
     Bound(u64, u32),
 }
 
-/// An otherwise is left.
+/// What a node is after a publication has gone through it: an otherwise loses its right side, and any other node stays.
 pub fn passed(node: Node) -> Node
     ensures { result ≡ pass_node node }
 {
@@ -45,7 +48,7 @@ pub(crate) fn taker_here(above: Kind, place: usize, parent: u32) -> Option<Taker
     }
 }
 
-/// What takes a publication of the node at `from`.
+/// What takes a publication of the node at `from`. None if that node is no part of the term.
 #[inline(always)]
 pub fn way_up(nodes: &Nodes, from: usize) -> Option<Taker>
     ensures taker { IfSome result (IsTaker nodes.now.items from) }
@@ -53,6 +56,7 @@ pub fn way_up(nodes: &Nodes, from: usize) -> Option<Taker>
     ensures there { IfSome result (TakesThere nodes.now.items) }
 {
     let mut place = from;
+    // Each step goes up at least one node, so that no term needs more.
     for _steps in 0..nodes.len() {
         place = nodes.hint(place);
         if place == 0 {
@@ -68,7 +72,8 @@ pub fn way_up(nodes: &Nodes, from: usize) -> Option<Taker>
     None
 }
 
-/// Leaves each otherwise between `from` and what takes its publication, and makes the way shorter for the walks that come after.
+/// Does to the nodes what a publication of the node at `from` does: each otherwise between it and what takes it loses its right side. Shortens the
+/// hints on the way for later walks.
 #[inline(always)]
 pub fn rise(nodes: &mut Nodes, from: u32)
     ensures rises { Rises nodes.old.items from nodes.new.items }
