@@ -62,11 +62,11 @@ context l t cancels = record { definitions = definitions l; sites = t.sites; can
 abbrev pub Follows : Context → (ℕ → Term) → Entry → State → State → Type 0
 Follows x code e s s' = (p : Place) → Spells x code s p → (q : Place) × Leads x p e q × Spells x code s' q
 
--- the same whatever the definitions and sites
+-- the entry leads from each place that s spells to one that s' spells, whatever the definitions and sites
 abbrev pub Enters : (ℕ → Term) → Entry → State → State → Type 0
 Enters code e s s' = (x : Context) → Follows x code e s s'
 
--- the same whatever the definitions
+-- the entry leads from each place that s spells to one that s' spells, with these sites and whatever the definitions
 abbrev pub EntersBy : List Site → (ℕ → Term) → Entry → State → State → Type 0
 EntersBy sites code e s s' = (x : Context) → x.sites ≡ sites → Follows x code e s s'
 

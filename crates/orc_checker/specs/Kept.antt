@@ -32,6 +32,7 @@ node_in (flat.Number i t d n) = i
 node_in (flat.Truth i t d b) = i
 node_in (flat.Signal i t d) = i
 
+-- the call that is kept
 abbrev pub called_in : Flat → Called
 called_in f = record { found = found_in f; at = at_in f; node = node_in f }
 

@@ -66,6 +66,7 @@ taken Whole v = next.Publish v
 taken (Fed i) v = next.Send v
 taken (To c i) v = next.Bind c v
 
+-- this is what a value at node i does, by what takes it
 abbrev pub IsPublished : List Node → ℕ → Value → Next → Type 0
 IsPublished nodes i v n = (w : Taker) × IsTaker nodes i w × (n ≡ taken w v)
 

@@ -1,4 +1,4 @@
-// The nodes that wait, by the due times of their calls.
+//! The nodes that wait, by the due times of their calls.
 
 ghost use Rattle.std.specs.Prelude.{◌≡◌, ℕ, [], List, IfErr, IfOk, IfSome, OnOk, MatchOption};
 ghost use Rattle.orc_checker.specs.DueTimes.{IsFirst, IsNoted, Drops};
@@ -9,7 +9,7 @@ use std::alloc::{AllocError, Global};
 use std::collections::BTreeSet;
 use std::marker::Model;
 
-/// Nodes with due times, the earliest first. A node may stay that waits no more.
+/// Nodes with due times, in units of logical time, the earliest first. A node may stay that waits no more.
 #[derive(Drop)]
 pub(crate) struct Due {
     nodes: BTreeSet<(u64, u32)>,
@@ -31,7 +31,7 @@ impl Due {
         }
     }
 
-    /// The same nodes once more. The error is refused memory.
+    /// A copy of the notes. The error is refused memory.
     pub(crate) fn copy(&self) -> Result<Due, AllocError>
         ensures { IfOk result (λ d. d ≡ self.now) }
     {
@@ -39,7 +39,7 @@ impl Due {
         Ok(Due { nodes })
     }
 
-    /// Puts a node in, where there is a time.
+    /// Puts a node in, where there is a time. The error is refused memory; what was in it stays.
     #[inline(always)]
     fn put(&mut self, time: Option<u64>, node: u32) -> Result<(), AllocError>
         ensures noted { OnOk result (IfSome time (λ t. IsNoted self.new t node)) }
@@ -51,7 +51,7 @@ impl Due {
         Ok(())
     }
 
-    /// Notes when what a node will wait for is due, where it ever is. The error is refused memory; what was noted stays.
+    /// Notes a node with the time at which its call is due; `time` is None where that is never. The error is Memory; what was noted stays.
     #[inline(always)]
     pub(crate) fn note(&mut self, time: Option<u64>, node: u32) -> Result<(), RuleFault>
         ensures noted { OnOk result (IfSome time (λ t. IsNoted self.new t node)) }
@@ -61,7 +61,7 @@ impl Due {
         self.put(time, node).map_err(|_| RuleFault::Memory)
     }
 
-    /// The earliest time with its node.
+    /// The earliest time with its node. None where nothing is noted.
     pub(crate) fn first(&self) -> Option<(u64, u32)>
         ensures { MatchOption result (self.now ≡ []) (IsFirst self.now) }
     {

@@ -1,4 +1,4 @@
-// Publications that a `>x>` takes.
+//! The entry `send`: a publication that a `>x>` takes.
 
 ghost use Rattle.std.specs.Prelude.{◌≡◌, ◌+◌, ◌<◌, ◌≤◌, false, length, Some, IfErr, IfOk, OnErr};
 ghost use Rattle.orc_rules.specs.Nodes.{code};
@@ -24,7 +24,7 @@ use orc_term::nodes::Nodes;
 use orc_term::room::{push_within, reserve};
 use orc_term::walk::{Taker, rise, way_up};
 
-/// Puts a new `|` above the node `at`, which is on its left, and a new node on its right. The node keeps its number.
+/// Puts a new `|` above the node `at`, which becomes its left part and keeps its number; its right part is a new node with this tip.
 #[inline(always)]
 fn graft(nodes: &mut Nodes, at: u32, tip: Tip)
     requires there { at < length nodes.old.items }
@@ -37,6 +37,7 @@ fn graft(nodes: &mut Nodes, at: u32, tip: Tip)
 {
     let parent = nodes.node_at(at as usize).parent;
     let both = nodes.next_number();
+    // Its right part is the node that is pushed next.
     nodes.push_within(Node {
         kind: Kind::Two(Double::Both, at, both + 1),
         parent,
@@ -49,7 +50,8 @@ fn graft(nodes: &mut Nodes, at: u32, tip: Tip)
 }
 
 impl Marked {
-    /// `send S A V`.
+    /// `send S A V`: the token ends, and token `a` is on a copy of the right side, in a new scope where x is `v`. The errors are those of `bearer`,
+    /// Form where no `>x>` takes its publication, Number and Memory.
     pub(crate) fn send(
         &mut self,
         program: &Program,
@@ -68,6 +70,7 @@ impl Marked {
         let Taker::Fed(at) = taker else {
             return Err(RuleFault::Form);
         };
+        // The taker names a `>x>`, so the next two don't refuse.
         let Kind::One(single, _) = self.nodes.node_at(at as usize).kind else {
             return Err(RuleFault::Form);
         };
@@ -98,6 +101,7 @@ impl Marked {
             Tip::Token(a, g, scope_count(&self.scopes)),
         );
         push_within(&mut self.marks, both + 1);
+        // The `|` hasn't halted before `settle`, since the token that publishes is below it.
         push_flag(&mut self.flags, &mut self.candidates, both, false);
         let halted = self.halts.at(g as usize);
         push_flag(&mut self.flags, &mut self.candidates, both + 1, halted);

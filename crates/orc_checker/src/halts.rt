@@ -13,7 +13,7 @@ use std::marker::Model;
 #[derive(Drop)]
 pub struct Halts {
     pub(crate) flags: Vec<bool>,
-    /// Room to mark nodes while a term is looked at.
+    /// A flag for each node, which `stillness` overwrites: so its questions need no memory of their own.
     pub(crate) active: Vec<bool>,
 }
 
@@ -44,6 +44,7 @@ impl Halts {
     {
         let mut flags = Vec::new(alloc);
         let mut active = Vec::new(alloc);
+        // Facts that the prover is shown; nothing runs. Each node stands behind its parts, so that their flags are known when its turn comes.
         program.are_unfolded();
         program.are_parts_first();
         for i in 0..program.len() {
@@ -53,7 +54,7 @@ impl Halts {
         Ok(Halts { flags, active })
     }
 
-    /// The same flags once more. The error is refused memory.
+    /// A copy of the flags. The error is refused memory.
     pub(crate) fn copy(&self, alloc: Global) -> Result<Halts, AllocError>
         ensures { IfOk result (λ h. h ≡ self.now) }
     {
@@ -62,7 +63,7 @@ impl Halts {
         Ok(Halts { flags, active })
     }
 
-    /// Whether the term of that node has halted.
+    /// Whether the term of that node of the program has halted; true where there is no such node.
     pub fn at(&self, node: usize) -> bool
         ensures { result ≡ halt_flag self.now node }
     {

@@ -6,7 +6,8 @@ use crate::rest::Called;
 use orc_rules::value::{Answer, Found, Value};
 use std::marker::Model;
 
-// A call in one enum: its node first, then when it was made, and the delay of its answer. So no call takes more than 32 bytes.
+// A call in one enum: its node first, then when it was made, and the delay of its answer. With a variant for each kind of value no call takes more
+// than 32 bytes.
 #[derive(Clone, Copy)]
 enum Flat {
     Never(u32, u64),
@@ -22,6 +23,7 @@ pub struct Kept {
     flat: Flat,
 }
 
+// `inverse` gets what is kept back from its call: only so may a type with a model be `Copy`.
 impl Model for Kept {
     ghost use Rattle.orc_checker.specs.Kept.{called_in, flat_of, is_again};
     ghost use Rattle.orc_checker.specs.declared.rest.Called.{Called};
@@ -36,7 +38,7 @@ impl Model for Kept {
 }
 
 impl Kept {
-    /// The call kept.
+    /// Stores a call.
     pub fn new(called: Called) -> Kept
         ensures { result ≡ called }
     {
@@ -56,7 +58,7 @@ impl Kept {
         Kept { flat }
     }
 
-    /// The call.
+    /// The call that is stored.
     pub fn called(&self) -> Called
         ensures { result ≡ self.now }
     {

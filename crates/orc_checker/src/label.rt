@@ -1,4 +1,4 @@
-// The labels that entries show.
+//! The labels that entries show: what can be seen of a step from outside.
 
 ghost use Rattle.std.specs.Prelude.{◌≡◌, ◌++◌, List, IfOk, OnOk, OnErr};
 ghost use Rattle.orc_rules.specs.Journal.{Place};
@@ -30,7 +30,7 @@ fn push_cell(cells: &mut Vec<u64>, above: Kind, place: u32) -> Result<(), AllocE
     Ok(())
 }
 
-/// The cells inside whose right sides a node stands, the outermost first. The error is refused memory.
+/// The cells of the prunings that have a node in their right sides, the outermost first. The error is refused memory.
 fn cells_around(alloc: Global, nodes: &Nodes, from: u32) -> Result<Vec<u64>, AllocError>
     ensures { IfOk result (λ cells. AreAround nodes.now.items from cells.items) }
 {
@@ -51,7 +51,8 @@ fn cells_around(alloc: Global, nodes: &Nodes, from: u32) -> Result<Vec<u64>, All
 }
 
 impl Marked {
-    /// The cells inside whose right sides token `s` stands, the outermost first.
+    /// The cells of the prunings that have token `s` in their right sides, the outermost first. The errors: Cancel where a cancel is due, Mark where
+    /// there is no such token, Memory.
     fn cells_of(&self, alloc: Global, s: u64) -> Result<Vec<u64>, RuleFault>
         ensures { IfOk result (λ cells. (x : Context) (l : Listing) (p : Place) → Spells x (code l) self.now p → StandsInside p s cells.items) }
     {
@@ -62,7 +63,7 @@ impl Marked {
         }
     }
 
-    /// The label of an entry.
+    /// The label of an entry, whether it is allowed or not: None for a move of marks or a tick. Only a `call` has errors, those of `cells_of`.
     fn label(&self, alloc: Global, entry: &Entry) -> Result<Option<Label>, RuleFault>
         ensures { IfOk result (λ label. (x : Context) (l : Listing) (p : Place) → Spells x (code l) self.now p → IsLabel p entry.now label) }
     {
@@ -90,7 +91,8 @@ impl Marked {
         }
     }
 
-    /// Applies one entry and gives its label, none for a move of marks or a tick. After a RuleFault nothing has changed.
+    /// Applies one entry and gives its label, None for a move of marks or a tick. After a RuleFault nothing has changed; it isn't always the first
+    /// reason for which the entry is refused.
     pub fn apply(
         &mut self,
         alloc: Global,
@@ -101,6 +103,7 @@ impl Marked {
         ensures done { IfOk result (λ label. Shows program.now answers.now entry.now self.old self.new label) }
         ensures refused { OnErr result (self.new ≡ self.old) }
     {
+        // First, since the entry uses up the token whose place a call's label needs.
         let label = self.label(alloc, entry)?;
         self.step(program, answers, entry)?;
         Ok(label)

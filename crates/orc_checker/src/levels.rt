@@ -1,4 +1,4 @@
-// How deep a marked term nests.
+//! How many nodes of a marked term are one below another, which bounds how deep it nests.
 
 ghost use Rattle.std.specs.Prelude.{◌≡◌, IfSome};
 ghost use Rattle.orc_term.specs.Ranks.{AreLevelsAtMost};
@@ -6,14 +6,14 @@ ghost use Rattle.orc_term.specs.Ranks.{AreLevelsAtMost};
 use crate::marked::Marked;
 
 impl Marked {
-    /// At most so many nodes stand one below the other, under the one above all. None where that isn't known.
+    /// At most so many nodes are one below another under node 0. None while that isn't known, after memory for it was refused.
     pub fn levels_below(&self) -> Option<usize>
         ensures { IfSome result (AreLevelsAtMost self.now.nodes) }
     {
         self.nodes.levels_below()
     }
 
-    /// Looks at all nodes to tell by `levels_below` how many stand one below the other, or little more. Nothing of the term changes.
+    /// Looks at all nodes to make `levels_below` as small as it can be; None if memory for it is refused. Nothing of the term changes.
     pub fn renew_levels(&mut self)
         ensures { self.new ≡ self.old }
     {

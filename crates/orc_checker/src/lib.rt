@@ -1,4 +1,8 @@
 //! The checker: a marked term that takes a journal's entries, one after another.
+//!
+//! Each entry has a method of its own. It first tests the entry's condition and reserves memory, and then makes the entry's effect, so that a refused
+//! entry changes nothing. The table in docs/orc.md, *Journals*, has the conditions and effects, and its letters are the parameters here: s, a, b are
+//! marks, c is a cell, k a call, v a value, t a time. `orc_term` explains marks, tokens and nodes.
 #![tactic(auto)]
 
 mod cancel;

@@ -1,4 +1,5 @@
-// The nodes that entries name, by the tables.
+//! The nodes that entries name, found by tables that have the node on which each mark, cell or call was put. That node may have become another one
+//! since, so each function here asks whether it still has the name.
 
 ghost use Rattle.std.specs.Prelude.{◌≡◌, slice_get};
 ghost use Rattle.orc_checker.specs.Index.{node_by, pruning_with, otherwise_with, tip_with, waits_with};
@@ -19,7 +20,7 @@ pub(crate) fn node_by(nodes: &Nodes, places: &Vec<u32>, number: u64) -> Option<(
     }
 }
 
-/// What token `s` stands on, where the node has it.
+/// What token `s` stands on, if the node is it.
 pub(crate) fn tip_with(kind: Kind, s: u64) -> Option<Tip>
     ensures { result ≡ tip_with kind s }
 {
@@ -42,7 +43,7 @@ pub(crate) fn waits_with(kind: Kind, k: u64) -> bool
     }
 }
 
-/// The sides of the pruning of cell `c`, where the node is it.
+/// The left and the right side of the pruning of cell `c`, if the node is it.
 pub(crate) fn pruning_with(kind: Kind, c: u64) -> Option<(u32, u32)>
     ensures { result ≡ pruning_with kind c }
 {
@@ -52,7 +53,7 @@ pub(crate) fn pruning_with(kind: Kind, c: u64) -> Option<(u32, u32)>
     }
 }
 
-/// The left side of otherwise `s`, and its right one with its scope, where the node is it.
+/// Of otherwise `s`, if the node is it: the node of its left side, and its right side, which is a node of the program in a scope.
 pub(crate) fn otherwise_with(kind: Kind, s: u64) -> Option<(u32, u32, u32)>
     ensures { result ≡ otherwise_with kind s }
 {

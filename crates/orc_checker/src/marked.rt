@@ -1,4 +1,4 @@
-// The checker: a marked term that takes a journal's entries.
+//! A marked term and what goes with it; how an entry is applied, and where the token is that it names.
 
 ghost use Rattle.std.specs.Prelude.{◌≡◌, ℕ, suc, [], length, Some, IfOk, IfErr, IfSome, IfNone, OnErr};
 ghost use Rattle.orc_rules.specs.Journal.{begin};
@@ -31,13 +31,18 @@ use orc_term::room::{fits, push_within};
 use std::alloc::{AllocError, Global};
 use std::marker::Model;
 
-/// A marked term, with what its journal has used up so far.
+/// A marked term, with what its journal has used up so far: the checker's state at one place of a journal.
 pub struct Marked {
     pub(crate) nodes: Nodes,
+    /// Scope n is the n-th record; scope 0 has no names.
     pub(crate) scopes: Vec<StoredScope>,
+    /// What each cell has become; an unbound one is itself. There is no cell 0.
     pub(crate) cells: Vec<Bound>,
+    /// The node on which each mark was put, even if it is used up; there is no mark 0.
     pub(crate) marks: Vec<u32>,
+    /// Which terms of the program have halted, by the program's nodes.
     pub(crate) halts: Halts,
+    /// Which parts of the marked term have halted, by its nodes.
     pub(crate) flags: Vec<bool>,
     /// The node on which each cell's pruning was opened; there is no cell 0.
     pub(crate) prunings: Vec<u32>,
@@ -66,6 +71,8 @@ impl Drop for Marked {
     }
 }
 
+// The invariant: each pending call that is ever due is noted in `due`, each side that has halted is a candidate, and each node that has a name is
+// where `marks`, `prunings` and the calls say. Contracts don't see `prunings`, `candidates` and `due`.
 impl Model for Marked {
     ghost use Rattle.std.specs.Prelude.{◌≡◌, length};
     ghost use Rattle.orc_checker.specs.Checker.{State};
@@ -97,7 +104,7 @@ pub(crate) struct Holder {
     pub tip: Tip,
 }
 
-/// A token's node below that of `spot`, in its scope.
+/// A new node below that of `spot`: token `mark` on node `node` of the program, in the scope of `spot`.
 pub(crate) fn token_node(mark: u64, node: u32, spot: Spot) -> Node
     ensures { result ≡ record { kind = AtLeaf (IsToken mark node spot.scope); parent = spot.at } }
 {
@@ -112,6 +119,7 @@ pub(crate) fn expect_after(a: u64, b: u64) -> Result<(), RuleFault>
     ensures next { IfOk result (λ _. b ≡ suc a) }
     ensures refused { IfErr result (λ r. (r ≡ reason.Number) × (b ≡ suc a → ⊥)) }
 {
+    // Not `a + 1`, which may overflow: a journal has any numbers of 64 bits.
     if b != 0 && b - 1 == a {
         Ok(())
     } else {
@@ -119,7 +127,7 @@ pub(crate) fn expect_after(a: u64, b: u64) -> Result<(), RuleFault>
     }
 }
 
-/// The value that an operand is in a scope.
+/// The value that an operand is in a scope. None if it is void, or a cell that isn't bound.
 #[inline(always)]
 fn value_of(
     scopes: &[StoredScope],
@@ -150,6 +158,7 @@ impl Marked {
         let root = program.source();
         fits(root)?;
         let halted = halts.at(root);
+        // Node 0 is above the term, whose root is node 1, so that every node of the term has a parent.
         nodes.push_within(Node {
             kind: Kind::One(Single::Passed, 1),
             parent: 0,
@@ -158,6 +167,7 @@ impl Marked {
             kind: Kind::Leaf(Tip::Token(1, root as u32, 0)),
             parent: 0,
         });
+        // Marks and cells count from 1, so that what is at 0 in a list stands for none.
         push_within(&mut marks, 0);
         push_within(&mut marks, 1);
         push_within(&mut cells, Bound::Void);
@@ -207,7 +217,7 @@ impl Marked {
     }
 
     /// Applies one entry. After a RuleFault nothing has changed; each but Memory names a condition that the entry breaks, not always the first
-    /// such one.
+    /// such one. Of a `def` this is promised only in a closed program, which each checked program is.
     pub fn step(
         &mut self,
         program: &Program,
@@ -239,7 +249,7 @@ impl Marked {
         }
     }
 
-    /// Where token `s` stands.
+    /// Where token `s` stands. None if there is no such token.
     fn token(&self, s: u64) -> Option<Holder>
         ensures there { IfSome result (λ t. at self.now.nodes t.parent t.at (AtLeaf t.tip)) }
         ensures carries { IfSome result (λ t. Carries s t.tip) }
@@ -254,7 +264,7 @@ impl Marked {
         })
     }
 
-    /// Where token `s` stands, while no cancel is due.
+    /// Where token `s` stands. The errors: Cancel where a cancel is due, Mark where there is no such token.
     pub(crate) fn holder(&self, s: u64) -> Result<Holder, RuleFault>
         ensures free { IfOk result (λ _. self.now.rest.to_cancel ≡ []) }
         ensures there { IfOk result (λ t. at self.now.nodes t.parent t.at (AtLeaf t.tip)) }
@@ -267,7 +277,8 @@ impl Marked {
         self.token(s).ok_or(RuleFault::Mark)
     }
 
-    /// Where token `s` stands on a node of the program, while no cancel is due.
+    /// Where token `s` stands on a node of the program. The errors: Cancel where a cancel is due, Mark where there is no such token, Form where it
+    /// stands on a value that a call gave.
     pub(crate) fn spot(&self, s: u64) -> Result<Spot, RuleFault>
         ensures free { IfOk result (λ _. self.now.rest.to_cancel ≡ []) }
         ensures there { IfOk result (λ t. at self.now.nodes t.parent t.at (AtLeaf (IsToken s t.node t.scope))) }
@@ -285,7 +296,8 @@ impl Marked {
         }
     }
 
-    /// Where token `s` stands on the value `v`, while no cancel is due.
+    /// Where token `s` stands on the value `v`. The errors: Cancel where a cancel is due, Mark where there is no such token, Form where it stands on
+    /// anything else.
     #[inline(always)]
     pub(crate) fn bearer(&self, program: &Program, s: u64, v: Value) -> Result<Holder, RuleFault>
         ensures free { IfOk result (λ _. self.now.rest.to_cancel ≡ []) }
@@ -302,7 +314,7 @@ impl Marked {
         }
     }
 
-    /// The value on which a token stands.
+    /// The value on which a token stands. None where it stands on anything else.
     #[inline(always)]
     pub(crate) fn value_under(&self, program: &Program, tip: Tip) -> Option<Value>
         ensures lives { IfSome result (λ v. living_kind (AtLeaf tip) ≡ 1) }

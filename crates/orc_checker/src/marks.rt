@@ -1,4 +1,5 @@
-// The moves of marks.
+//! The entries `end`, `fork`, `seq` and `other`, which only move marks: no rule of Orc is used. The term with its marks left out stays the same, so
+//! the flag of the token's node stays right.
 
 ghost use Rattle.std.specs.Prelude.{◌≡◌, IfOk, IfErr, OnErr};
 ghost use Rattle.orc_rules.specs.Nodes.{code};
@@ -15,7 +16,7 @@ use orc_term::flags::push_flag;
 use orc_term::room::{fits, push_within, reserve_numbered};
 
 impl Marked {
-    /// `end S`.
+    /// `end S`: the token on a `stop` is removed. The errors are those of `spot`, and Form where it isn't on one.
     pub(crate) fn end(&mut self, program: &Program, s: u64) -> Result<(), RuleFault>
         ensures done { IfOk result (λ _. Enters (code program.now) (entry.End s) self.old self.new) }
         ensures refused { OnErr result (self.new ≡ self.old) }
@@ -35,7 +36,8 @@ impl Marked {
         Ok(())
     }
 
-    /// `fork S A B`.
+    /// `fork S A B`: the token on `f | g` gives way to one on each side. The errors are those of `spot`, Form where it isn't on a `|`, Number and
+    /// Memory.
     pub(crate) fn fork(
         &mut self,
         program: &Program,
@@ -75,7 +77,7 @@ impl Marked {
         Ok(())
     }
 
-    /// `seq S A`.
+    /// `seq S A`: the token on `f >x> g` gives way to one on f. The errors are those of `spot`, Form where it isn't on a `>x>`, Number and Memory.
     pub(crate) fn seq(&mut self, program: &Program, s: u64, a: u64) -> Result<(), RuleFault>
         ensures done { IfOk result (λ _. Enters (code program.now) (entry.Seq s a) self.old self.new) }
         ensures refused { OnErr result (self.new ≡ self.old) }
@@ -104,7 +106,8 @@ impl Marked {
         Ok(())
     }
 
-    /// `other S A`.
+    /// `other S A`: the token on `f ; g` gives way to one on f, and its mark is the otherwise's number. The errors are those of `spot`, Form where it
+    /// isn't on a `;`, Number and Memory.
     pub(crate) fn other(&mut self, program: &Program, s: u64, a: u64) -> Result<(), RuleFault>
         ensures done { IfOk result (λ _. Enters (code program.now) (entry.Other s a) self.old self.new) }
         ensures refused { OnErr result (self.new ≡ self.old) }
@@ -115,6 +118,7 @@ impl Marked {
             return Err(RuleFault::Form);
         };
         self.expect_mark(a)?;
+        // The node keeps the otherwise's number in 32 bits.
         fits(s as usize).map_err(|_| RuleFault::Memory)?;
         reserve_numbered(&mut self.nodes, &mut self.flags, &mut self.marks, f, g).map_err(
             |_| RuleFault::Memory,

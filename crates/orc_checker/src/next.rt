@@ -1,4 +1,4 @@
-// What a token can do next.
+//! What a token can do next.
 
 ghost use Rattle.std.specs.Prelude.{◌≡◌, ◌+◌, ◌≤◌, List, length, IfSome, Some, slice_get};
 ghost use Rattle.orc_rules.specs.Journal.{Place};
@@ -22,7 +22,7 @@ use orc_rules::value::{Args, Value};
 use orc_term::arena::Tip;
 use orc_term::walk::{Taker, way_up};
 
-/// What a token can do next.
+/// What a token can do next: the entry of that name, without the numbers that it gives out.
 #[derive(Drop)]
 pub enum Next {
     End,
@@ -30,6 +30,7 @@ pub enum Next {
     Seq,
     Other,
     Def,
+    /// It stands on void, or on a call of a site with a void argument.
     Void,
     Open,
     /// It publishes to a `>x>`.
@@ -38,12 +39,13 @@ pub enum Next {
     Bind(u64, Value),
     /// Nothing takes its publication.
     Publish(Value),
+    /// It calls the site of this number.
     Call(u32, Args),
     /// It waits for cells, one for each position at which `awaited` gives one.
     Wait,
 }
 
-// Adds the values of operands, which are `MOST_ARGUMENTS` at most; false where one of them is none.
+// Adds the values of operands, which are `MOST_ARGUMENTS` at most; false where one of them has no value.
 fn push_values(
     scopes: &[StoredScope],
     cells: &[Bound],
@@ -90,7 +92,7 @@ fn call_from(
     }
 }
 
-// What a token can do on a node of the program that is no value.
+// What a token can do on a node of the program. None on a value, and on a call without a definition, which no checked program has.
 fn move_from(
     program: &Program,
     scopes: &[StoredScope],
@@ -114,6 +116,7 @@ fn move_from(
             Some(Bound::Is(_)) => None,
             Some(Bound::Void) => Some(Next::Void),
             Some(Bound::Cell(_)) => Some(Next::Wait),
+            // A free name, which no checked program has.
             None => Some(Next::Wait),
         },
         TermNode::Site(site, list) => {
@@ -168,7 +171,7 @@ impl Marked {
         }
     }
 
-    // What a token's value does.
+    // What a token on a value can do, by what takes its publication. None if its node is no part of the term.
     fn publication(&self, at: usize, value: Value) -> Option<Next>
         ensures { IfSome result (IsPublished self.now.nodes at value) }
     {
@@ -180,8 +183,8 @@ impl Marked {
         }
     }
 
-    /// The cell for which a token waits at a position of its call's arguments, counted from 0, or as a variable at position 0.
-    /// None where there is no such token or position, or what stands there isn't a cell that isn't bound.
+    /// The cell for which a token waits at a position of its site call's arguments, counted from 0, or as a variable at position 0.
+    /// None where there is no such token or position, the argument there isn't an unbound cell, or a cancel is due.
     pub fn awaited(&self, program: &Program, token: u64, position: usize) -> Option<u64>
         ensures { IfSome result (λ c. (x : Context) (p : Place) → x.definitions ≡ definitions program.now → Spells x (code program.now) self.now p → AwaitsAt p token position c) }
     {

@@ -1,4 +1,4 @@
-// The numbers that come next, and the time.
+//! The numbers that new entries must give out next, and the time.
 
 ghost use Rattle.std.specs.Prelude.{◌≡◌, ◌+◌, length, slice_get};
 ghost use Rattle.orc_rules.specs.Journal.{Place};
@@ -9,35 +9,35 @@ ghost use Rattle.orc_checker.specs.Checker.{Spells};
 use crate::marked::Marked;
 
 impl Marked {
-    /// The next mark.
+    /// The next mark, from 2 on: the one that the next new token must have.
     pub fn new_mark(&self) -> u64
         ensures { result ≡ length self.now.marks }
     {
         self.marks.len() as u64
     }
 
-    /// The next cell.
+    /// The next cell, from 1 on.
     pub fn new_cell(&self) -> u64
         ensures { result ≡ length self.now.cells }
     {
         self.cells.len() as u64
     }
 
-    /// The next call.
+    /// The next call, from 1 on.
     pub fn new_call(&self) -> u64
         ensures { result ≡ length self.now.rest.calls + 1 }
     {
         self.rest.calls.len() as u64 + 1
     }
 
-    /// The call whose cancel is due, the first of those that are. None where none is.
+    /// The least call whose cancel is due. None where none is.
     pub fn next_cancel(&self) -> Option<u64>
         ensures { result ≡ slice_get self.now.rest.to_cancel 0 }
     {
         self.rest.next_cancel()
     }
 
-    /// The time.
+    /// The time, in units of logical time.
     pub fn now(&self) -> u64
         ensures { (x : Context) (l : Listing) (p : Place) → Spells x (code l) self.now p → result ≡ p.now }
     {

@@ -1,4 +1,4 @@
-// The right side of an otherwise starts.
+//! The entry `right`: the right side of an otherwise starts.
 
 ghost use Rattle.std.specs.Prelude.{◌≡◌, ℕ, [], IfOk, IfErr, IfSome, IfNone, OnErr};
 ghost use Rattle.orc_rules.specs.Term.{Term};
@@ -32,7 +32,7 @@ pub(crate) struct Otherwise {
 }
 
 impl Marked {
-    /// The nodes of a side that goes.
+    /// The nodes of the side at node `root`, before it is dropped. The error is Memory.
     pub(crate) fn side_at(&self, root: u32) -> Result<Vec<u32>, RuleFault>
         ensures nodes { IfOk result (λ side. AreNodesOf self.now.nodes root side.items) }
         ensures refused { IfErr result (λ r. r ≡ reason.Memory) }
@@ -44,7 +44,7 @@ impl Marked {
         }
     }
 
-    /// Where otherwise `s` stands.
+    /// Where otherwise `s` stands. None if there is no such otherwise, or it has published.
     pub(crate) fn find_otherwise(&self, s: u64) -> Option<Otherwise>
         ensures there { IfSome result (λ o. at self.now.nodes o.parent o.at (AtOne (IsEntered s o.node o.scope) o.left)) }
         ensures missing { IfNone result (NoOtherwise self.now.nodes s) }
@@ -60,7 +60,7 @@ impl Marked {
         })
     }
 
-    /// The same, while no cancel is due.
+    /// Where otherwise `s` stands. The errors: Cancel where a cancel is due, Mark where there is no such otherwise.
     fn otherwise(&self, s: u64) -> Result<Otherwise, RuleFault>
         ensures free { IfOk result (λ _. self.now.rest.to_cancel ≡ []) }
         ensures there { IfOk result (λ o. at self.now.nodes o.parent o.at (AtOne (IsEntered s o.node o.scope) o.left)) }
@@ -72,7 +72,8 @@ impl Marked {
         self.find_otherwise(s).ok_or(RuleFault::Mark)
     }
 
-    /// `right S A`.
+    /// `right S A`: a token on the right side takes the place of the otherwise, whose left side is dropped. The errors are those of `otherwise`,
+    /// Number, Halted where the left side hasn't halted, and Memory.
     pub(crate) fn right(&mut self, s: u64, a: u64) -> Result<(), RuleFault>
         ensures done { IfOk result (λ _. (code : ℕ → Term) → Enters code (entry.Right s a) self.old self.new) }
         ensures refused { OnErr result (self.new ≡ self.old) }

@@ -1,4 +1,4 @@
-// When the calls that wait are due.
+//! When the calls that pend are due.
 
 ghost use Rattle.std.specs.Prelude.{◌≡◌, ℕ, List, IfSome, IfNone};
 ghost use Rattle.std.specs.Bool.{Decides};
@@ -11,7 +11,7 @@ use orc_calls::due_time;
 use orc_term::arena::{Kind, Tip};
 use orc_term::nodes::Nodes;
 
-/// When the call of that number is due.
+/// When the call of that number is due. None if there is no such call, or it is never due.
 fn due_of(calls: &Vec<Kept>, call: u64) -> Option<u64>
     ensures due { IfSome result (IsDueOf calls.now.items call) }
     ensures never { IfNone result ((t : ℕ) → IsDueOf calls.now.items call t → ⊥) }
@@ -44,7 +44,7 @@ fn waits_until(nodes: &Nodes, calls: &Vec<Kept>, i: usize, time: u64) -> bool
     }
 }
 
-/// The least due time of the calls that wait. Those before it that wait no more go out of the notes.
+/// The least due time of the calls that pend, None if none is ever due. Notes before it, of calls that pend no more, are dropped.
 fn next_due(nodes: &Nodes, calls: &Vec<Kept>, due: &mut Due) -> Option<u64>
     requires { AreNoted nodes.now.items calls.now.items due.old }
     ensures next { IsNext nodes.now.items calls.now.items result }
@@ -60,7 +60,7 @@ fn next_due(nodes: &Nodes, calls: &Vec<Kept>, due: &mut Due) -> Option<u64>
 }
 
 impl Rest {
-    /// The least due time of the calls for which nodes wait.
+    /// The least due time of the calls for which nodes wait, in units of logical time. None if none is ever due.
     pub(crate) fn next_due(&self, nodes: &Nodes, due: &mut Due) -> Option<u64>
         requires { AreNoted nodes.now.items self.now.calls due.old }
         ensures next { IsNext nodes.now.items self.now.calls result }
@@ -69,7 +69,7 @@ impl Rest {
         next_due(nodes, &self.calls, due)
     }
 
-    /// The time goes on.
+    /// Sets the time.
     pub(crate) fn set_time(&mut self, time: u64)
         ensures { self.new ≡ record { calls = self.old.calls; counts = self.old.counts; time = time; to_cancel = self.old.to_cancel; cancels = self.old.cancels } }
     {

@@ -1,4 +1,4 @@
-// Prunings: they are opened, and their cells get a value or never will.
+//! The entries `open`, `bind` and `lost`: a pruning is opened, and its cell gets a value or never will.
 
 ghost use Rattle.std.specs.Prelude.{◌≡◌, ◌+◌, ◌<◌, ◌≤◌, ◌^◌, [], length, reverse, slice_get, slice_set, true, false, vec_len, vec_capacity, IfOk, IfErr, IfSome, IfNone, OnErr};
 ghost use Rattle.orc_rules.specs.Nodes.{code};
@@ -35,7 +35,7 @@ pub(crate) struct Pruning {
     pub right: u32,
 }
 
-/// Memory for one more scope, which nodes can name.
+/// Reserves memory for one more scope, whose number has the 32 bits in which nodes keep it. The error is refused memory, or that 32 bits are too few.
 pub(crate) fn reserve_scope(scopes: &mut Vec<StoredScope>) -> Result<(), AllocError>
     ensures items { scopes.new.items ≡ scopes.old.items }
     ensures room { IfOk result (λ _. vec_len scopes.new < vec_capacity scopes.new) }
@@ -45,7 +45,7 @@ pub(crate) fn reserve_scope(scopes: &mut Vec<StoredScope>) -> Result<(), AllocEr
     scopes.try_reserve(1)
 }
 
-/// Memory for one more scope and one more cell with its pruning.
+/// Reserves memory for one more scope and one more cell with its pruning. The error is that of `reserve_scope`.
 fn reserve_cell(
     scopes: &mut Vec<StoredScope>,
     cells: &mut Vec<Bound>,
@@ -63,7 +63,7 @@ fn reserve_cell(
     Ok(())
 }
 
-/// How many scopes there are.
+/// How many scopes there are, which is the number of the last one.
 pub(crate) fn scope_count(scopes: &Vec<StoredScope>) -> u32
     requires { vec_len scopes.now < 2 ^ 32 }
     ensures { result ≡ length scopes.now.items }
@@ -93,7 +93,8 @@ impl Marked {
         }
     }
 
-    /// `open S C A B`.
+    /// `open S C A B`: the token on `f <x< g` gives way to one on each side, and x is cell `c` in a new scope. The errors are those of `spot`, Form,
+    /// Number and Memory.
     pub(crate) fn open(
         &mut self,
         program: &Program,
@@ -132,6 +133,7 @@ impl Marked {
             scope: scope_count(&self.scopes),
             ..spot
         };
+        // Until it is bound or lost it stands for itself.
         push_within(&mut self.cells, Bound::Cell(c));
         self.nodes.write_node(
             spot.at as usize,
@@ -140,6 +142,7 @@ impl Marked {
                 parent: spot.parent,
             },
         );
+        // The left side alone is inside the new scope.
         self.nodes.push_within(token_node(a, f as u32, inner));
         self.nodes.push_within(token_node(b, g as u32, spot));
         push_within(&mut self.marks, n);
@@ -148,6 +151,7 @@ impl Marked {
         let right = self.halts.at(g);
         push_flag(&mut self.flags, &mut self.candidates, n, left);
         push_flag(&mut self.flags, &mut self.candidates, n + 1, right);
+        // `f <x< g` hadn't halted; opened it has if both sides have.
         settle(
             &self.nodes,
             &mut self.flags,
@@ -159,7 +163,7 @@ impl Marked {
         Ok(())
     }
 
-    /// Whether `c` is a cell that isn't bound.
+    /// Whether `c` is a cell that isn't bound. The error is Mark: it isn't.
     fn unbound(&self, c: u64) -> Result<(), RuleFault>
         ensures open { IfOk result (λ _. slice_get self.now.cells c ≡ Some (IsCell c)) }
         ensures refused { IfErr result (λ r. (r ≡ reason.Mark) × (slice_get self.now.cells c ≡ Some (IsCell c) → ⊥)) }
@@ -170,7 +174,8 @@ impl Marked {
         }
     }
 
-    /// The nodes of a right side that goes, with the calls that pend in it, in falling order, where their cancels are recorded.
+    /// The nodes of the right side at node `right`, before it is dropped, and the calls that pend in it, the greatest first; no calls where cancels
+    /// aren't recorded. The error is Memory.
     fn leaving(&self, right: u32) -> Result<(Vec<u32>, Vec<u64>), RuleFault>
         ensures nodes { IfOk result (λ r. AreNodesOf self.now.nodes right r.0.items) }
         ensures recorded { IfOk result (λ r. self.now.rest.cancels ≡ true → AreRising (calls_at self.now.nodes r.0.items) (reverse r.1.items)) }
@@ -187,7 +192,8 @@ impl Marked {
         }
     }
 
-    /// `bind S C V`.
+    /// `bind S C V`: the cell becomes `v`, the right side is dropped, and the cancels of its calls are due. The errors are those of `bearer`, Mark
+    /// where there is no such unbound cell, Form where anything else takes the publication, and Memory.
     pub(crate) fn bind(
         &mut self,
         program: &Program,
@@ -211,9 +217,11 @@ impl Marked {
             return Err(RuleFault::Form);
         }
         let pruning = self.nodes.node_at(at as usize);
+        // The taker names a pruning, so this doesn't refuse.
         let Kind::Two(_, left, right) = pruning.kind else {
             return Err(RuleFault::Form);
         };
+        // The token is in the right side, and so are the otherwises that it publishes through: they are dropped with it.
         let (side, calls) = self.leaving(right)?;
         self.nodes.write_node(
             at as usize,
@@ -236,7 +244,7 @@ impl Marked {
         Ok(())
     }
 
-    /// Where the pruning of a cell stands.
+    /// Where the pruning of a cell stands. None if there is no such pruning any more.
     pub(crate) fn find_pruning(&self, c: u64) -> Option<Pruning>
         ensures there { IfSome result (λ o. at self.now.nodes o.parent o.at (AtTwo (IsSide c) o.left o.right)) }
         ensures missing { IfNone result (NoPruning self.now.nodes c) }
@@ -251,7 +259,7 @@ impl Marked {
         })
     }
 
-    /// The same, while no cancel is due.
+    /// Where the pruning of a cell stands. The errors: Cancel where a cancel is due, Mark where there is no such pruning.
     fn pruning(&self, c: u64) -> Result<Pruning, RuleFault>
         ensures free { IfOk result (λ _. self.now.rest.to_cancel ≡ []) }
         ensures there { IfOk result (λ o. at self.now.nodes o.parent o.at (AtTwo (IsSide c) o.left o.right)) }
@@ -263,7 +271,8 @@ impl Marked {
         self.find_pruning(c).ok_or(RuleFault::Mark)
     }
 
-    /// `lost C`.
+    /// `lost C`: the cell becomes void, and the right side is dropped. The errors are those of `pruning`, Mark where the cell is bound, Halted where
+    /// the right side hasn't halted, and Memory. The contract alone needs `program`.
     pub(crate) fn lost(&mut self, program: &Program, c: u64) -> Result<(), RuleFault>
         ensures done { IfOk result (λ _. (t : Table) → Applies program.now t (entry.Lost c) self.old self.new) }
         ensures refused { OnErr result (self.new ≡ self.old) }
@@ -275,6 +284,7 @@ impl Marked {
             return Err(RuleFault::Halted);
         }
         let side = self.side_at(pruning.right)?;
+        // No flag changes: a pruning whose right side has halted has halted exactly if its left side has.
         self.nodes.write_node(
             pruning.at as usize,
             Node {

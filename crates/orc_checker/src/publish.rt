@@ -1,4 +1,4 @@
-// Publications of the whole.
+//! The entry `publish`: a publication that nothing takes, so that the whole program publishes it.
 
 ghost use Rattle.std.specs.Prelude.{◌≡◌, IfErr, IfOk, OnErr};
 ghost use Rattle.orc_rules.specs.Nodes.{code};
@@ -16,7 +16,7 @@ use orc_term::flags::settle;
 use orc_term::walk::{Taker, rise, way_up};
 
 impl Marked {
-    /// `publish S V`.
+    /// `publish S V`: the token ends. The errors are those of `bearer`, and Form where a `>x>` or a pruning takes its publication.
     pub(crate) fn publish(&mut self, program: &Program, s: u64, v: Value) -> Result<(), RuleFault>
         ensures done { IfOk result (λ _. Enters (code program.now) (entry.Publish s v) self.old self.new) }
         ensures refused { OnErr result (self.new ≡ self.old) }

@@ -1,4 +1,4 @@
-// What is read of a marked term by one who judges its entries.
+//! What is read of a marked term by one who judges its entries.
 
 ghost use Rattle.std.specs.Prelude.{◌≡◌, ℕ, List, IfSome, IfNone};
 ghost use Rattle.orc_rules.specs.Nodes.{param_of};
@@ -15,21 +15,21 @@ use orc_term::slot::Slot;
 use orc_term::walk::{Taker, way_up};
 
 impl Marked {
-    /// The nodes, by their numbers.
+    /// The nodes, by their numbers: of the term, and those that are gone.
     pub fn nodes(&self) -> &[Slot]
         ensures { result.now ≡ self.now.nodes }
     {
         self.nodes.items()
     }
 
-    /// The calls that were made, call 1 first.
+    /// The calls that were made, call 1 first, whether they pend or not.
     pub fn calls(&self) -> &[Kept]
         ensures { result.now ≡ self.now.rest.calls }
     {
         &self.rest.calls
     }
 
-    /// The parameter that an operand is in a scope.
+    /// The parameter that an operand is in a scope; a name that isn't bound there is itself.
     pub fn param(&self, operand: Operand, scope: usize) -> Param
         ensures { AreOrdered self.now.scopes → close_param (env_of self.now.cells self.now.scopes scope) (param_of operand) ≡ result }
     {
@@ -44,7 +44,7 @@ impl Marked {
         }
     }
 
-    /// What takes a publication of the node at a place. None where no such node is part of the term.
+    /// What takes a publication of the node of that number. None where no such node is part of the term.
     pub fn taker(&self, place: usize) -> Option<Taker>
         ensures taker { IfSome result (λ w. (n : ℕ) (k : List Frame) (t : Tree) → Stands self.now.nodes n place k t → w ≡ takes k) }
         ensures none { IfNone result ((n : ℕ) (k : List Frame) (t : Tree) → Stands self.now.nodes n place k t → ⊥) }

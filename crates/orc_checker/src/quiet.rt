@@ -1,4 +1,7 @@
-// Whether something can happen, and when the next call is due.
+//! Whether something can happen, and when the next call is due. These questions leave the term as it is; they need `&mut self`
+//! since they shorten its indexes.
+//!
+//! `program_is_source` and `tests_are_right` show the prover laws of `orc_rules`; nothing runs.
 
 ghost use Rattle.std.specs.Prelude.{◌≡◌, ◌↔◌, true};
 ghost use Rattle.orc_rules.specs.Idle.{can_move};
@@ -25,7 +28,7 @@ impl Marked {
         self.rest.next_due(&self.nodes, &mut self.due)
     }
 
-    /// Whether a rule that is no return can be used, with the program's definitions.
+    /// Whether a rule that is no return can be used, with the program's definitions: a side has halted, or a token can move.
     pub fn can_move(&mut self, program: &Program) -> bool
         ensures moves { (x : Context) (p : Place) → x.definitions ≡ definitions program.now → Spells x (code program.now) self.old p → result ≡ can_move x.definitions (erase p.marked) }
         ensures same { self.new ≡ self.old }
@@ -33,6 +36,7 @@ impl Marked {
         if let Some(_) = ended_side(&self.nodes, &self.flags, &mut self.candidates) {
             return true;
         }
+        // Takes the nodes without tokens from the list that the next call goes over.
         self.nodes.tidy();
         can_some_move(
             program,
@@ -53,6 +57,7 @@ impl Marked {
             return false;
         }
         match self.next_due() {
+            // The call returns at that time, or a tick leads there.
             Some(_) => false,
             None => !self.can_move(program),
         }

@@ -1,4 +1,4 @@
-// What of a journal isn't in its term: the time, the calls made, and the cancels due.
+//! What of a journal isn't in its term: the time, the calls made, and the cancels due.
 
 ghost use Rattle.std.specs.Prelude.{◌≡◌, ◌∷◌, List, [], true, false, reverse, length, slice_get, ℕ, Some, IfOk, IfErr, IfSome, IfNone, OnOk, OnErr};
 ghost use Rattle.orc_calls.specs.Counting.{CountsCall, NextFound};
@@ -16,22 +16,29 @@ use orc_term::room::push_within;
 use std::alloc::{AllocError, Global};
 use std::marker::Model;
 
-/// A call that was made: what the table of sites says of it, when it was made, and the node where it was put.
+/// A call that was made.
 #[derive(Clone, Copy)]
 pub struct Called {
+    /// What the table of sites says of it: an answer with a delay, or never.
     pub found: Found,
+    /// When it was made, in units of logical time.
     pub at: u64,
+    /// The node of the marked term where it was put.
     pub node: u32,
 }
 
-/// The calls by their numbers, the counts of those whose site's answers depend on how many such calls there were, the time, and the calls
-/// whose cancel is due, the next one last. Cancels come due where they are recorded.
+/// What is kept of a journal beside its term.
 #[derive(Drop)]
 pub struct Rest {
+    /// All calls by their numbers; call k is at k - 1.
     pub(crate) calls: Vec<Kept>,
+    /// How often each call of a site that a script answers was made: the n-th one gets the script's n-th answer.
     pub(crate) counts: Counts,
+    /// In units of logical time.
     pub(crate) time: u64,
+    /// The calls whose cancel is due, the least last, since that is the next one.
     pub(crate) to_cancel: Vec<u64>,
+    /// Whether the journal records cancels: only then they come due.
     pub(crate) cancels: bool,
 }
 
@@ -41,7 +48,7 @@ impl Model for Rest {
     ghost view = { λ r. record { calls = r.calls.items; counts = r.counts; time = r.time; to_cancel = reverse r.to_cancel.items; cancels = r.cancels } };
 }
 
-// A call of a site with these arguments is counted, or memory is refused.
+// Counts a call of a site with these arguments. The error is Memory; no count changes then.
 #[inline(always)]
 fn count(counts: &mut Counts, answers: &Answers, site: u32, args: &Args) -> Result<(), RuleFault>
     ensures added { OnOk result (CountsCall answers.now.sites site args.now counts.old counts.new) }
@@ -55,7 +62,7 @@ fn count(counts: &mut Counts, answers: &Answers, site: u32, args: &Args) -> Resu
 }
 
 impl Rest {
-    /// Time 0 and no calls.
+    /// Time 0 and no calls; `cancels` says whether the journal records cancels.
     pub(crate) fn new(alloc: Global, cancels: bool) -> Rest
         ensures { result ≡ record { calls = []; counts = []; time = 0; to_cancel = []; cancels = cancels } }
     {
@@ -68,7 +75,7 @@ impl Rest {
         }
     }
 
-    /// The same once more. The error is refused memory.
+    /// A copy. The error is refused memory.
     pub(crate) fn copy(&self, alloc: Global) -> Result<Rest, AllocError>
         ensures { IfOk result (λ r. r ≡ self.now) }
     {
@@ -92,7 +99,7 @@ impl Rest {
         self.counts.next_call(answers, site, args).found
     }
 
-    /// Adds a call of a site with these arguments, and counts it. Where a growth is refused nothing changes.
+    /// Adds a call of a site with these arguments, and counts it. The error is Memory; nothing changes then.
     #[inline(always)]
     pub(crate) fn add(
         &mut self,
@@ -111,7 +118,7 @@ impl Rest {
         Ok(())
     }
 
-    /// The call of that number.
+    /// The call of that number, from 1. None if there is no such call.
     pub(crate) fn call(&self, k: u64) -> Option<Called>
         ensures made { IfSome result (λ c. IsCall self.now k c) }
         ensures missing { IfNone result ((i : ℕ) → call_place self.now.calls k ≡ Some i → ⊥) }
@@ -129,7 +136,7 @@ impl Rest {
         self.calls.len()
     }
 
-    /// The time.
+    /// The time, in units of logical time.
     pub(crate) fn time(&self) -> u64
         ensures { result ≡ self.now.time }
     {
@@ -144,21 +151,21 @@ impl Rest {
         !self.to_cancel.is_empty()
     }
 
-    /// The call whose cancel is due, the first of those that are.
+    /// The least call whose cancel is due. None where none is.
     pub(crate) fn next_cancel(&self) -> Option<u64>
         ensures { result ≡ slice_get self.now.to_cancel 0 }
     {
         self.to_cancel.last().copied()
     }
 
-    /// The cancels of these calls come due, the last one first.
+    /// Makes the cancels of these calls due, of the last one first. It replaces those that were due.
     pub(crate) fn set_cancels(&mut self, calls: Vec<u64>)
         ensures { self.new ≡ record self.old { to_cancel = reverse calls.items } }
     {
         self.to_cancel = calls;
     }
 
-    /// The cancel of call `k` is done. The error is Cancel: it isn't the next one.
+    /// Takes the cancel of call `k` off those that are due. The error is Cancel: it isn't the next one; nothing changes then.
     pub(crate) fn cancel(&mut self, k: u64) -> Result<(), RuleFault>
         ensures done { OnOk result (self.old ≡ record self.new { to_cancel = k ∷ self.new.to_cancel }) }
         ensures refused { OnErr result (self.new ≡ self.old) }
@@ -173,7 +180,8 @@ impl Rest {
     }
 }
 
-/// Whether a call's answer is this one and is due at this time.
+/// Whether a call's answer is this one and is due at this time. The errors: Answer where the table says another one or never, Time where it is due at
+/// another time or past the greatest one.
 pub(crate) fn is_due_now(called: Called, answer: Answer, time: u64) -> Result<(), RuleFault>
     ensures due { IfOk result (λ _. IsDueNow called answer time) }
     ensures not_due { IfErr result (λ r. IsNotDue called.at called.found answer time r) }

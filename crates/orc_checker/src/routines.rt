@@ -1,4 +1,4 @@
-// Calls of definitions.
+//! The entry `def`: calls of definitions.
 
 ghost use Rattle.std.specs.Prelude.{◌≡◌, ◌++◌, ◌∷◌, [], Some, None, slice_get, IfErr, IfOk, IfSome, IfNone, OnErr, OnOk};
 ghost use Rattle.orc_rules.specs.Nodes.{definitions, definition_of, source};
@@ -22,7 +22,7 @@ use orc_term::flags::settle;
 use orc_term::room::{fits, push_within};
 use std::alloc::Global;
 
-/// The definition of a number.
+/// The definition of a number, from 0. None if there is no such definition, which no checked program calls.
 pub(crate) fn definition(program: &Program, number: u32) -> Option<&Definition>
     ensures there { IfSome result (λ d. slice_get (definitions program.now) number ≡ Some (definition_of program.now (routine_of d.now))) }
     ensures none { IfNone result (slice_get (definitions program.now) number ≡ None) }
@@ -33,7 +33,7 @@ pub(crate) fn definition(program: &Program, number: u32) -> Option<&Definition>
     }
 }
 
-/// One scope more, or refused memory.
+/// Adds a scope. The error is Memory.
 fn push_scope(scopes: &mut Vec<StoredScope>, scope: Scope) -> Result<(), RuleFault>
     ensures items { OnOk result (scopes.new.items ≡ scopes.old.items ++ scope ∷ []) }
     ensures why { IfErr result (λ r. r ≡ reason.Memory) }
@@ -43,14 +43,14 @@ fn push_scope(scopes: &mut Vec<StoredScope>, scope: Scope) -> Result<(), RuleFau
         .map_err(|_| RuleFault::Memory)
 }
 
-/// More scopes, or refused memory, which leaves those that are there.
+/// Adds scopes. The error is Memory; the list is unchanged then.
 #[inline(always)]
 fn extend_scopes(scopes: &mut Vec<StoredScope>, added: &Vec<StoredScope>) -> Result<(), RuleFault>
     ensures items { OnOk result (scopes.new.items ≡ scopes.old.items ++ added.now.items) }
     ensures refused { OnErr result (scopes.new.items ≡ scopes.old.items) }
     ensures why { IfErr result (λ r. r ≡ reason.Memory) }
 {
-    // Calls without arguments add none.
+    // A call without arguments adds none, and then needs no memory.
     match added.as_slice() {
         [] => Ok(()),
         more => scopes
@@ -59,7 +59,7 @@ fn extend_scopes(scopes: &mut Vec<StoredScope>, added: &Vec<StoredScope>) -> Res
     }
 }
 
-/// A scope's number as the next one keeps it, or refused memory.
+/// A scope's number in the bits in which the next scope keeps it. The error is Memory: it has more.
 fn number_of(scope: usize) -> Result<u32, RuleFault>
     ensures number { IfOk result (λ outer. outer ≡ scope) }
     ensures why { IfErr result (λ r. r ≡ reason.Memory) }
@@ -67,8 +67,8 @@ fn number_of(scope: usize) -> Result<u32, RuleFault>
     outer_number(scope).map_err(|_| RuleFault::Memory)
 }
 
-/// The scopes of a definition's parameters, the last parameter first, each the outer of the next, and the number of the last.
-/// The errors: Form where the arguments are not as many, or one of them isn't bound, and refused memory.
+/// The scopes of a definition's parameters, to be added behind `scopes`: the last parameter first, each the outer of the next; and the number of the
+/// last one. The errors: Form where the arguments are not as many, or one of them isn't bound in `scope`, and Memory.
 fn parameter_scopes(
     alloc: Global,
     scopes: &[StoredScope],
@@ -84,6 +84,7 @@ fn parameter_scopes(
         return Err(RuleFault::Form);
     }
     let mut added = Vec::new(alloc);
+    // Scope 0 has no names: a body sees its parameters alone.
     let mut outer = 0;
     let mut left = params.len();
     while left > 0 {
@@ -103,7 +104,8 @@ fn parameter_scopes(
 }
 
 impl Marked {
-    /// `def S A`.
+    /// `def S A`: a token on the definition's body takes the place of the one on the call. The errors are those of `spot` and `parameter_scopes`,
+    /// Form where it isn't on such a call, Number and Memory.
     pub(crate) fn def(&mut self, program: &Program, s: u64, a: u64) -> Result<(), RuleFault>
         ensures done { IfOk result (λ _. (t : Table) → Applies program.now t (entry.Def s a) self.old self.new) }
         ensures refused { OnErr result (self.new ≡ self.old) }

@@ -14,14 +14,16 @@ use orc_rules::value::{Answer, Found};
 use orc_term::arena::{Double, Kind, Single};
 use orc_term::candidates::ended_side;
 
-/// A side that ends an opened pruning or an entered otherwise once it has halted, by the number of the cell or of the otherwise.
+/// A side of an opened pruning or of an entered otherwise that is dropped once it has halted.
 #[derive(Clone, Copy)]
 pub enum Side {
+    /// The right side of the pruning of this cell: `lost` drops it.
     Right(u64),
+    /// The left side of the otherwise of this number: `right` drops it.
     Left(u64),
 }
 
-// The side that a part is, where the node above has sides.
+// The side that node `part` is, by the node above it. None if it is no side.
 fn side_of(above: Kind, part: usize) -> Option<Side>
     ensures { result ≡ side_of above part }
 {
@@ -37,10 +39,11 @@ fn side_of(above: Kind, part: usize) -> Option<Side>
 }
 
 impl Marked {
-    /// The answer of a call and the time at which it is due, in units of logical time. None where it pends no more or is never due.
+    /// The answer of a call and the time at which it is due, in units of logical time. None where no such call pends, or it is never due.
     pub fn due(&self, call: u64) -> Option<(Answer, u64)>
         ensures { IfSome result (λ d. (x : Context) (l : Listing) (p : Place) → Spells x (code l) self.now p → PendsUntil x p call d) }
     {
+        // A law that the prover is shown; nothing runs.
         program_is_source();
         let pending = self.find_call(call)?;
         let Found::After(answer, _) = pending.called.found else {
@@ -52,7 +55,7 @@ impl Marked {
         }
     }
 
-    /// Whether the right side of a cell's pruning has halted. None where that pruning doesn't stand.
+    /// Whether the right side of a cell's pruning has halted. None where there is no such pruning any more.
     pub fn right_has_halted(&self, cell: u64) -> Option<bool>
         ensures { IfSome result (λ b. (x : Context) (l : Listing) (p : Place) → Spells x (code l) self.now p → RightIs p cell b) }
     {
@@ -60,7 +63,7 @@ impl Marked {
         Some(self.part_has_halted(pruning.right as usize))
     }
 
-    /// Whether the left side of an otherwise has halted. None where that otherwise doesn't stand.
+    /// Whether the left side of an otherwise has halted. None where there is no such otherwise any more, or it has published.
     pub fn left_has_halted(&self, otherwise: u64) -> Option<bool>
         ensures { IfSome result (λ b. (x : Context) (l : Listing) (p : Place) → Spells x (code l) self.now p → LeftIs p otherwise b) }
     {
@@ -68,7 +71,7 @@ impl Marked {
         Some(self.part_has_halted(entered.left as usize))
     }
 
-    /// A side that has halted: of those that stand the first that may have. None where none has.
+    /// A side that has halted: of several the first of the candidates. None where none has. The term stays the same.
     pub fn halted_side(&mut self) -> Option<Side>
         ensures side { (x : Context) (l : Listing) (p : Place) → Spells x (code l) self.old p → FindsSide p result }
         ensures same { self.new ≡ self.old }

@@ -1,4 +1,4 @@
-// Calls of sites, and their answers.
+//! The entries `call` and `return`: calls of sites, and their answers.
 
 ghost use Rattle.std.specs.Prelude.{◌≡◌, ℕ, [], length, suc, IfOk, IfErr, IfSome, IfNone, OnErr};
 ghost use Rattle.orc_rules.specs.Term.{Term};
@@ -35,7 +35,8 @@ pub(crate) struct Pending {
 }
 
 impl Marked {
-    /// `call S K M(args)`.
+    /// `call S K M(args)`: call `k` pends in the token's place. The errors are those of `spot`, Form where the token isn't on this call with these
+    /// values, Number and Memory.
     pub(crate) fn call(
         &mut self,
         program: &Program,
@@ -71,6 +72,7 @@ impl Marked {
             at: self.rest.time(),
             node: spot.at,
         };
+        // If the next line is refused the note stays, and does no harm: `next_due` drops notes of nodes that don't wait.
         self.due.note(due_time(called.found, called.at), spot.at)?;
         self.rest.add(called, answers, site, args)?;
         self.nodes.write_node(
@@ -95,7 +97,7 @@ impl Marked {
         }
     }
 
-    /// Where call `k` pends.
+    /// Where call `k` pends. None if it doesn't.
     pub(crate) fn find_call(&self, k: u64) -> Option<Pending>
         ensures there { IfSome result (λ w. at self.now.nodes w.parent w.at (AtLeaf (Waits k))) }
         ensures call { IfSome result (λ w. IsCall self.now.rest k w.called) }
@@ -113,7 +115,7 @@ impl Marked {
         })
     }
 
-    /// The same, while no cancel is due.
+    /// Where call `k` pends. The errors: Cancel where a cancel is due, Mark where no such call pends.
     fn pending(&self, k: u64) -> Result<Pending, RuleFault>
         ensures free { IfOk result (λ _. self.now.rest.to_cancel ≡ []) }
         ensures there { IfOk result (λ w. at self.now.nodes w.parent w.at (AtLeaf (Waits k))) }
@@ -126,9 +128,10 @@ impl Marked {
         self.find_call(k).ok_or(RuleFault::Mark)
     }
 
-    // Both returns ask when the next call is due, so that calls which pend no more don't stay noted until the next tick.
+    // Both returns ask when the next call is due and ignore the answer: asking drops the notes of calls that pend no more, which would otherwise stay
+    // until the next tick. Only their contracts need `answers`: what the table says of a call was stored when it was made.
 
-    /// `return K A V`.
+    /// `return K A V`: token `a` is on the value. The errors are those of `pending`, Number, those of `is_due_now`, and Memory.
     pub(crate) fn answered(
         &mut self,
         answers: &Answers,
@@ -156,7 +159,7 @@ impl Marked {
         Ok(())
     }
 
-    /// `return K halt`.
+    /// `return K halt`: what pends becomes `stop`. The errors are those of `pending` and of `is_due_now`.
     pub(crate) fn given_up(&mut self, answers: &Answers, k: u64) -> Result<(), RuleFault>
         ensures done { IfOk result (λ _. (c : ℕ → Term) → EntersBy answers.now.sites c (entry.ReturnHalt k) self.old self.new) }
         ensures refused { OnErr result (self.new ≡ self.old) }

@@ -1,4 +1,4 @@
-// What has halted.
+//! What has halted.
 
 ghost use Rattle.std.specs.Prelude.{◌≡◌};
 ghost use Rattle.orc_rules.specs.Journal.{Place};
@@ -20,7 +20,7 @@ impl Marked {
         flag_at(&self.flags, 0)
     }
 
-    /// Whether the part at a node has halted.
+    /// Whether the part of the marked term at a node has halted; true where there is no such node.
     pub fn part_has_halted(&self, node: usize) -> bool
         ensures { result ≡ flag self.now.flags node }
     {

@@ -1,4 +1,8 @@
-// Which parts of a marked term can move.
+//! Which tokens of a marked term can move.
+//!
+//! A token is on a node of the program whose parts have no tokens of their own yet, though a rule can be used in one of them: `(1 | f()) >x> g` can
+//! move since `1` can. So a question about a node goes down to its parts. It uses no recursion: each node stands behind its parts, so a loop from the
+//! node down to 0 meets each part after what it is a part of. `active` flags the parts that the loop has to look at.
 
 ghost use Rattle.std.specs.Prelude.{◌≡◌, ◌≤◌, ◌||◌, ℕ, true, false, List, length, is_some};
 ghost use Rattle.orc_rules.specs.Idle.{is_ready, has_void};
@@ -20,13 +24,14 @@ use orc_term::arena::{Kind, Tip};
 use orc_term::flags::{flag_at, write_flag};
 use orc_term::nodes::Nodes;
 
-/// Whether a token on an operand can move in a scope: it is a value, or void.
+/// Whether a token on an operand can move in a scope: the operand is a value or void, not an unbound cell.
 fn is_ready(scopes: &[StoredScope], cells: &[Bound], operand: Operand, scope: usize) -> bool
     ensures { AreOrdered scopes.now → result ≡ is_ready (close_param (env_of cells.now scopes.now scope) (param_of operand)) }
 {
     match meaning(scopes, cells, operand, scope) {
         Some(Bound::Cell(_)) => false,
         Some(_) => true,
+        // A free name, which no checked program has.
         None => false,
     }
 }
@@ -51,7 +56,8 @@ fn is_callable(scopes: &[StoredScope], cells: &[Bound], operands: &[Operand], sc
     are_values(scopes, cells, operands, scope) || has_void(scopes, cells, operands, scope)
 }
 
-/// Whether a node of the program can move in a scope by itself. Its parts by whose moves it can move too are marked in `active`.
+/// Whether a node of the program can move in a scope by a rule of its own. It flags in `active` the parts by whose moves the node can move too, and
+/// clears no flag.
 fn wakes(
     program: &Program,
     halts: &Vec<bool>,
@@ -64,6 +70,7 @@ fn wakes(
     ensures wakes { AreHalts (code program.now) halts.now.items → AreOrdered scopes.now → Wakes (term_moves (definitions program.now) (code program.now) cells.now scopes.now scope) active.old.items active.new.items node result }
     ensures len { length active.new.items ≡ length active.old.items }
 {
+    // A fact that the prover is shown: each node stands behind its parts. Nothing runs.
     program.are_parts_first();
     match program.node(node) {
         TermNode::Stop => false,
@@ -78,11 +85,14 @@ fn wakes(
             write_flag(active, g, true);
             false
         }
+        // The right side starts when the left one publishes, which is a move of the left one.
         TermNode::Seq(f, _, _) => {
             write_flag(active, f, true);
             false
         }
+        // It can be opened.
         TermNode::Prune(_, _, _) => true,
+        // Once the left side has halted, the right one can start.
         TermNode::Other(f, _) => {
             write_flag(active, f, true);
             flag_at(halts, f)
@@ -90,7 +100,8 @@ fn wakes(
     }
 }
 
-/// Whether a term of the program can move in a scope; `active` is overwritten.
+/// Whether the term at a node of the program can move in a scope: the node or one of its parts. `active` has a flag for each node of the program and
+/// is overwritten.
 fn can_term_move(
     program: &Program,
     halts: &Vec<bool>,
@@ -112,6 +123,7 @@ fn can_term_move(
         }
         _ => {}
     }
+    // A law that the prover is shown; nothing runs.
     program_is_source();
     for i in 0..node {
         write_flag(active, i, false);
@@ -119,6 +131,7 @@ fn can_term_move(
     if wakes(program, halts, scopes, cells, active, node, scope) {
         return true;
     }
+    // Parts have lower numbers, so each has its flag before the loop gets to it.
     let mut above = node;
     while above > 0 {
         above -= 1;
@@ -132,7 +145,8 @@ fn can_term_move(
     false
 }
 
-/// Whether the token of a node can move.
+/// Whether the token of a node of the marked term can move; false where the node has none. Of `halts` only the scratch
+/// flags change.
 fn can_token_move(
     program: &Program,
     halts: &mut Halts,
@@ -158,7 +172,7 @@ fn can_token_move(
     }
 }
 
-/// Whether some token can move.
+/// Whether some token can move. Only restless nodes are looked at, since all tokens are on these.
 pub(crate) fn can_some_move(
     program: &Program,
     halts: &mut Halts,

@@ -1,4 +1,4 @@
-// Ticks: the time goes on.
+//! The entry `tick`: the time goes on.
 
 ghost use Rattle.std.specs.Prelude.{◌≡◌, IfOk, IfErr, OnErr};
 ghost use Rattle.orc_rules.specs.Sites.{Table};
@@ -12,12 +12,14 @@ use orc_rules::laws::{program_is_source, tests_are_right};
 use orc_rules::program::Program;
 
 impl Marked {
-    /// `tick T`.
+    /// `tick T`: the time becomes `t`. The errors: Cancel where a cancel is due, and Time where `t` isn't the least due time, isn't later than now,
+    /// or something else can happen now.
     pub(crate) fn tick(&mut self, program: &Program, t: u64) -> Result<(), RuleFault>
         ensures done { IfOk result (λ _. (sites : Table) → Applies program.now sites (entry.Tick t) self.old self.new) }
         ensures refused { OnErr result (self.new ≡ self.old) }
         ensures reason { IfErr result (λ r. (sites : Table) → IsRightlyRefused program.now sites (entry.Tick t) self.old r) }
     {
+        // Laws that the prover is shown; nothing runs.
         program_is_source();
         tests_are_right();
         if self.rest.has_cancels() {

@@ -1,4 +1,4 @@
-// What stands on void ends.
+//! The entry `void`: a token ends on void, or on a call of a site with a void argument. Void is what a variable becomes when its cell is lost.
 
 ghost use Rattle.std.specs.Prelude.{◌≡◌, true, false, IfErr, IfOk, OnErr};
 ghost use Rattle.orc_rules.specs.Idle.{has_halted, has_void};
@@ -73,7 +73,7 @@ impl Marked {
         }
     }
 
-    /// `void S`.
+    /// `void S`: the token ends. The errors are those of `spot`, and Form where it isn't on void or such a call.
     pub(crate) fn void(&mut self, program: &Program, s: u64) -> Result<(), RuleFault>
         ensures done { IfOk result (λ _. Enters (code program.now) (entry.Void s) self.old self.new) }
         ensures refused { OnErr result (self.new ≡ self.old) }
