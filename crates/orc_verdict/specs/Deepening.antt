@@ -18,5 +18,6 @@ deepening most _ = 0
 abbrev pub AreBodiesAtMost : Context → ℕ → Type 0
 AreBodiesAtMost x most = (k : ℕ) (d : Definition) → slice_get x.definitions k ≡ Some d → depth d.body ≤ most
 
+-- no entry deepens the term more
 abbrev pub DeepensAtMost : Type 0
 DeepensAtMost = (x : Context) (p : Place) (e : Entry) (q : Place) (most : ℕ) → AreBodiesAtMost x most → Leads x p e q → depth (erase q.marked) ≤ depth (erase p.marked) + deepening most e

@@ -21,11 +21,12 @@ name_at (One (Entered s g e) i) = Some (Mark s)
 name_at (Two (Side c) i j) = Some (Cell c)
 name_at _ = None
 
--- whether a node has no parts, and whether it has one
+-- whether a node has no parts
 abbrev pub is_leaf : Kind → Bool
 is_leaf (Leaf k) = true
 is_leaf _ = false
 
+-- whether a node has one part
 abbrev pub is_one : Kind → Bool
 is_one (One s i) = true
 is_one _ = false

@@ -25,6 +25,7 @@ node_height levels (Prune f x g) = suc (max (height levels f) (height levels g))
 node_height levels (Other f g) = suc (max (height levels f) (height levels g))
 node_height levels _ = 1
 
+-- one level more than this node has is a number of the machine
 abbrev pub IsLow : List ℕ → ℕ → Type 0
 IsLow levels i = height levels i + 1 < 2 ^ 64
 

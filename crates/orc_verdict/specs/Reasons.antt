@@ -42,7 +42,7 @@ IsWhy l t e s r = RefusedFor l t e s r ⊎ ((r ≡ reason.Memory) × MeetsAll l 
 abbrev pub Tests : Listing → Table → Entry → State → RuleFault → Bool → Type 0
 Tests l t e s r b = AtEach l t s (λ x p. Decides b (Meets x p e r))
 
--- the same at each numbered place that the state spells, whatever the program
+-- the truth value says whether it is so at each numbered place that the state spells, whatever the program
 abbrev pub Says : State → Bool → (Context → Place → Type 0) → Type 0
 Says s b so = (x : Context) (l : Listing) (p : Place) → IsNumbered p → Spells x (code l) s p → Decides b (so x p)
 
@@ -66,6 +66,7 @@ asked_by (entry.Publish s v) = Token s
 asked_by (entry.Tick t) = Nothing
 asked_by (entry.Cancel k) = Nothing
 
+-- what an entry asks to be there is there
 abbrev pub IsThereAs : Place → Asked → Type 0
 IsThereAs p (Token s) = HasToken p s
 IsThereAs p (Call k) = HasCall p k

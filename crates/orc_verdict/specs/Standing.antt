@@ -73,32 +73,38 @@ abbrev pub args_of : Entry → List Value
 args_of (entry.Call s k m args) = args
 args_of _ = []
 
--- whether a publication of the value is taken so
+-- whether a `>x>` takes a publication
 abbrev pub is_sent : Option Taker → Bool
 is_sent (Some (Fed i)) = true
 is_sent _ = false
 
+-- whether the pruning of this cell takes a publication
 abbrev pub is_bound : ℕ → Option Taker → Bool
 is_bound c (Some (Bound d i)) = nat_eq d c
 is_bound c _ = false
 
+-- whether nothing takes a publication
 abbrev pub is_whole : Option Taker → Bool
 is_whole (Some Whole) = true
 is_whole _ = false
 
+-- whether the token is on this value
 abbrev pub is_value : Value → Standing → Bool
 is_value v (On (Is w)) = value_eq w v
 is_value v _ = false
 
+-- whether the token is on void, or on a call of a site with a void argument
 abbrev pub is_void : Standing → Bool
 is_void (On Void) = true
 is_void (Site m void these) = void
 is_void _ = false
 
+-- whether the token is on a call of this site with the arguments that were asked for
 abbrev pub is_call : ℕ → Standing → Bool
 is_call m (Site n void these) = nat_eq n m && these
 is_call m _ = false
 
+-- whether the token is on `stop`, and below whether it is on each other kind of term
 abbrev pub is_stop : Standing → Bool
 is_stop Stop = true
 is_stop _ = false
@@ -119,6 +125,7 @@ abbrev pub is_other : Standing → Bool
 is_other Other = true
 is_other _ = false
 
+-- whether the token is on a call of a definition that there is
 abbrev pub is_known : Standing → Bool
 is_known (Call known) = known
 is_known _ = false

@@ -29,6 +29,7 @@ abbrev pub IsStopped : Context → Place → Entry → RuleFault → Type 0
 IsStopped x p e Memory = (r : RuleFault) → Meets x p e r
 IsStopped x p e why = IsRefused x p e why
 
+-- so it is at each place that s spells and that a journal of the program and its sites leads to
 abbrev pub Stops : Listing → Table → Entry → State → RuleFault → Type 0
 Stops l t e s why = (cancels : Bool) (p : Place) → IsReached (context l t cancels) (source l) p → Spells (context l t cancels) (code l) s p → IsStopped (context l t cancels) p e why
 

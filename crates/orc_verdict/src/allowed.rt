@@ -1,4 +1,4 @@
-//! The entries that are allowed at a place of a run.
+//! The entries that are allowed at a place of a run, as an explanation shows them: the first few, and how many there are.
 
 ghost use Rattle.std.specs.Prelude.{◌≡◌, IfOk, IfSome};
 ghost use Rattle.orc_rules.specs.Journal.{Place};
@@ -19,7 +19,7 @@ use orc_term::arena::{Kind, Tip};
 use std::alloc::{AllocError, Global};
 use std::marker::Model;
 
-/// How many entries are kept.
+/// How many entries are kept: an explanation shows no more.
 const KEPT: usize = 4;
 
 /// The first entries that are allowed, four at most, and how many there are.
@@ -59,7 +59,7 @@ fn taken(
     Ok(taken)
 }
 
-/// The entry by which a token can go on. None where there is no such token, a cancel is due, or it waits.
+/// The entry by which a token can go on, with the next numbers. None where there is no such token, a cancel is due, or it waits.
 pub fn entry_of(marked: &Marked, program: &Program, token: u64) -> Option<Entry>
     ensures fits { IfSome result (λ e. (x : Context) (p : Place) → x.definitions ≡ definitions program.now → Spells x (code program.now) marked.now p → Fits x p e) }
 {
@@ -79,7 +79,8 @@ fn is_callable(marked: &Marked, operands: &[Operand], scope: usize) -> bool {
     !waits
 }
 
-// Whether the token of a node can go on. What takes its publication isn't looked for.
+// Whether the token of a node can go on; false where the node has none. What takes its publication isn't looked for: something always does, or the
+// whole publishes it.
 fn is_free(marked: &Marked, program: &Program, kind: Kind) -> bool {
     match kind {
         Kind::Leaf(Tip::Bears(_, _)) => true,
@@ -100,8 +101,8 @@ fn is_free(marked: &Marked, program: &Program, kind: Kind) -> bool {
 }
 
 impl Allowed {
-    /// The entries that are allowed at a place of a run, in the order cancel, moves of tokens by their marks, `lost`, `right`, returns, tick. The error
-    /// is refused memory.
+    /// The entries that are allowed at the place to which `marked` was brought, in the order cancel, moves of tokens by their marks, `lost`, `right`,
+    /// returns, tick. Where a cancel is due it is the only one. The error is refused memory. The term stays the same.
     pub fn new(
         alloc: Global,
         marked: &mut Marked,
@@ -129,6 +130,7 @@ impl Allowed {
         Ok(Allowed { first, count })
     }
 
+    // Counts an entry, and keeps it if there is room. The error is refused memory.
     fn add(&mut self, entry: Entry) -> Result<(), AllocError> {
         self.count = self.count.saturating_add(1);
         if self.first.len() < KEPT {
@@ -137,7 +139,8 @@ impl Allowed {
         Ok(())
     }
 
-    // The moves of tokens by their marks. Of those that aren't kept it is enough that they can be made.
+    // Adds the moves of tokens in the order of their marks. Of those that aren't kept it only counts the tokens that can go on. The error is refused
+    // memory.
     fn add_tokens(&mut self, marked: &Marked, program: &Program) -> Result<(), AllocError> {
         for mark in 1..marked.new_mark() {
             if self.first.len() >= KEPT {
@@ -147,6 +150,7 @@ impl Allowed {
                 self.add(entry)?;
             }
         }
+        // The loop above may have stopped early, so the tokens are counted again by their nodes.
         self.count = 0;
         for slot in marked.nodes() {
             if is_free(marked, program, slot.node().kind) {
@@ -156,12 +160,14 @@ impl Allowed {
         Ok(())
     }
 
+    // Adds `lost` for each cell and then `right` for each otherwise whose side has halted. The error is refused memory.
     fn add_sides(&mut self, marked: &Marked) -> Result<(), AllocError> {
         for cell in 1..marked.new_cell() {
             if let Some(entry) = side_entry(marked, Side::Right(cell)) {
                 self.add(entry)?;
             }
         }
+        // The numbers of otherwises are marks.
         for mark in 1..marked.new_mark() {
             if let Some(entry) = side_entry(marked, Side::Left(mark)) {
                 self.add(entry)?;
@@ -170,6 +176,7 @@ impl Allowed {
         Ok(())
     }
 
+    // Adds the return of each call that is due now. The error is refused memory.
     fn add_returns(&mut self, marked: &Marked) -> Result<(), AllocError> {
         for call in 1..marked.new_call() {
             match marked.due(call) {
@@ -182,7 +189,7 @@ impl Allowed {
         Ok(())
     }
 
-    // A tick, where nothing else can be done now.
+    // Adds a tick, where nothing else can be done now. The error is refused memory.
     fn add_tick(&mut self, marked: &mut Marked) -> Result<(), AllocError>
         ensures { marked.new ≡ marked.old }
     {
@@ -201,7 +208,7 @@ impl Allowed {
         self.first.as_slice()
     }
 
-    /// How many there are.
+    /// How many entries are allowed, with those that aren't kept. No contract covers it.
     pub fn count(&self) -> u64 {
         self.count
     }

@@ -1,4 +1,4 @@
-// Entries applied, and refused for the first reason.
+//! One entry applied, or refused for the first reason: for a caller who needs its label, or the term unchanged after a refusal.
 
 ghost use Rattle.std.specs.Prelude.{◌≡◌, true, IfOk, IfErr, OnErr};
 ghost use Rattle.orc_rules.specs.Nodes.{code};
@@ -19,7 +19,7 @@ use orc_rules::limits::MOST_LEVELS;
 use orc_rules::program::Program;
 use std::alloc::Global;
 
-// Why an entry was refused that leads on only where memory is: the first reason, or Memory where there is none.
+// Why an entry was refused: the first reason, or Memory where there is none, since an entry that meets all conditions is refused for memory alone.
 fn reason_or_memory(
     marked: &mut Marked,
     program: &Program,
@@ -29,6 +29,7 @@ fn reason_or_memory(
     ensures why { Stops program.now answers.now entry.now marked.old result }
     ensures same { marked.new ≡ marked.old }
 {
+    // A law that the prover is shown; nothing runs.
     meets_and_leads();
     match first_reason(marked, program, answers, entry) {
         Some(reason) => reason,
@@ -36,7 +37,8 @@ fn reason_or_memory(
     }
 }
 
-// Whether the term after an entry surely nests no deeper than a checked term may.
+// Whether the term after an entry surely nests no deeper than a checked term may. It looks at no node; false doesn't say that
+// it nests deeper.
 fn stays_shallow(heights: &Heights, marked: &Marked, entry: &Entry) -> bool
     ensures { result ≡ true → StaysShallow heights.now entry.now marked.now }
 {
@@ -50,7 +52,7 @@ fn stays_shallow(heights: &Heights, marked: &Marked, entry: &Entry) -> bool
     }
 }
 
-// Applies an entry, whatever the depth of the term after it.
+// Applies an entry, whatever the depth of the term after it. The error is the first reason, never Deep; nothing has changed then.
 fn apply_at_any_depth(
     alloc: Global,
     marked: &mut Marked,
@@ -93,6 +95,7 @@ pub fn apply(
         };
     }
     let Ok(mut tried) = marked.copy(alloc) else {
+        // Memory for the copy is refused, but the entry may be refused for another reason first.
         return Err(reason_or_memory(marked, program, answers, entry));
     };
     let label = apply_at_any_depth(alloc, &mut tried, program, answers, entry)?;

@@ -1,4 +1,5 @@
-// How deep a marked term nests.
+//! How deep a marked term nests, in levels: a term without parts has one, any other one more than its deepest part. `depth_of` looks at all nodes;
+//! the bounds of `most_depth` and `allowed_depth` are quick.
 
 ghost use Rattle.std.specs.Prelude.{◌≡◌, ◌≤◌, ◌+◌, ◌++◌, ℕ, List, IfOk, IfSome, OnOk};
 ghost use Rattle.orc_rules.specs.Journal.{Place};
@@ -29,7 +30,7 @@ fn kind_of(nodes: &[Slot], i: usize) -> Kind
     }
 }
 
-// The levels of the program's term in a node, 0 where there is none.
+// The levels of the program's term that a node holds, its own or that of its right side; 1 for a leaf without one, 0 for any other node without one.
 fn own_levels(heights: &Heights, kind: Kind) -> usize
     ensures { result ≡ own_levels heights.now kind }
 {
@@ -43,7 +44,7 @@ fn own_levels(heights: &Heights, kind: Kind) -> usize
     }
 }
 
-// How many levels lower than the node that term and the parts stand.
+// How many levels deeper than the node its parts are, and the term that it holds: none where the node means just its part.
 fn step_down(kind: Kind) -> usize
     ensures { result ≡ step_down kind }
 {
@@ -55,7 +56,7 @@ fn step_down(kind: Kind) -> usize
     }
 }
 
-// The sum, where memory could hold as many levels.
+// The sum. The error is an overflow, which stands for refused memory: no memory holds so many levels.
 fn sum(a: usize, b: usize) -> Result<usize, AllocError>
     ensures { IfOk result (λ n. n ≡ a + b) }
 {
@@ -65,7 +66,7 @@ fn sum(a: usize, b: usize) -> Result<usize, AllocError>
     }
 }
 
-// Adds the parts of a node, with the levels above them. The error is refused memory.
+// Adds the parts of a node to the list of those to look at, with the levels above them. The error is refused memory.
 fn push_parts(left: &mut Vec<(usize, usize)>, kind: Kind, above: usize) -> Result<(), AllocError>
     ensures { OnOk result (left.new.items ≡ left.old.items ++ with_levels above (parts_of kind)) }
 {
@@ -86,6 +87,7 @@ pub fn depth_of(alloc: Global, heights: &Heights, marked: &Marked) -> Result<usi
 {
     let nodes = marked.nodes();
     let mut deepest = 0;
+    // What is left to look at, each node with the levels above it.
     let mut left = Vec::new(alloc);
     left.push((0, 0))?;
     for _step in 0..=nodes.len() {
@@ -97,12 +99,12 @@ pub fn depth_of(alloc: Global, heights: &Heights, marked: &Marked) -> Result<usi
         deepest = deepest.max(sum(above, own_levels(heights, kind))?);
         push_parts(&mut left, kind, above)?;
     }
-    // Each node stands once in the term, so that all were looked at.
+    // The loop has returned before, since each node is in the term at most once.
     Err(AllocError)
 }
 
-/// As many levels as the marked term has at most, by how many of its nodes stand one below the other; `most` is as many as the deepest of
-/// the program's terms has. None where that isn't known.
+/// A bound for the levels of the marked term: the bound for how many of its nodes are one below another, plus `most`, the levels of the program's
+/// deepest term. It looks at no node. None where the first bound isn't known.
 pub(crate) fn most_depth(marked: &Marked, most: usize) -> Option<usize>
     ensures { IfSome result (λ d. (x : Context) (l : Listing) (p : Place) (heights : List ℕ) → AreHeights (code l) heights → AreAtMost heights most → Spells x (code l) marked.now p → depth (erase p.marked) ≤ d) }
 {
@@ -113,7 +115,7 @@ pub(crate) fn most_depth(marked: &Marked, most: usize) -> Option<usize>
     }
 }
 
-// The same, where a checked term may have as many.
+// That bound, if a checked term may have as many levels.
 fn most_allowed(marked: &Marked, most: usize) -> Option<usize>
     ensures { IfSome result (λ d. IsAllowed marked.now most d) }
 {
@@ -123,8 +125,8 @@ fn most_allowed(marked: &Marked, most: usize) -> Option<usize>
     }
 }
 
-/// As many levels as the marked term has at most, where a checked term may have as many. Where its nodes don't tell at first they are all
-/// looked at, so that they do for a while. None where they never tell.
+/// A bound for the levels of the marked term that is at most `MOST_LEVELS`: that of `most_depth`, or, if it is too great, the smaller one after a
+/// look at all nodes, which stays good for a while. None if that is too great too; the term may still be shallow enough.
 pub(crate) fn allowed_depth(marked: &mut Marked, most: usize) -> Option<usize>
     ensures depth { IfSome result (λ d. IsAllowed marked.old most d) }
     ensures same { marked.new ≡ marked.old }

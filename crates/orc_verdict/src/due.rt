@@ -1,4 +1,4 @@
-// What the table of sites answers to a call that was made, and when.
+//! What the table of sites answers to a call that was made, and when.
 
 ghost use Rattle.std.specs.Prelude.{◌≡◌, ℕ, IfSome, IfNone};
 ghost use Rattle.std.specs.Bool.{Decides};
@@ -13,7 +13,7 @@ use orc_checker::Marked;
 use orc_checker::rest::Called;
 use orc_rules::value::{Answer, Found};
 
-/// The call of that number.
+/// The call of that number, from 1, whether it pends or not. None if there is no such call.
 fn call_made(marked: &Marked, k: u64) -> Option<Called>
     ensures call { IfSome result (λ c. IsCall marked.now.rest k c) }
     ensures none { IfNone result ((c : CallMade) → IsCall marked.now.rest k c → ⊥) }
@@ -43,13 +43,14 @@ fn is_due_at(called: Called, answer: Answer, time: u64) -> bool
 {
     match called.found {
         Found::After(given, delay) => {
+            // Not `called.at + delay`, which may overflow: then the call is never due.
             given == answer && time >= called.at && time - called.at == delay
         }
         Found::Never => false,
     }
 }
 
-/// Whether the table's answer to call `k` is this one.
+/// Whether the table's answer to call `k` is this one, whenever it is due; false if there is no such call.
 pub(crate) fn is_answer(marked: &Marked, k: u64, answer: Answer) -> bool
     ensures { Says marked.now result (λ x p. IsAnswer x p k answer) }
 {
@@ -59,7 +60,7 @@ pub(crate) fn is_answer(marked: &Marked, k: u64, answer: Answer) -> bool
     }
 }
 
-/// Whether the table's answer to call `k` is this one, and due now.
+/// Whether the table's answer to call `k` is this one, and due now; false if there is no such call.
 pub(crate) fn is_due(marked: &Marked, k: u64, answer: Answer) -> bool
     ensures { Says marked.now result (λ x p. IsDue x.sites p.calls k answer p.now) }
 {

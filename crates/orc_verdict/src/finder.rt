@@ -1,4 +1,4 @@
-// The node that has a name.
+//! The node that has a name, found by a look at all nodes.
 
 ghost use Rattle.std.specs.Prelude.{◌≡◌, true, false, Some, IfSome, IfNone};
 ghost use Rattle.orc_verdict.specs.Finding.{name_at as name_shown, is_leaf, is_one, Has, HasNone, LacksAt};
@@ -22,7 +22,7 @@ pub(crate) struct Part {
     pub kind: Kind,
 }
 
-/// The name that a node shows.
+/// The name by which an entry can name a node. None if it has none.
 fn name_of(kind: Kind) -> Option<Name>
     ensures { result ≡ name_shown kind }
 {
@@ -67,7 +67,7 @@ fn is_named(kind: Kind, name: Name) -> bool
     }
 }
 
-/// The node of that number, where it has the name.
+/// The node of that number, if it has the name.
 fn part_at(nodes: &[Slot], name: Name, at: usize) -> Option<Part>
     ensures has { IfSome result (λ f. Has nodes.now name f) }
     ensures lacks { IfNone result (LacksAt nodes.now name at) }
@@ -85,7 +85,7 @@ fn part_at(nodes: &[Slot], name: Name, at: usize) -> Option<Part>
     }
 }
 
-/// A node that has the name.
+/// The first node that has the name. None if none has it.
 pub(crate) fn find(marked: &Marked, name: Name) -> Option<Part>
     ensures has { IfSome result (λ f. Has marked.now.nodes name f) }
     ensures none { IfNone result (HasNone marked.now.nodes name) }

@@ -1,4 +1,4 @@
-// How deep a program's terms nest.
+//! How deep a program's terms nest, in levels: a term without parts has one, any other one more than its deepest part.
 
 ghost use Rattle.std.specs.Prelude.{◌≡◌, ◌<◌, ◌≤◌, ◌+◌, ◌^◌, ℕ, suc, max, List, IfOk};
 ghost use Rattle.orc_rules.specs.Nodes.{code};
@@ -12,6 +12,7 @@ use std::marker::Model;
 #[derive(Drop)]
 pub struct Heights {
     levels: Vec<usize>,
+    /// No term has more levels.
     most: usize,
 }
 
@@ -76,6 +77,7 @@ impl Heights {
         ensures { IfOk result (λ h. AreHeights (code program.now) h) }
     {
         let mut levels = Vec::new(alloc);
+        // Facts that the prover is shown; nothing runs. Each node stands behind its parts, so that their levels are known when its turn comes.
         program.are_unfolded();
         program.are_parts_first();
         for i in 0..program.len() {
@@ -85,7 +87,7 @@ impl Heights {
         Ok(Heights { levels, most })
     }
 
-    /// How deep the term of that node nests, in levels.
+    /// How deep the term of that node of the program nests, in levels; 1 where there is no such node.
     pub fn at(&self, node: usize) -> usize
         ensures { result ≡ height self.now node }
     {

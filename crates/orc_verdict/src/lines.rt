@@ -1,4 +1,4 @@
-// The verdict on a journal's text, whose entries are taken as they are read.
+//! The verdict on a journal's text, whose entries are taken as they are read.
 
 ghost use Rattle.std.specs.Prelude.{◌≡◌, ◌++◌, List, ℕ, length, IfOk, IfErr};
 ghost use Rattle.orc_rules.specs.declared.entry.Entry.{Entry as EntryOf};
@@ -22,10 +22,10 @@ use orc_rules::program::Program;
 use std::alloc::Global;
 use std::io::Read;
 
-/// Why a text has no verdict.
+/// Why a text has no verdict. A fault of the text goes before one of its journal, wherever they are.
 #[derive(Clone, Copy, PartialEq, Eq, Debug)]
 pub enum TextFault {
-    /// It is no journal's.
+    /// It is not the text of a journal.
     Journal(JournalFault),
     /// The journal is refused.
     Check(CheckFault),
@@ -51,7 +51,7 @@ pub struct Checked {
     pub verdict: Verdict,
 }
 
-// The fault of a text whose journal is refused: one of the lines that are left goes before.
+// The fault of a text whose journal is refused for `fault`. It reads the lines that are left, since a fault of theirs goes before.
 fn refused<R: Read + Drop>(lines: &mut Lines<R>, answers: &Answers, fault: CheckFault) -> TextFault
     ensures { (l : Listing) (text : List ℕ) (es : List EntryOf) → HasRead answers.now.names text lines.old es → ((more : List EntryOf) → IsRefusedAt l answers.now lines.old.version (es ++ more) fault) → (piece : List ℕ) × MayCome lines.old.coming.left piece × IsTextFault l answers.now (text ++ piece) result }
 {
@@ -61,9 +61,9 @@ fn refused<R: Read + Drop>(lines: &mut Lines<R>, answers: &Answers, fault: Check
     }
 }
 
-/// The verdict on a text's journal of a program, as `read_journal` and `check_journal` tell it together. The text is read piece by piece, and no more is
-/// kept of it than a piece and the longest line, and none of the entries, so that a check needs memory for the marked term and that piece alone. The fault is that of the text, else that of the journal;
-/// or the text couldn't be read.
+/// The verdict on the journal in a text, that of `check_journal` on what `read_journal` reads. The text is read piece by piece: no more of it is kept
+/// than a piece and the longest line, and none of the entries, so that a check needs memory for the marked term and that piece alone. The error is
+/// the fault of the text, otherwise that of the journal, or that the text couldn't be read. A refused journal's text is still read to its end.
 pub fn check_lines<R: Read + Drop>(
     alloc: Global,
     program: &Program,
@@ -77,6 +77,7 @@ pub fn check_lines<R: Read + Drop>(
         Ok(lines) => lines,
         Err(fault) => return Err(TextFault::from(fault)),
     };
+    // Memory is refused before the first entry.
     let none = CheckFault {
         at: 0,
         why: RuleFault::Memory,
@@ -90,6 +91,7 @@ pub fn check_lines<R: Read + Drop>(
     let most = heights.most();
     let levels = heights.at(program.source());
     let mut taken = Taken { marked, levels };
+    // Overwritten with each entry that is read.
     let mut entry = Entry::Tick(0);
     while lines.next(answers, &mut entry)? {
         match take(alloc, program, answers, &heights, most, &mut taken, &entry) {
@@ -102,6 +104,7 @@ pub fn check_lines<R: Read + Drop>(
     }
     match taken.marked.next_cancel() {
         Some(_) => Err(TextFault::Check(CheckFault {
+            // One past the last entry.
             at: lines.read() as u64 + 1,
             why: RuleFault::Cancel,
         })),

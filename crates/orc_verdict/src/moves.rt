@@ -19,6 +19,7 @@ pub fn token_entry(marked: &Marked, token: u64, next: Next) -> Option<Entry>
     ensures waits { IfNone result (next ≡ Wait) }
 {
     let mark = marked.new_mark();
+    // It never saturates: no run has 2^64 marks. The contract leaves new numbers open, so no proof has to exclude it.
     let second = mark.saturating_add(1);
     match next {
         Next::End => Some(Entry::End(token)),
@@ -36,7 +37,7 @@ pub fn token_entry(marked: &Marked, token: u64, next: Next) -> Option<Entry>
     }
 }
 
-/// The entry that ends a side. None where it doesn't stand, or hasn't halted.
+/// The entry that drops a side which has halted: `lost`, or `right` with the next mark. None where there is no such side, or it hasn't halted.
 pub fn side_entry(marked: &Marked, side: Side) -> Option<Entry>
     ensures over { IfSome result (λ e. (x : Context) (l : Listing) (p : Place) → Spells x (code l) marked.now p → IsOver p e) }
 {
@@ -56,7 +57,7 @@ pub fn side_entry(marked: &Marked, side: Side) -> Option<Entry>
     }
 }
 
-/// The entry in which a call returns with an answer.
+/// The entry in which a call returns with an answer, with the next mark for a value. Whether the call pends and has this answer isn't asked.
 pub fn return_entry(marked: &Marked, call: u64, answer: Answer) -> Entry
     ensures answer { (x : Context) (p : Place) → IsAnswer x p call answer → IsAnswered x p result }
     ensures time { (x : Context) (p : Place) → IsDue x.sites p.calls call answer p.now → IsOnTime x p result }

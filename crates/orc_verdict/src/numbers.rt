@@ -7,14 +7,14 @@ ghost use Rattle.orc_verdict.specs.Numbers.{AreNext};
 
 use orc_rules::entry::Entry;
 
-/// The numbers that an entry gives to what it makes, in the order of its line.
+/// The numbers that an entry gives to what it makes, in the order of its line. Each is None if the entry makes no such thing.
 #[derive(Clone, Copy, Debug, PartialEq, Eq)]
 pub struct Numbers {
     pub cell: Option<u64>,
     pub call: Option<u64>,
     /// The mark of a new token.
     pub mark: Option<u64>,
-    /// That of a second one.
+    /// The mark of a second new token.
     pub second: Option<u64>,
 }
 
@@ -26,7 +26,7 @@ const NONE: Numbers = Numbers {
     second: None,
 };
 
-/// The new numbers of an entry.
+/// The new numbers of an entry, whether they are the next ones or not.
 pub fn numbers_of(entry: &Entry) -> Numbers
     ensures { (p : Place) → AreNext p result → IsCounted p entry.now }
 {

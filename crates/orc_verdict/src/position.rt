@@ -1,4 +1,4 @@
-// What a token stands on, and which entries fit it.
+//! What a token stands on, and which entries fit it.
 
 ghost use Rattle.std.specs.Prelude.{◌≡◌, List, Option, Some, None, map, is_some, slice_get};
 ghost use Rattle.orc_rules.specs.Nodes.{code, definitions, param_of};
@@ -16,14 +16,16 @@ use orc_rules::value::Value;
 use orc_term::arena::{Kind, Tip};
 use orc_term::walk::Taker;
 
-/// What a token stands on. Of a call of a site: whether an argument is void, and whether the arguments are those that are asked for.
-/// Of a call of a definition: whether there is such a definition.
+/// What a token stands on, as far as an entry asks.
 #[derive(Clone, Copy)]
 pub(crate) enum Standing {
+    /// There is no token.
     Nothing,
     Stop,
     On(Param),
+    /// A call of this site: whether an argument is void, and whether the arguments are the values that the entry names.
     Site(u32, bool, bool),
+    /// A call of a definition: whether there is such a definition.
     Call(bool),
     Par,
     Seq,
@@ -73,7 +75,7 @@ fn is_defined(program: &Program, definition: u32) -> bool
     (definition as usize) < program.definitions().len()
 }
 
-/// What a token on a node of the program stands on.
+/// What a token on a node of the program stands on; `args` are the arguments that the entry names.
 fn on_node(
     marked: &Marked,
     program: &Program,
@@ -102,7 +104,7 @@ fn on_node(
     }
 }
 
-/// What the token of a node stands on, nothing where the node is no token.
+/// What the token of a node stands on, Nothing where the node is no token; `args` are the arguments that the entry names.
 pub(crate) fn standing_of(
     marked: &Marked,
     program: &Program,
@@ -124,7 +126,7 @@ pub(crate) fn standing_of(
     }
 }
 
-/// The token that an entry names.
+/// The token that an entry names. None if it names none, as `right`, whose mark is an otherwise's.
 pub fn mark_named(entry: &Entry) -> Option<u64>
     ensures { result ≡ mark_of entry.now }
 {
@@ -149,7 +151,7 @@ pub fn mark_named(entry: &Entry) -> Option<u64>
     }
 }
 
-/// The arguments of a call.
+/// The arguments that a `call` names, none for any other entry.
 pub(crate) fn args_named(entry: &Entry) -> &[Value]
     ensures { result.now ≡ args_of entry.now }
 {
@@ -199,7 +201,7 @@ fn on_value(value: Value, standing: Standing) -> bool
     }
 }
 
-/// Whether the token stands on void.
+/// Whether the token stands on void, or on a call of a site with a void argument.
 fn on_void(standing: Standing) -> bool
     ensures { result ≡ is_void standing }
 {

@@ -1,4 +1,7 @@
-// The first reason why an entry is refused.
+//! The first reason why an entry is refused: a test for each reason, in the order of the reasons.
+//!
+//! Each test has the same parameters, since its contract names them all. `journal_is_numbered` shows the prover a law, that a mark, a call or a cell
+//! is on at most one node of the term; nothing runs.
 
 ghost use Rattle.std.specs.Prelude.{◌≡◌, ◌≢◌, ◌&&◌, nat_eq, suc, IfSome, IfNone};
 ghost use Rattle.std.specs.Bool.{Decides};
@@ -18,7 +21,7 @@ use orc_rules::program::Program;
 use orc_rules::value::Answer;
 use orc_term::arena::Kind;
 
-/// What an entry asks to be there.
+/// What an entry names, which has to be in the term.
 #[derive(Clone, Copy)]
 enum Asked {
     Token(u64),
@@ -29,7 +32,7 @@ enum Asked {
     Nothing,
 }
 
-/// What an entry asks to be there.
+/// What an entry names, which has to be in the term.
 fn asks_for(entry: &Entry) -> Asked
     ensures { result ≡ asked_by entry.now }
 {
@@ -94,7 +97,7 @@ fn has_cell(marked: &Marked, c: u64) -> bool
     }
 }
 
-/// The call that a cancel names.
+/// The call that a cancel names. None for any other entry.
 fn cancel_named(entry: &Entry) -> Option<u64>
     ensures { result ≡ cancel_of entry.now }
 {
@@ -104,7 +107,7 @@ fn cancel_named(entry: &Entry) -> Option<u64>
     }
 }
 
-/// Whether two answers of a look are the same.
+/// Whether both are None, or the same number.
 fn are_same(first: Option<u64>, second: Option<u64>) -> bool
     ensures { Decides result (first ≡ second) }
 {
@@ -120,7 +123,7 @@ fn are_same(first: Option<u64>, second: Option<u64>) -> bool
     }
 }
 
-/// Whether no cancel is due, or the entry is the next one.
+/// Whether the entry is the cancel that is due next, or neither is a cancel due nor the entry one.
 fn is_in_turn(marked: &Marked, program: &Program, answers: &Answers, entry: &Entry) -> bool
     ensures { Tests program.now answers.now entry.now marked.now reason.Cancel result }
 {
@@ -149,7 +152,7 @@ fn is_there(marked: &Marked, program: &Program, answers: &Answers, entry: &Entry
     }
 }
 
-/// Whether the kind of term, the name, the arguments, the value and the taker are the entry's.
+/// Whether the kind of term, the name, the arguments, the value and the taker are the entry's. True of an entry that names no token.
 fn fits(marked: &Marked, program: &Program, answers: &Answers, entry: &Entry) -> bool
     ensures { Tests program.now answers.now entry.now marked.now reason.Form result }
 {
@@ -166,7 +169,7 @@ fn fits(marked: &Marked, program: &Program, answers: &Answers, entry: &Entry) ->
     }
 }
 
-/// Whether `b` is the number after `a`.
+/// Whether `b` is the number after `a`. It doesn't add, since a journal has any numbers of 64 bits.
 fn is_after(b: u64, a: u64) -> bool
     ensures { result ≡ nat_eq b (suc a) }
 {
@@ -203,7 +206,7 @@ fn is_counted(marked: &Marked, program: &Program, answers: &Answers, entry: &Ent
     )
 }
 
-/// The call and the answer of a return.
+/// The call and the answer of a return. None for any other entry.
 fn answer_named(entry: &Entry) -> Option<(u64, Answer)>
     ensures { result ≡ answer_of entry.now }
 {
@@ -225,7 +228,7 @@ fn is_answered(marked: &Marked, program: &Program, answers: &Answers, entry: &En
     }
 }
 
-/// The time of a tick.
+/// The time of a tick. None for any other entry.
 fn tick_named(entry: &Entry) -> Option<u64>
     ensures { result ≡ tick_of entry.now }
 {
@@ -290,7 +293,7 @@ fn left_is_over(marked: &Marked, s: u64) -> bool
     }
 }
 
-/// Whether the side that the entry leaves has halted.
+/// Whether the side that the entry drops, as halted, has halted. True of any entry but `lost` and `right`.
 fn is_over(marked: &Marked, program: &Program, answers: &Answers, entry: &Entry) -> bool
     ensures { Tests program.now answers.now entry.now marked.now reason.Halted result }
 {
@@ -305,8 +308,8 @@ fn is_over(marked: &Marked, program: &Program, answers: &Answers, entry: &Entry)
     }
 }
 
-/// The first reason why the entry is refused, never Deep or Memory; None where all conditions of the entry are met.
-/// It looks at all nodes of the term.
+/// The first reason why the entry is refused, never Deep or Memory; None where all conditions of the entry are met. It looks at all nodes of the
+/// term, which stays the same.
 pub fn first_reason(
     marked: &mut Marked,
     program: &Program,

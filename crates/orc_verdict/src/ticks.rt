@@ -1,4 +1,4 @@
-// Ticks.
+//! Whether a tick is allowed.
 
 ghost use Rattle.std.specs.Prelude.{◌≡◌, ◌<◌, false, Some};
 ghost use Rattle.std.specs.Bool.{Decides};
@@ -11,7 +11,7 @@ use orc_checker::Marked;
 use orc_rules::laws::tests_are_right;
 use orc_rules::program::Program;
 
-/// Whether nothing moves, and the time is the next due one and later than now.
+/// Whether nothing moves, and `t` is the next due time and later than now.
 fn may_tick(moves: bool, due: Option<u64>, now: u64, t: u64) -> bool
     ensures { Decides result ((moves ≡ false) × (due ≡ Some t) × (now < t)) }
 {
@@ -26,6 +26,7 @@ pub(crate) fn can_tick(marked: &mut Marked, program: &Program, t: u64) -> bool
     ensures tick { (x : Context) (p : Place) → x.definitions ≡ definitions program.now → Spells x (code program.now) marked.old p → Decides result (IsTick x (moment p) t) }
     ensures same { marked.new ≡ marked.old }
 {
+    // A law that the prover is shown; nothing runs.
     tests_are_right();
     let due = marked.next_due();
     let now = marked.now();

@@ -1,4 +1,7 @@
-// The verdict on a whole journal.
+//! The verdict on a whole journal.
+//!
+//! The depth of the term isn't computed at each entry: a bound for its levels grows by what an entry can add, and is made smaller only when it would
+//! exceed the limit. `meets_and_leads` and `tests_are_right` show the prover laws of `orc_rules`; nothing runs.
 
 ghost use Rattle.std.specs.Prelude.{◌≡◌, ◌≢◌, ◌<◌, ◌≤◌, ◌+◌, length, slice_get, Some, IfOk, IfErr, IfSome};
 ghost use Rattle.orc_rules.specs.Journal.{Place};
@@ -61,7 +64,7 @@ pub(crate) struct Taken {
     pub levels: usize,
 }
 
-/// How many levels an entry adds at most, where no term of the program has more than `most`.
+/// How many levels an entry adds at most, where no term of the program has more than `most`: a `def` puts a body in, a `send` a `|` on top.
 pub(crate) fn deepening(most: usize, entry: &Entry) -> usize
     ensures { result ≡ deepening most entry.now }
 {
@@ -72,7 +75,7 @@ pub(crate) fn deepening(most: usize, entry: &Entry) -> usize
     }
 }
 
-/// The sum, where a checked term may have as many levels.
+/// The sum of two numbers of levels. None if it is over `MOST_LEVELS`.
 pub(crate) fn allowed(levels: usize, more: usize) -> Option<usize>
     ensures { IfSome result (λ n. (n ≡ levels + more) × (n ≤ MOST_LEVELS)) }
 {
@@ -82,7 +85,8 @@ pub(crate) fn allowed(levels: usize, more: usize) -> Option<usize>
     }
 }
 
-/// Takes an entry. The error is the first reason why it is refused; refused memory only where there is no other but its depth.
+/// Takes an entry; `most` bounds the levels of each of the program's terms. The error is the first reason why the entry is refused, and Memory only
+/// where there is no other but perhaps its depth. After an error `taken` may have the entry, so the caller takes no more.
 pub(crate) fn take(
     alloc: Global,
     program: &Program,
@@ -105,6 +109,7 @@ pub(crate) fn take(
             };
         }
     }
+    // The cheapest bound comes first, then that by the nodes' ranks, and last the exact depth.
     match allowed(taken.levels, deepening(most, entry)) {
         Some(levels) => {
             taken.levels = levels;
@@ -131,7 +136,7 @@ pub(crate) fn take(
     }
 }
 
-/// Where a run stands.
+/// Whether a run is Halted, Quiet or Running. The term stays the same.
 pub(crate) fn state_of(program: &Program, marked: &mut Marked) -> State
     ensures state { (x : Context) (p : Place) → x.definitions ≡ definitions program.now → Spells x (code program.now) marked.old p → IsAt x p result }
     ensures same { marked.new ≡ marked.old }
@@ -163,6 +168,7 @@ fn entry_at(journal: &Journal, at: usize) -> Entry
 {
     match journal.get(at) {
         Some(entry) => entry,
+        // Proved by `requires`.
         None => unreachable!(),
     }
 }
