@@ -12,11 +12,11 @@ use Rattle.orc_ledger_spec.specs.declared.results.Moved.TheVariants as moved
 abbrev pub KeepsAll : List Token → List Token → Type 0
 KeepsAll slots slots' = (i : ℕ) (t : Token) → IsHeld slots i t → IsHeld slots' i t
 
--- each token of another slot than this one is
+-- each token of another slot than this one is still in it
 abbrev pub KeepsOthers : List Token → ℕ → List Token → Type 0
 KeepsOthers slots slot slots' = (i : ℕ) (t : Token) → (i ≡ slot → ⊥) → IsHeld slots i t → IsHeld slots' i t
 
--- each token outside the right side of cell c is
+-- each token outside the right side of cell c is still in its slot
 abbrev pub KeepsOutside : (ℕ → Term) → ℕ → Records → Records → Type 0
 KeepsOutside code c s s' = (i : ℕ) (t : Token) → token_goes code c s t ≡ false → IsHeld s.slots i t → IsHeld s'.slots i t
 

@@ -1,4 +1,7 @@
 //! Calls that the table of sites answers at once: the call and its answer in one go.
+//!
+//! Of the clauses `held` says that the token is in the slot, `at` or `form` what it is on, `done` what becomes of the records, `others` which tokens
+//! stay in their slots, `refused` that a refused call changes nothing, and `why` its cause.
 
 ghost use Rattle.std.specs.Prelude.{◌≡◌, ◌++◌, ◌∷◌, [], map, slice_index_or, IfOk, IfErr, IfSome, IfNone, OnOk, OnErr};
 ghost use Rattle.orc_rules.specs.Nodes.{code, definitions, param_of};
@@ -26,7 +29,7 @@ use orc_rules::entry::Entry;
 use orc_rules::value::{Answer, Args, Found};
 use orc_tables::{Call, Standing, Token};
 
-// The answer that the table gives at once, if it does.
+// The answer that the table gives with delay 0; None if it gives it later or never.
 fn answer_at_once(found: Found) -> Option<Answer>
     ensures { IfSome result (λ answer. found ≡ After answer 0) }
 {
@@ -69,6 +72,7 @@ fn write_answered<P: Run>(
     match counts.add(inputs.answers, site, args) {
         Ok(()) => Ok(()),
         Err(_) => {
+            // One entry after the other, since `truncate` asks for a proof that what goes publishes nothing. The second call alone would do the work.
             journal.truncate(called);
             journal.truncate(entries);
             Err(LedgerFault::Memory)
@@ -77,8 +81,8 @@ fn write_answered<P: Run>(
 }
 
 impl<P: Run> Ledger<P> {
-    /// A call of a site with values, as `call` makes it; where the table answers it at once its answer is recorded too, if the journal may have
-    /// both entries. `args` is lent for the arguments.
+    /// A token at a call of a site with values makes it, as `call` does; if the table answers it at once, the answer is recorded too, provided that
+    /// the limit allows both entries. Else the call pends. `args` is lent for the arguments.
     pub fn call_through(
         &mut self,
         inputs: &Inputs<'_, P>,
@@ -97,8 +101,8 @@ impl<P: Run> Ledger<P> {
         self.answer_through(inputs, slot, token, site, args)
     }
 
-    /// The same of a token that stands at a call of this site with these operands, by one look at them. None, which changes nothing, where an operand has
-    /// no value.
+    /// A token at a call of this site, with the operands of this list in this scope, makes the call as `call_through` does. It looks at the operands
+    /// once. None, which changes nothing, where an operand has no value. `args` is lent for the arguments.
     #[inline(always)]
     pub fn call_at(
         &mut self,
@@ -127,7 +131,7 @@ impl<P: Run> Ledger<P> {
         Ok(None)
     }
 
-    /// The same of a call whose site and arguments are known.
+    /// A token at a call of this site with these arguments makes it as `call_through` does.
     #[inline(always)]
     pub(crate) fn answer_through(
         &mut self,
@@ -154,6 +158,7 @@ impl<P: Run> Ledger<P> {
             }
         };
         let number = call.number;
+        // The call never pends: all that the table of calls gets is its number.
         match self.calls.reserve_number() {
             Ok(()) => {}
             Err(_) => return Err(LedgerFault::Memory),

@@ -1,4 +1,4 @@
-//! Claims: what only an exchange with others can show, asked of a move last.
+//! Claims: what a move may have to win from other workers. The move asks for it last, when nothing else can refuse it any more.
 
 ghost use Rattle.std.specs.Prelude.{◌≡◌, true, false};
 
@@ -7,12 +7,12 @@ ghost use Rattle.std.specs.Prelude.{◌≡◌, true, false};
 /// A move asks it when nothing else can refuse the move any more: its entry is written, and nothing else has changed. Where the claim is lost the
 /// entry is taken back.
 pub trait Claim {
-    // What becomes of a claim that is got, and of one that is lost.
+    // What holds of a claim before and after it was asked: if it was got, and if it was lost.
     ghost got: { Self → Self → Type 0 };
 
     ghost lost: { Self → Self → Type 0 };
 
-    /// Whether it is got.
+    /// Asks for it, once, and says whether it was got.
     fn ask(&mut self) -> bool
         ensures yes { result ≡ true → got self.old self.new }
         ensures no { result ≡ false → lost self.old self.new };

@@ -19,7 +19,7 @@ use orc_log::Run;
 use orc_rules::entry::Entry;
 use orc_tables::{Standing, Token};
 
-// Makes room for so many more scopes.
+// Makes room for `count` more scopes. The only fault is `Memory`.
 fn reserve_scopes(scopes: &mut Vec<StoredScope>, count: usize) -> Result<(), LedgerFault>
     ensures items { scopes.new.items ≡ scopes.old.items }
     ensures room { OnOk result (vec_len scopes.new + count ≤ vec_capacity scopes.new) }
@@ -39,14 +39,16 @@ fn extend_within(scopes: &mut Vec<StoredScope>, more: &[StoredScope])
     if more.is_empty() {
         return;
     }
+    // There is room, so it isn't refused.
     let added = scopes.extend_from_slice(more);
     prove!(added.is_ok());
 }
 
 impl<P: Run> Ledger<P> {
-    /// A call of a definition: a token on its body in the same slot, in scopes for its parameters. `added` is lent for these scopes, and what it
-    /// held is lost. Ok(false), which changes nothing, where there is no such definition, where the operands are not as many as the
-    /// parameters, or where one of them isn't bound: no checked program has such a call.
+    /// A call of a definition: a token on its body takes the slot, with a scope for each parameter, and Ok(true). `token` is the one in the slot, at
+    /// a call of `definition` in `scope`, with the operands of list `list`. `added` is lent for the new scopes, and what it held is lost. Ok(false),
+    /// which changes nothing, where there is no such definition, where the operands are not as many as the parameters, or where one of them isn't
+    /// bound: no checked program has such a call.
     #[inline(always)]
     pub fn def(
         &mut self,

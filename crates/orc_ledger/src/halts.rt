@@ -1,4 +1,4 @@
-//! Groups that halt: nobody is in them any more.
+//! Groups that halt: no token, no pending call and no other group is in them any more.
 
 ghost use Rattle.std.specs.Prelude.{◌≡◌, Some, IfOk, OnOk, OnErr, IfErr, MatchOption};
 ghost use Rattle.orc_rules.specs.Nodes.{code};
@@ -23,26 +23,27 @@ impl<P: Run> Ledger<P> {
         self.groups.get(number)
     }
 
-    // The group round a group.
+    // The number of the group around a group.
     fn parent_of(&self, group: Group) -> u32
         ensures { result ≡ group_at self.now.steps group.outer }
     {
         self.steps.group_at(group.outer)
     }
 
-    // Whether a publication has left the otherwise of a group.
+    // Whether the otherwise with this number has published. Its left side is this group.
     fn was_left(&self, group: u32, number: u64) -> bool
         ensures { result ≡ has_left self.now.steps number }
     {
-        // The hint is right; were it not, this would only take longer.
+        // The hint leads to the step that entered the left side. A wrong one would only cost a look at each step.
         match left_at(&self.steps, self.groups.hint(group), number) {
             Some(left) => left,
             None => has_left(&self.steps, number),
         }
     }
 
-    /// The group with this number, which has halted, ends. A cell's right side is lost: the cell has no value. The left side of an otherwise
-    /// starts the right side, unless a publication has left it: its group goes then, and no entry says so.
+    /// Ends the group with this number, which has no member. A right side of a `<x<` is lost: its cell becomes void. The left side of an otherwise
+    /// starts the right side, unless it has published: then its group goes, and no entry says so. Gone where no open group has this number (the
+    /// program's own, 0, isn't one), Live where it has members, Refused where its entry is. A group that is refused stays.
     pub fn halt(&mut self, number: u32) -> Result<Halted, HaltFault>
         ensures done { IfOk result (λ h. HasHalted (code P.listing) self.old self.new number h) }
         ensures others { OnOk result (KeepsAll self.old.slots self.new.slots) }

@@ -1,4 +1,5 @@
-//! Laws of a ledger: each function's contract is the law.
+//! Laws of a ledger: each function's contract is the law. Nothing runs: to name a field shows the prover the ledger's invariant, from which the law
+//! follows.
 
 ghost use Rattle.orc_ledger_spec.specs.Moves.{CallsFit};
 ghost use Rattle.orc_ledger_spec.specs.Offered.{NothingIsLost};
@@ -9,11 +10,12 @@ use orc_log::Run;
 
 /// Nothing of Orc is lost, in one statement. Of each entry with which the ledger's journal may go on by the rules:
 ///
-/// - one of a token is that token's word, and its new numbers are those that the ledger gives next;
+/// - one of a token is that token's action, as [`Ledger::what`] answers it, and its new numbers are those that the ledger gives next;
 /// - for a return the call pends, and [`Ledger::returned`] answers neither `Gone` nor `Wrong`;
-/// - the side that a `lost` or a `right` leaves is an open group; no call pends in it, its inner groups included, and each token in it makes a move
-///   of marks next;
-/// - a tick is one that [`Ledger::tick`] takes; [`Ledger::next`] says it, unless a token makes a move of marks next or a group goes without an entry;
+/// - the side that a `lost` or a `right` ends is an open group; no call pends in it, its inner groups included, and each token in it makes a move of
+///   marks next (an entry that uses no rule: `end`, `fork`, `seq` or `other`);
+/// - a tick is one that [`Ledger::tick`] takes; [`Ledger::next`] says it, unless a token makes a move of marks next or a group that has published has
+///   to be closed first;
 /// - it is no cancel.
 ///
 /// And where the run is quiet by the rules, `next` says that, with the same exceptions.
@@ -23,15 +25,15 @@ pub fn offered<P: Run>(ledger: &Ledger<P>)
     let _journal = &ledger.journal;
 }
 
-/// In a program that the scope check took each call of a definition that a token makes has its arguments. So [`Ledger::advance`] leaves no token as it
-/// is but those that wait or call a site.
+/// In a program that the scope check has accepted, each call of a definition that a token makes fits its parameters. So [`Ledger::advance`] leaves no
+/// token as it is but those that wait or call a site.
 pub fn calls_fit<P: Run>(ledger: &Ledger<P>)
     ensures { CallsFit P.listing ledger.now }
 {
     let _journal = &ledger.journal;
 }
 
-/// The journal leads to a place that the records spell, and their groups are nested as their sides.
+/// The journal leads to the marked term that the records describe, and their groups are nested as the sides are.
 pub fn stands<P: Run>(ledger: &Ledger<P>)
     ensures { Stands P.listing P.sites ledger.now }
 {

@@ -1,4 +1,5 @@
-//! The records under their invariant: the journal leads from the program's term to a place that they spell.
+//! The ledger, a new one, and what it tells of itself. Its invariant (`IsKept`) says above all that the journal leads, by Orc's rules, from the
+//! program's term to the marked term that its records describe.
 
 ghost use Rattle.std.specs.Prelude.{◌≡◌, ◌+◌, ◌<◌, ◌≤◌, ◌∷◌, ◌⊎◌, [], true, false, length, IfOk, IfErr, IfSome, IfNone, OnOk, OnErr};
 ghost use Rattle.orc_rules.specs.Timed.{IsIn};
@@ -31,19 +32,26 @@ use std::marker::{Model, PhantomData};
 
 /// The records of a run, with its journal.
 pub struct Ledger<P: Run> {
+    // The most entries that the journal is to have, cancels not counted.
     pub(crate) limit: usize,
     pub(crate) journal: Log<P>,
+    // How many it has, cancels not counted: at most `limit`.
     pub(crate) entries: usize,
+    // The number of the next mark. Marks can't overflow: an entry adds two at most, and `MOST_ENTRIES` is small.
     pub(crate) next_mark: u64,
+    // In logical units, from 0.
     pub(crate) time: u64,
     pub(crate) tokens: Tokens,
     pub(crate) calls: Pending,
+    // How often each site that a script answers was called with the same arguments.
     pub(crate) counts: Counts,
+    // Scope n is the n-th record, and step n the n-th step; 0 is the scope without names, and the program as a whole.
     pub(crate) scopes: Vec<StoredScope>,
     pub(crate) steps: Steps,
     pub(crate) groups: Groups,
+    // By number, what a cell has become; one that isn't bound yet stands for itself.
     pub(crate) cells: Vec<Bound>,
-    // Lent to a bind.
+    // Lists for `bind`, kept so that it rarely asks for memory.
     pub(crate) crowd: Crowd,
     pub(crate) program: PhantomData<P>,
 }
@@ -104,7 +112,8 @@ pub(crate) fn write<P: Run>(journal: &mut Log<P>, entry: &Entry) -> Result<(), L
     }
 }
 
-// Writes an entry that publishes nothing, and asks the claim then. Where memory is refused, or the claim is lost, the journal stays as it was.
+// Writes an entry that publishes nothing, and asks the claim then. Memory where memory is refused, Unclaimed where the claim is lost; the journal
+// stays as it was then.
 #[inline(always)]
 pub(crate) fn write_claimed<P: Run, C: Claim>(
     journal: &mut Log<P>,
@@ -127,8 +136,8 @@ pub(crate) fn write_claimed<P: Run, C: Claim>(
 }
 
 impl<P: Run> Ledger<P> {
-    /// A new run: token 1 stands at the program's main term, whose node is `root`, in slot 0. The journal is to have at most `limit` entries beside
-    /// the cancels, and is held where the run `keeps` it. The only fault is `Memory`.
+    /// A new run at time 0: token 1 is on the program's main term, whose node is `root`, in slot 0. The journal is to have at most `limit` entries
+    /// (1 to `MOST_ENTRIES`), cancels not counted, and is held if the run `keeps` it. The only fault is `Memory`.
     pub fn begin(
         alloc: Global,
         keeps: bool,
@@ -176,28 +185,31 @@ impl<P: Run> Ledger<P> {
         })
     }
 
-    /// What the journal is as a whole, as a law.
+    /// A law, and nothing runs: the journal leads, by the rules, from the program's term to a place at the ledger's time where no cancel is due; and
+    /// it has as many entries as `entries` says, which is within the limit.
     pub fn is_whole(&self)
         ensures { IsWhole P.listing P.sites self.now }
     {
+        // To name a field shows the prover the invariant; so in the laws below.
         let _journal = &self.journal;
     }
 
-    /// The limit is the one that the run is named with, as a law.
+    /// A law, and nothing runs: the ledger's limit is that of the run `P`.
     pub fn keeps_limit(&self)
         ensures { self.now.limit ≡ P.limit }
     {
         let _journal = &self.journal;
     }
 
-    /// Where a call is refused as full, the journal has reached the number that refuses it, as a law.
+    /// A law, and nothing runs: where a move, a call of a site or the end of a group would be refused as Full, the journal shows why. Its entries can
+    /// have made as many tokens, open groups or left sides of a `>x>` as there may be.
     pub fn full_is_crowded(&self)
         ensures { FullIsCrowded P.listing self.now }
     {
         let _journal = &self.journal;
     }
 
-    /// The journal, which is kept, and nothing else of the ledger.
+    /// The journal of a run that keeps it. Nothing else of the ledger is left.
     pub fn into_journal(self) -> Journal
         requires keeps { P.keeps ≡ true }
         ensures entries { result.entries ≡ self.journal }
@@ -206,14 +218,15 @@ impl<P: Run> Ledger<P> {
         self.into_log().into_journal()
     }
 
-    /// The values that the journal's entries publish, in order, and nothing else of the ledger. The error is refused memory.
+    /// The values that the run has published, in order, whether it keeps its journal or not. Nothing else of the ledger is left. The error is refused
+    /// memory.
     pub fn into_published(self) -> Result<Vec<Value>, AllocError>
         ensures { IfOk result (λ values. values.items ≡ published self.journal) }
     {
         self.into_log().into_published()
     }
 
-    // The journal, as much of it as is held, and nothing else of the ledger.
+    // The log of the run. Nothing else of the ledger is left.
     pub(crate) fn into_log(self) -> Log<P>
         ensures entries { result.entries ≡ self.journal }
         ensures version { result.version ≡ Two }
@@ -266,7 +279,7 @@ impl<P: Run> Ledger<P> {
         self.time
     }
 
-    /// The number of the mark that comes next.
+    /// The number of the mark that comes next, from 2 on.
     pub fn next_mark(&self) -> u64
         ensures { result ≡ self.now.next_mark }
     {
@@ -280,7 +293,7 @@ impl<P: Run> Ledger<P> {
         self.tokens.len()
     }
 
-    /// The token with this serial, if it is in this slot.
+    /// The token with this serial, which isn't 0, if it is in this slot.
     #[inline(always)]
     pub fn token(&self, slot: usize, serial: u64) -> Option<Token>
         requires { 1 ≤ serial }
@@ -305,7 +318,7 @@ impl<P: Run> Ledger<P> {
         }
     }
 
-    /// The journal, which is kept.
+    /// The journal of a run that keeps it.
     pub fn journal(&self) -> &Journal
         requires keeps { P.keeps ≡ true }
         ensures entries { result.now.entries ≡ self.now.journal }
@@ -321,8 +334,9 @@ impl<P: Run> Ledger<P> {
         self.journal.len()
     }
 
-    /// Whether one more entry, so many more tokens and groups, one of each at most, and a token with so many left sides of a `>x>` round it, are within
-    /// the limits. The fault is Full where one of the engine's numbers is reached, else Limit.
+    /// Whether the limits allow one more entry, with this many more `tokens` and `groups` (0 or 1 each) and a token inside `depth` left sides of a
+    /// `>x>` (0 where none is entered). Full where there would be more than `MOST_TOKENS`, `MOST_GROUPS` or `MOST_FRAMES`, else Limit where the
+    /// journal has as many entries as its limit.
     #[inline(always)]
     pub fn within(&self, tokens: usize, groups: usize, depth: u32) -> Result<(), LedgerFault>
         requires { (tokens ≤ 1) × (groups ≤ 1) }
@@ -331,6 +345,7 @@ impl<P: Run> Ledger<P> {
         ensures room { OnOk result (self.now.entries < self.now.limit) }
         ensures places { OnOk result (HasRoom self.now tokens groups depth) }
     {
+        // The first test keeps the subtraction in the second from going below 0. One of `MOST_GROUPS` is the program's own, which isn't in the table.
         if self.tokens.len() > MOST_TOKENS - tokens
             || self.calls.len() > MOST_TOKENS - tokens - self.tokens.len()
             || self.groups.len() > MOST_GROUPS - 1 - groups

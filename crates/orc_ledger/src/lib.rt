@@ -1,4 +1,8 @@
-//! The records of a run under one invariant: the journal of what they did leads from the program to a place that they spell.
+//! The state of a run, as records with one invariant: the journal leads, by Orc's rules, from the program's term to exactly the term that the records
+//! describe.
+//!
+//! Of the clauses `held` says that the token is in the slot, `at` or `form` what it is on, `done` what becomes of the records, `others` which tokens
+//! stay in their slots, `refused` that a refused call changes nothing, and `why` its cause.
 #![tactic(auto)]
 
 mod at_once;

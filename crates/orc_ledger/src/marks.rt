@@ -1,4 +1,10 @@
 //! The entries of a token that stands at a node: an end, a void token, a fork, the left side of a `>x>` and of an otherwise, a pruning.
+//!
+//! Each function first asks the limits and reserves memory, and then writes its entry: once that is written nothing refuses it any more. So what is
+//! refused has changed nothing. Each takes the token that is in the slot, and the scope and the nodes of its term.
+//!
+//! Of the clauses `held` says that the token is in the slot, `at` or `form` what it is on, `done` what becomes of the records, `others` which tokens
+//! stay in their slots, `refused` that a refused call changes nothing, and `why` its cause.
 
 ghost use Rattle.std.specs.Prelude.{◌≡◌, ◌+◌, ℕ, length, IfOk, IfErr, OnOk, OnErr};
 ghost use Rattle.orc_rules.specs.Nodes.{code};
@@ -24,7 +30,7 @@ use orc_rules::limits::MOST_FRAMES;
 use orc_tables::{Frame, Side, Standing, Step, Token};
 
 impl<P: Run> Ledger<P> {
-    /// `stop`: the token goes.
+    /// `stop`: the token ends, and its slot is free.
     pub fn end(&mut self, slot: usize, token: Token) -> Result<(), LedgerFault>
         requires held { IsHeld self.old.slots slot token }
         requires at { (node : ℕ) × (scope : ℕ) × (token.standing ≡ At node scope) × (code P.listing node ≡ stop) }
@@ -42,7 +48,7 @@ impl<P: Run> Ledger<P> {
         Ok(())
     }
 
-    /// A variable without a value, or a call with such an argument: the token goes.
+    /// A void variable, or a call of a site with a void argument: nothing can give it a value any more. The token ends, and its slot is free.
     pub fn void(&mut self, slot: usize, token: Token) -> Result<(), LedgerFault>
         requires held { IsHeld self.old.slots slot token }
         requires void { IsVoid (standing (code P.listing) (its_env (code P.listing) self.old) token.standing) }
@@ -131,6 +137,7 @@ impl<P: Run> Ledger<P> {
     {
         let group = self.steps.group_at(token.step);
         let depth = self.steps.depth_at(token.step);
+        // Asked before `within`, so that `depth + 1` doesn't overflow.
         if depth as usize >= MOST_FRAMES {
             return Err(LedgerFault::Full);
         }
@@ -160,7 +167,7 @@ impl<P: Run> Ledger<P> {
         Ok(())
     }
 
-    /// `f ; g`: a token on the left side, in the same slot, in a new group. The claim is asked last.
+    /// `f ; g`: a token on the left side, in the same slot, in a new group. The claim is asked last; Unclaimed where it is lost.
     pub fn other<C: Claim>(
         &mut self,
         slot: usize,
@@ -190,6 +197,7 @@ impl<P: Run> Ledger<P> {
         let step = self.steps.len() + 1;
         let parent = self.steps.group_at(token.step);
         // Its parent loses the token and gets the group: it has as many members as before.
+        // The otherwise has the token's mark for its number.
         let number = self.groups.open(
             Side::Left(token.serial, right, scope),
             token.step,
@@ -217,7 +225,7 @@ impl<P: Run> Ledger<P> {
     }
 
     /// `f <x< g`: a token on each side with a new cell between them, the left one in the same slot, the right one in a new group. Gives the
-    /// right one's slot. The claim is asked last.
+    /// right one's slot. The claim is asked last; Unclaimed where it is lost.
     pub fn prune<C: Claim>(
         &mut self,
         slot: usize,
@@ -260,6 +268,7 @@ impl<P: Run> Ledger<P> {
         let number = self
             .groups
             .open(Side::Right(cell), token.step, step, parent);
+        // The parent keeps one token, on the left side, and gets the group.
         self.groups.join(parent);
         self.groups.join(number);
         push_within(
@@ -274,6 +283,7 @@ impl<P: Run> Ledger<P> {
             entered: Frame::PruneRight(cell),
             outer: token.step,
             group: number,
+            // Left sides of a `>x>` outside a right side don't count in it.
             depth: 0,
             published: false,
         });

@@ -1,4 +1,10 @@
-//! Moves of tokens: a token does what it does next.
+//! Moves of tokens: a token does what it does next. Each `move_..` makes the entry that one kind of node, or of taker, asks for, and tells as
+//! [`Moved`] what became of the token.
+//!
+//! Of the clauses `held` says that the token is in the slot, `at` or `form` what it is on, `done` what becomes of the records, `others` which tokens
+//! stay in their slots, `refused` that a refused call changes nothing, and `why` its cause. `asked` says that a claim was got if the move needs one:
+//! `HasAsked` takes what is true of a claim that wasn't asked and of one that was got, `IsBarredAt` the first and that of one that was lost. The ks
+//! in `Moves` are the calls that a bind cancels: for other moves any list will do.
 
 ghost use Rattle.std.specs.Prelude.{◌≡◌, ◌≤◌, ℕ, List, [], map, length, true, false, Some, None as Nothing, slice_index_or, IfOk, IfErr, IfSome, IfNone, OnOk, OnErr};
 ghost use Rattle.orc_rules.specs.declared.param.Param.TheVariants.{Name, Is};
@@ -35,14 +41,14 @@ use orc_rules::value::{Args, Value};
 use orc_tables::{Standing, Token};
 
 impl<P: Run> Ledger<P> {
-    /// The number of the group of a token that took this step last.
+    /// The number of the group of a token whose innermost step this is; 0, the program's own, for step 0.
     pub fn group_of(&self, step: usize) -> u32
         ensures { result ≡ group_at self.now.steps step }
     {
         self.steps.group_at(step)
     }
 
-    /// What takes a value that the token publishes.
+    /// What takes a value that the token publishes: a `>x>`, a cell, or nothing.
     #[inline(always)]
     pub fn taker_of(&self, token: Token) -> Taker
         requires { (slot : ℕ) × IsHeld self.now.slots slot token }
@@ -53,7 +59,7 @@ impl<P: Run> Ledger<P> {
         find_taker(&self.steps, token.step)
     }
 
-    // What stands for an operand in a scope.
+    // What stands for an operand in a scope: a value, an unbound cell or void. None for a name that isn't bound there.
     fn bound_of(&self, operand: Operand, scope: usize) -> Option<Bound>
         ensures bound { IfSome result (λ b. close_param (its_env (code P.listing) self.now scope) (param_of operand) ≡ given b) }
         ensures free { IfNone result ((x : ℕ) × (close_param (its_env (code P.listing) self.now scope) (param_of operand) ≡ Name x)) }
@@ -79,7 +85,7 @@ impl<P: Run> Ledger<P> {
         take_values(&self.scopes, &self.cells, operands, scope, args)
     }
 
-    // What a call of a site with these operands does.
+    // What a token at a call of a site with these operands does: `Call`, `Void` or `Wait`.
     pub(crate) fn scan(&self, operands: &[Operand], scope: usize) -> Action
         ensures { result ≡ scan false Nothing (closed (its_env (code P.listing) self.now scope) operands.now) }
     {
@@ -215,7 +221,7 @@ impl<P: Run> Ledger<P> {
         ensures why { IfErr result (λ fault. IsHindered P.listing self.old token fault) }
     {
         match inputs.graph.body(definition as usize) {
-            // No limit refuses what can't be done.
+            // Asked before the limits, which `def` asks first: what can't be done waits, and is never refused.
             None => Ok(Moved::Waits),
             Some(_) => {
                 if self.def(inputs, slot, token, scope, definition, list, added)? {
@@ -371,6 +377,7 @@ impl<P: Run> Ledger<P> {
         ensures why { IfErr result (λ fault. IsHindered P.listing self.old token fault) }
     {
         let operands = inputs.graph.operands(list as usize);
+        // Asked by itself first: most calls have their values, and a `bool` is quicker to hand back than an `Action`.
         if self.have_values(operands, scope) {
             return Ok(Moved::Calls);
         }
@@ -419,10 +426,10 @@ impl<P: Run> Ledger<P> {
         }
     }
 
-    /// A token does what it does next, as `what` says: a move of marks or an entry of its own, whose kind follows from the token's node and from
-    /// what takes its value. A call of a site is not made, and a token that waits stays as it is. Where a cell is bound or a side opened the claim is
-    /// asked last; any other move leaves it untouched, and so does whatever refuses a move before it is asked. `added` and `cancelled` are lent: where a
-    /// cell is bound `cancelled` then holds the numbers of the calls that are cancelled, in rising order.
+    /// A token does what it does next, as `what` says: a move of marks or an entry of its own, whose kind follows from the token's node and from what
+    /// takes its value. A call of a site is not made, and a token that waits stays as it is. Where a cell is bound or a side opened the claim is
+    /// asked last; any other move leaves it untouched, and so does whatever refuses a move before it is asked. `added` and `cancelled` are lent:
+    /// where a cell is bound `cancelled` then holds the numbers of the calls that are cancelled, in rising order.
     pub fn advance_by<C: Claim>(
         &mut self,
         inputs: &Inputs<'_, P>,
@@ -448,7 +455,8 @@ impl<P: Run> Ledger<P> {
         }
     }
 
-    /// The same where there is nobody to lose a claim to.
+    /// A token does what it does next, as `advance_by` says, where there is nobody to lose a claim to. Full, Limit or Memory where its entry is
+    /// refused, and then nothing changes. `added` and `cancelled` are lent as there.
     pub fn advance(
         &mut self,
         inputs: &Inputs<'_, P>,
@@ -467,7 +475,7 @@ impl<P: Run> Ledger<P> {
         self.advance_by(inputs, slot, token, &mut claim, added, cancelled)
     }
 
-    /// The same of a token that stands on this value.
+    /// A token on this value does what it does next, as `advance` says: it publishes the value to what takes it.
     #[inline(always)]
     pub fn advance_value(
         &mut self,

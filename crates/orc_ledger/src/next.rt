@@ -1,4 +1,4 @@
-//! What comes next where no token is at hand.
+//! What comes next in a run, where its caller has no token in mind: a token that can move, an empty group, a tick, or nothing.
 
 ghost use Rattle.std.specs.Prelude.{◌≡◌, ◌≤◌, ◌↔◌, true, false, MatchOption};
 ghost use Rattle.orc_rules.specs.Nodes.{code, definitions};
@@ -34,7 +34,8 @@ impl<P: Run> Ledger<P> {
         }
     }
 
-    /// A token that doesn't wait, with its slot. It looks at one after another, and at none where all are parked.
+    /// A token that doesn't wait, with its slot. None where each token waits. It looks at one after another, and at none where all are parked: known
+    /// to wait.
     pub fn movable(&self, inputs: &Inputs<'_, P>) -> Option<(usize, Token)>
         ensures { MatchOption result (ready (code P.listing) (definitions P.listing) self.now ≡ 0) (λ m. IsHeld self.now.slots m.0 m.1 × (is_wait (what_of (code P.listing) (definitions P.listing) self.now m.1) ≡ false)) }
     {
@@ -54,26 +55,27 @@ impl<P: Run> Ledger<P> {
         ensures some { result ≡ true → 1 ≤ ready (code P.listing) (definitions P.listing) self.now }
         ensures none { result ≡ false → ready (code P.listing) (definitions P.listing) self.now ≡ 0 }
     {
+        // Shows the prover the invariant; nothing runs.
         let _tokens = &self.tokens;
         self.movable(inputs).is_some()
     }
 
-    /// How many tokens, pending calls and open groups are in the group of that number: its live count. That of the program is 0; where no group has
-    /// the number nobody is in it.
+    /// How many members the group with this number has: the tokens, pending calls and groups that are directly in it. The program's own group is
+    /// number 0. A number that no group has counts none.
     pub fn member_count(&self, number: u32) -> u32
         ensures { result ≡ members (numbers_of self.now) self.now number }
     {
         self.groups.size(number)
     }
 
-    /// Whether nobody is in the group of that number, no token, no pending call and no group. That of the program is 0.
+    /// Whether the group with this number has no members: no token, no pending call and no group. The program's own group is number 0.
     pub fn is_empty(&self, number: u32) -> bool
         ensures { result ≡ true ↔ (members (numbers_of self.now) self.now number ≡ 0) }
     {
         self.member_count(number) == 0
     }
 
-    /// The number of an open group in which nobody is. The program's own isn't among them.
+    /// The number of an open group without members, other than the program's own. None where there is no such group.
     pub fn empty_group(&self) -> Option<u32>
         ensures { MatchOption result (empty_groups (numbers_of self.now) self.now ≡ 0) (λ number. (members (numbers_of self.now) self.now number ≡ 0) × ((g : Its) × IsGroup self.now number g)) }
     {
@@ -96,7 +98,7 @@ impl<P: Run> Ledger<P> {
         self.is_empty(0) || self.empty_group().is_some()
     }
 
-    // What comes next, as an equation alone.
+    // What comes next, as an equation. `next` also promises that the rules agree.
     fn find_next(&mut self, inputs: &Inputs<'_, P>) -> Next
         ensures is { spoken result ≡ next_of (code P.listing) (definitions P.listing) (numbers_of self.old) self.old }
         ensures same { self.new ≡ self.old }
@@ -116,13 +118,15 @@ impl<P: Run> Ledger<P> {
         }
     }
 
-    /// What comes next. Work where a token can move, a group has no members, or a call is due; else a tick to the least due time of the
-    /// pending calls; else nothing, the run is quiet. It looks at each token unless all are parked, and at each group.
+    /// What comes next. Work where a token can move, a group (the program's own, too) has no members, or a call is due; else a tick to the least due
+    /// time of the pending calls; else the run is quiet. It may look at each token, unless all are parked. No record changes: `&mut` is for the notes
+    /// of due times, of which it drops those whose calls are gone.
     pub fn next(&mut self, inputs: &Inputs<'_, P>) -> Next
         ensures is { spoken result ≡ next_of (code P.listing) (definitions P.listing) (numbers_of self.old) self.old }
         ensures right { IsRight P.listing P.sites self.old result }
         ensures same { self.new ≡ self.old }
     {
+        // Shows the prover the invariant; nothing runs.
         let _time = &self.time;
         self.find_next(inputs)
     }

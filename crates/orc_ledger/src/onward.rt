@@ -1,4 +1,7 @@
 //! Moves in one go: a token enters the left side of a `>x>`, the call there is made and answered at once, and the `>x>` takes the answer.
+//!
+//! Of the clauses `held` says that the token is in the slot, `at` or `form` what it is on, `done` what becomes of the records, `others` which tokens
+//! stay in their slots, `refused` that a refused call changes nothing, and `why` its cause.
 
 ghost use Rattle.std.specs.Prelude.{◌≡◌, ℕ, List, [], map, true, false, slice_index_or, IfOk, IfErr, OnOk, OnErr};
 ghost use Rattle.orc_rules.specs.Nodes.{code, param_of};
@@ -21,7 +24,8 @@ use orc_rules::value::{Args, Value};
 use orc_tables::{Standing, Token};
 
 impl<P: Run> Ledger<P> {
-    // A `>x>` takes the value on which a token stands, if it is what takes it and memory isn't refused. Whether it did.
+    // Sends the value on which a token stands to the `>x>` that takes it. False, and nothing changes, where something else takes it or the entry is
+    // refused.
     #[inline(always)]
     fn send_on(&mut self, slot: usize, token: Token, value: Value) -> bool
         requires held { IsHeld self.old.slots slot token }
@@ -42,7 +46,7 @@ impl<P: Run> Ledger<P> {
         }
     }
 
-    // A token at a call of a site makes it, if the operands are values, and goes on with the answer.
+    // A token at a call of a site makes it, if the operands are values, and goes on with the answer. `On` where nothing has changed.
     #[inline(always)]
     fn call_on(
         &mut self,
@@ -63,6 +67,7 @@ impl<P: Run> Ledger<P> {
             let mark = self.next_mark;
             return match self.answer_through(inputs, slot, token, site, args) {
                 Ok(Called::Answered(value)) => {
+                    // The token that the answer has put into the slot.
                     let answered = Token {
                         serial: mark,
                         standing: Standing::On(value),
@@ -76,14 +81,14 @@ impl<P: Run> Ledger<P> {
                 }
                 Ok(Called::Pends(number)) => Passed::Pends(number),
                 Ok(Called::Halted(group)) => Passed::Halted(group),
-                // It is refused once more where its turn comes.
+                // Nothing has changed: whoever moves the token next meets the same refusal, and reports it.
                 Err(_) => Passed::On,
             };
         }
         Passed::On
     }
 
-    // The last step goes, at which nobody stands.
+    // Removes the last step, at which no token, call or group is left. So a loop doesn't add a step in each round.
     #[inline(always)]
     fn shed(&mut self)
         requires { IsVacant self.old }
@@ -92,9 +97,10 @@ impl<P: Run> Ledger<P> {
         self.steps.drop_last();
     }
 
-    /// `f >x> g`: a token on the left side, in the same slot, as `feed` puts it there. Where it stands at a call of a site with values then, the call is
-    /// made, as `call_through` makes it; and where that is answered at once the `>x>` takes the answer. What is refused after the first entry is left for
-    /// the next time. Where it comes through, or halts, the step on which it entered goes again. `args` is lent for the arguments.
+    /// `f >x> g`: a token on the left side, in the same slot, as `feed` puts it there. If it is at a call of a site with values then, the call is
+    /// made, as `call_through` makes it; and if that is answered at once the `>x>` takes the answer. The fault says why the first entry is refused,
+    /// and then nothing changes; what is refused after it is left undone, and is no fault. If the token gets through, or the call halts, the step
+    /// into the left side goes again. `args` is lent for the arguments.
     pub fn feed_through(
         &mut self,
         inputs: &Inputs<'_, P>,
@@ -118,6 +124,7 @@ impl<P: Run> Ledger<P> {
         let Node::Site(site, list) = inputs.graph.node(left as usize) else {
             return Ok(Passed::On);
         };
+        // The token that `feed` has put into the slot.
         let first = Token {
             serial: mark,
             standing: Standing::At(left, scope),

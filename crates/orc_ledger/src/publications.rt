@@ -1,4 +1,11 @@
 //! What a token publishes: a publication of the program, or what a `>x>` takes.
+//!
+//! In contracts a path is what is around a token, the innermost first: `feeding` is the left side of a `>x>`, `aiding` the right side of a cell,
+//! `trying` the left side of an otherwise, and `whole` nothing. `crossed` are the otherwises that a publication passes.
+//!
+//! Of the clauses `takes` says what takes the value, `way` that this is around the token, `fits` that it is there, `held` says that the token is in
+//! the slot, `at` or `form` what it is on, `done` what becomes of the records, `others` which tokens stay in their slots, `refused` that a refused
+//! call changes nothing, and `why` its cause.
 
 ghost use Rattle.std.specs.Prelude.{◌≡◌, ◌+◌, ◌<◌, ◌≤◌, ◌∷◌, [], ℕ, length, IfOk, IfErr, OnOk, OnErr};
 ghost use Rattle.orc_rules.specs.Nodes.{code};
@@ -26,7 +33,7 @@ use orc_rules::value::Value;
 use orc_tables::{Standing, Token};
 
 impl<P: Run> Ledger<P> {
-    /// A publication of the program: nothing round the token takes it.
+    /// A publication of the program: nothing around the token takes the value. The token ends, and the otherwises around it have published.
     #[inline(always)]
     pub fn publish(&mut self, slot: usize, token: Token, value: Value) -> Result<(), LedgerFault>
         requires held { IsHeld self.old.slots slot token }
@@ -47,7 +54,9 @@ impl<P: Run> Ledger<P> {
         Ok(())
     }
 
-    /// A `>x>` takes what the token publishes: a token on a copy of its right side, in the same slot.
+    /// A `>x>` takes the value that the token publishes: a token on a copy of its right side takes the slot, and the otherwises between have
+    /// published. `name`, `right` and `scope` are the name, the right side's node and the scope of that `>x>`, `outer` is the step around it
+    /// ([`Taker::SeqLeft`]).
     #[inline(always)]
     pub fn send(
         &mut self,
@@ -79,6 +88,7 @@ impl<P: Run> Ledger<P> {
         write(&mut self.journal, &Entry::Send(token.serial, mark, value))?;
         self.entries += 1;
         self.next_mark = mark + 1;
+        // They may be one group: it isn't empty in between.
         self.groups.join(joined);
         self.groups.leave(left);
         leave_others(&mut self.steps, token.step);

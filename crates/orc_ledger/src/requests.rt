@@ -1,4 +1,7 @@
 //! Calls of sites: a token makes one, and it pends; what it asks.
+//!
+//! Of the clauses `held` says that the token is in the slot, `at` or `form` what it is on, `done` what becomes of the records, `others` which tokens
+//! stay in their slots, `refused` that a refused call changes nothing, and `why` its cause.
 
 ghost use Rattle.std.specs.Prelude.{◌≡◌, ◌<◌, ◌++◌, ◌∷◌, [], ℕ, true, Some, IfOk, IfErr, MatchOption, OnOk, OnErr, length};
 ghost use Rattle.orc_rules.specs.Nodes.{code, definitions};
@@ -56,7 +59,7 @@ fn write_call<P: Run>(
 }
 
 impl<P: Run> Ledger<P> {
-    // The site that a token calls. Its arguments are put into `args`.
+    // The site that a token calls. Its arguments are put into `args`. The token's action is a call, so no `unreachable!` is met.
     #[inline(always)]
     pub(crate) fn ask(&self, inputs: &Inputs<'_, P>, token: Token, args: &mut Args) -> u32
         requires calls { what_of (code P.listing) (definitions P.listing) self.now token ≡ Action.Call }
@@ -135,8 +138,8 @@ impl<P: Run> Ledger<P> {
         Ok(())
     }
 
-    /// A call of a site with values: it pends where the token was. Gives its record. `args` is lent for the arguments: they stand in it then, and
-    /// what it held is lost.
+    /// A token at a call of a site with values makes it: the call pends in its place, and the slot is free. Gives the call's record. `args` is lent
+    /// for the arguments: it has them afterwards, and what it held is lost.
     pub fn call(
         &mut self,
         inputs: &Inputs<'_, P>,
@@ -159,7 +162,8 @@ impl<P: Run> Ledger<P> {
         Ok(call)
     }
 
-    /// What the call that pends with this number asks. A ledger that doesn't keep its journal may know it no more.
+    /// What the call that pends with this number asks. None where no such call pends; and if the run doesn't keep its journal, since the call's entry
+    /// is read.
     pub fn request(&self, number: u64) -> Option<Request>
         ensures { MatchOption result (P.keeps ≡ true → weight (has_number number) self.now.calls ≡ 0) (IsAsked P.listing P.sites self.now number) }
     {
@@ -169,6 +173,7 @@ impl<P: Run> Ledger<P> {
         let Some(entry) = self.journal.get(call.row) else {
             return None;
         };
+        // `row` is the place of the call's own entry.
         let Entry::Call(_, _, site, args) = entry else {
             unreachable!()
         };
@@ -180,7 +185,7 @@ impl<P: Run> Ledger<P> {
         })
     }
 
-    /// The call that pends with this number.
+    /// The record of the call that pends with this number, if one does.
     pub fn pending(&self, number: u64) -> Option<Call>
         ensures { MatchOption result (weight (has_number number) self.now.calls ≡ 0) (Pends self.now number) }
     {

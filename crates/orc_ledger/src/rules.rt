@@ -1,4 +1,4 @@
-//! What the rules say of a run's end: whether a token can use one, and whether the term has halted.
+//! What the rules of Orc say of a run's end: whether a token can use a rule, and whether the term has halted.
 
 ghost use Rattle.std.specs.Prelude.{◌≡◌, ◌≤◌, ◌↔◌, true, IfSome};
 ghost use Rattle.orc_rules.specs.Nodes.{code, definitions};
@@ -64,7 +64,7 @@ impl<P: Run> Ledger<P> {
             return false;
         }
         let mut inner = *token;
-        // Where parts are nested deeper it isn't known.
+        // A bound for the loop: of a term that nests deeper it isn't known, and the answer is false.
         for _inwards in 0..MOST_FRAMES {
             match self.first_part(inputs, inner) {
                 Some(part) => inner = part,
@@ -74,8 +74,8 @@ impl<P: Run> Ledger<P> {
         self.is_at_rule(inputs, &inner)
     }
 
-    /// Whether a token can use a rule now, if need be after moves of marks alone. Where one can the run isn't quiet. It looks at each token, and of the term
-    /// on which it stands at the first parts.
+    /// Whether some token can use a rule of Orc, if need be after moves of marks alone. If so the run isn't quiet. If not, nothing is promised: it
+    /// looks at each token, but of the token's term only at the first parts (the left sides).
     pub fn can_use_rule(&self, inputs: &Inputs<'_, P>) -> bool
         ensures { result ≡ true → (p : Place) → IsAt P.listing P.sites self.now p → IsQuiet (context P.listing P.sites) (moment p) → ⊥ }
     {
@@ -92,6 +92,7 @@ impl<P: Run> Ledger<P> {
         ensures empty { result ≡ true ↔ (members (numbers_of self.now) self.now 0 ≡ 0) }
         ensures halted { result ≡ true → (p : Place) → IsAt P.listing P.sites self.now p → Halted (erase p.marked) }
     {
+        // Shows the prover the invariant; nothing runs.
         let _time = &self.time;
         self.is_empty(0)
     }

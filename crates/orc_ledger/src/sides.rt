@@ -1,4 +1,8 @@
 //! Sides that end: the right side of a cell that is bound or lost, and the left side of an otherwise.
+//!
+//! Of the clauses `held` says that the token is in the slot, `at` or `form` what it is on, `done` what becomes of the records, `others` which tokens
+//! stay in their slots, `refused` that a refused call changes nothing, and `why` its cause. `taker path ≡ aiding cell p` says that the right side of
+//! that cell is the nearest that takes what the token publishes.
 
 ghost use Rattle.std.specs.Prelude.{◌≡◌, ◌+◌, ◌-◌, ◌++◌, ◌∷◌, [], ◌<◌, true, length, map, false, IfOk, OnOk, OnErr, IfErr, slice_set};
 ghost use Rattle.orc_rules.specs.Nodes.{code};
@@ -32,7 +36,7 @@ use orc_tables::{
     take_out,
 };
 
-// A cell becomes something.
+// Writes what a cell has become.
 fn settle(cells: &mut Vec<Bound>, cell: u64, bound: Bound)
     ensures { cells.new.items ≡ slice_set cells.old.items cell bound }
 {
@@ -41,7 +45,8 @@ fn settle(cells: &mut Vec<Bound>, cell: u64, bound: Bound)
     }
 }
 
-// Writes a bind and the cancels of these calls, and asks the claim then. Where memory is refused, or the claim is lost, the journal stays as it was.
+// Writes a bind and the cancels of these calls, and asks the claim then. Memory where memory is refused, Unclaimed where the claim is lost; the
+// journal stays as it was then.
 fn write_bind<P: Run, C: Claim>(
     journal: &mut Log<P>,
     token: u64,
@@ -68,15 +73,15 @@ fn write_bind<P: Run, C: Claim>(
 }
 
 impl<P: Run> Ledger<P> {
-    /// How many sides are open.
+    /// How many sides are open: right sides of a `<x<` whose cell has no value yet, and left sides of a `;` that haven't been closed.
     pub fn side_count(&self) -> usize
         ensures { result ≡ length self.now.groups }
     {
         self.groups.len()
     }
 
-    /// The right side of a cell takes what the token publishes: all that stands inside it goes, and the calls that pended there are cancelled.
-    /// Their numbers are handed out, in rising order. The claim is asked last.
+    /// Binds a cell to the value that the token publishes in its right side: all that is inside that side goes, and the calls that pended there are
+    /// cancelled. `cancelled` has their numbers then, in rising order; what it held is lost. The claim is asked last; Unclaimed where it is lost.
     pub fn bind<C: Claim>(
         &mut self,
         slot: usize,
@@ -98,6 +103,7 @@ impl<P: Run> Ledger<P> {
         ensures why { IfErr result (λ fault. IsBarred (claim.new ≡ claim.old) (C.lost claim.old claim.new) (IsRefused self.old 0 0 0) fault) }
     {
         self.within(0, 0, 0)?;
+        // Whether who is inside was found from group to group; else each table is searched below. The cancels are listed before the entry is written.
         let known = list_side(
             &mut self.crowd,
             &self.tokens,
@@ -144,8 +150,8 @@ impl<P: Run> Ledger<P> {
         self.tokens.wake(cell);
         Ok(())
     }
-    /// The right side of a cell has halted without a publication: nothing is left in it. The cell has no value then, and no
-    /// other record goes.
+    /// The right side of a cell has halted without a publication: its group has no members. The group goes and the cell becomes void; no other record
+    /// goes.
     pub fn lost(&mut self, group: Group, cell: u64) -> Result<(), LedgerFault>
         requires there { IsIn group self.old.groups }
         requires side { group.side ≡ Right cell }
@@ -166,7 +172,7 @@ impl<P: Run> Ledger<P> {
         Ok(())
     }
 
-    /// The group of a left side that a publication has left has no member any more: it goes, and no entry says so.
+    /// Removes the group of a left side that has published and has no member any more. No entry says so.
     pub fn close(&mut self, group: Group)
         requires there { IsIn group self.old.groups }
         requires over { is_over (code P.listing) self.old group.side ≡ true }
@@ -176,8 +182,8 @@ impl<P: Run> Ledger<P> {
     {
         take_out(&mut self.groups, &self.steps, group);
     }
-    /// The left side of an otherwise has halted, and no publication has left it: nothing is left in it. A token stands on the right side. Gives
-    /// its slot.
+    /// The left side of an otherwise has halted without a publication: its group has no members. The group goes, and a token starts the right side,
+    /// at this `node` and `scope`. Gives the token's slot.
     pub fn right(
         &mut self,
         group: Group,

@@ -1,5 +1,8 @@
-//! Parts of a run that are made apart: a call of a definition with values is a program of its own, which a ledger of its own can run. Where it is over,
-//! or has come to one value, its entries are taken in, as if they had been made here.
+//! Sub-runs: a call of a definition with values is a program of its own, which a ledger of its own can run, on another thread too. When that run is
+//! over, or yields one value, its entries are merged into the journal of the enclosing run, as if they had been made there. A *part* is such a
+//! sub-run.
+//!
+//! In contracts `weight w items` is the sum of w over the items: an equation for every w says which items there are, in any order.
 
 ghost use Rattle.std.specs.Prelude.{◌≡◌, ◌≤◌, ◌<◌, ◌+◌, ◌-◌, ◌^◌, ◌++◌, ◌⊎◌, ℕ, true, false, length, None, IfOk, IfErr, IfSome, MatchOption, OnOk, OnErr, vec_len, vec_capacity, option_to_list};
 ghost use Rattle.orc_rules.specs.Nodes.{code, definitions, source};
@@ -27,7 +30,7 @@ use orc_tables::{Groups, Standing, Token, Tokens};
 use std::alloc::AllocError;
 use std::marker::{Model, PhantomData};
 
-/// A call of a definition with values.
+/// A call of a definition with values, as a task that can be run by itself: the number of the definition and the arguments.
 #[derive(Drop)]
 pub struct SubRunTask {
     pub definition: u32,
@@ -37,7 +40,7 @@ pub struct SubRunTask {
 }
 
 impl SubRunTask {
-    /// The same call again.
+    /// A copy of the task.
     pub fn copied(&self) -> SubRunTask
         ensures { result ≡ self.now }
     {
@@ -49,8 +52,8 @@ impl SubRunTask {
     }
 }
 
-/// What came of a call of a definition with values, whose run was made apart: its entries, its next mark, how many calls of sites it has made and
-/// cells it has opened, by its own numbers. Its run is over, or all that is left of it is a token on a value, and it has published nothing.
+/// The result of a call of a definition with values that was run by itself: its entries, its next mark, how many calls of sites it has made and cells
+/// it has opened, by its own numbers. Either nothing is left of its run, or a token on a value alone, and then it has published nothing.
 pub struct SubRun<P: Run> {
     definition: u32,
     args: Args,
@@ -60,6 +63,7 @@ pub struct SubRun<P: Run> {
     next_mark: u64,
     calls: u64,
     cells: usize,
+    // The value on which a token is left, if one is.
     left: Option<Yield>,
     program: PhantomData<P>,
 }
@@ -102,14 +106,15 @@ impl<P: Run> SubRun<P> {
         self.journal.len()
     }
 
-    /// Whether its call has come to a value: a token on it is left.
+    /// Whether its call yields a value, on which a token is left.
     pub fn has_value(&self) -> bool
         ensures { MatchOption self.now.left (result ≡ false) (λ _. result ≡ true) }
     {
         self.left.is_some()
     }
 
-    /// Whether it came of this call, and may be taken in where that stands: what has published something may only where the whole run publishes that.
+    /// Whether it is the result of this task, and may be merged where the task's call is: what has published something may be merged only where the
+    /// whole run publishes that. The contract promises it of `true` alone.
     pub fn is_of(&self, task: &SubRunTask) -> bool
         ensures { result ≡ true → (self.now.definition ≡ task.now.definition) × (self.now.args ≡ task.now.args) × (self.now.left ≡ None → (task.now.is_outermost ≡ true) ⊎ AreSilent self.now.entries) }
     {
@@ -133,7 +138,7 @@ fn are_same(values: &[Value], others: &[Value]) -> bool
     }
 }
 
-// Makes room for so many cells.
+// Makes room for `count` more cells.
 fn reserve_cells(cells: &mut Vec<Bound>, count: usize) -> Result<(), LedgerFault>
     ensures items { cells.new.items ≡ cells.old.items }
     ensures room { IfOk result (λ _. vec_len cells.new + count ≤ vec_capacity cells.new) }
@@ -145,7 +150,7 @@ fn reserve_cells(cells: &mut Vec<Bound>, count: usize) -> Result<(), LedgerFault
     }
 }
 
-// Adds so many cells that stand for themselves.
+// Adds `count` cells that stand for themselves: those of a part, whose numbers are used up though nothing refers to them any more.
 fn add_cells(cells: &mut Vec<Bound>, count: usize)
     requires room { vec_len cells.old + count ≤ vec_capacity cells.old }
     ensures { cells.new.items ≡ cells.old.items ++ cells_from (length cells.old.items) count }
@@ -156,7 +161,7 @@ fn add_cells(cells: &mut Vec<Bound>, count: usize)
     }
 }
 
-// The token that comes in the place of this one, if one is left of a part.
+// The token that takes the place of `token` when a part is merged: on the value that the part yields. None where nothing is left of the part.
 fn comer_of(numbering: Numbering, token: Token, left: Option<Yield>) -> Option<Token>
     requires marks { IfSome left (λ y. (2 ≤ y.mark) × (numbering.mark + y.mark < 2 ^ 64)) }
     requires next { 1 ≤ numbering.mark }
@@ -164,6 +169,7 @@ fn comer_of(numbering: Numbering, token: Token, left: Option<Yield>) -> Option<T
     ensures serial { IfSome result (λ t. 1 ≤ t.serial) }
 {
     match left {
+        // The part's mark 2 becomes the enclosing run's next one, and so on; its mark 1 is that of `token` itself.
         Some(left) => Some(Token {
             serial: numbering.mark + left.mark - 2,
             standing: Standing::On(left.value),
@@ -173,7 +179,7 @@ fn comer_of(numbering: Numbering, token: Token, left: Option<Yield>) -> Option<T
     }
 }
 
-// The token of this slot and group goes, or another one comes in its place.
+// The `comer` takes the slot of the token. Without one the token goes, and leaves its group.
 fn exchange(
     tokens: &mut Tokens,
     groups: &mut Groups,
@@ -191,6 +197,7 @@ fn exchange(
     ensures groups { groups.new.items ≡ groups.old.items }
     ensures sizes { (j : ℕ) → size_of groups.new.sizes j ≡ size_of groups.old.sizes j + weight (λ (t : Its). is_this j group) (option_to_list comer) - is_this j group }
 {
+    // Only the contract mentions it.
     let _ = token;
     match comer {
         Some(comer) => tokens.replace(slot, comer, group),
@@ -202,7 +209,8 @@ fn exchange(
 }
 
 impl<P: Run> Ledger<P> {
-    /// The call of a definition with values at which a token stands.
+    /// The call of a definition with values at which a token is, as a task. None where it isn't at such a call, or an argument has no value; the
+    /// contract doesn't say when. It is outermost only if the token is inside no side and no `>x>`.
     pub fn task(&self, inputs: &Inputs<'_, P>, token: &Token) -> Option<SubRunTask>
         ensures stands { IfSome result (λ task. StandsFor P.listing self.now token.now task.definition task.args) }
         ensures outermost { IfSome result (λ task. task.is_outermost ≡ true → token.now.step ≡ 0) }
@@ -228,6 +236,7 @@ impl<P: Run> Ledger<P> {
     fn is_over(&self) -> bool
         ensures { result ≡ true → (length self.now.tokens ≡ 0) × (length self.now.calls ≡ 0) × (length self.now.groups ≡ 0) × (2 ≤ self.now.next_mark) }
     {
+        // The next mark is never under 2: the test shows it to the prover.
         self.tokens.len() == 0
             && self.calls.len() == 0
             && self.groups.len() == 0
@@ -239,6 +248,7 @@ impl<P: Run> Ledger<P> {
         ensures alone { IfSome result (λ _. (length self.now.tokens ≡ 1) × (length self.now.calls ≡ 0) × (length self.now.groups ≡ 0) × (2 ≤ self.now.next_mark)) }
         ensures token { IfSome result (λ y. (t : Its) × IsHeld self.now.slots slot t × (t.step ≡ 0) × (t.serial ≡ y.mark) × (2 ≤ y.mark) × (what_of (code P.listing) (definitions P.listing) self.now t ≡ Publish y.value)) }
     {
+        // Neither is the next mark under 2, nor is a token on a value the first one, whose mark is 1: both tests show it to the prover.
         if self.tokens.len() != 1
             || self.calls.len() > 0
             || self.groups.len() > 0
@@ -259,7 +269,7 @@ impl<P: Run> Ledger<P> {
         }
     }
 
-    // The part that the run of a task is, of which no more is left than this.
+    // The result of a task whose run this ledger was, of which nothing is left but `left`.
     fn part_of<W: Run>(self, task: SubRunTask, is_silent: bool, left: Option<Yield>) -> SubRun<W>
         requires silent { is_silent ≡ true → AreSilent self.journal }
         requires sites { P.sites ≡ W.sites }
@@ -288,9 +298,9 @@ impl<P: Run> Ledger<P> {
         }
     }
 
-    /// What came of a task whose run this was, for the run of `W` that has it to do. None where what is round it could bear on an entry, since it has passed
-    /// time, cancelled a call or called a site that a script answers; and where something of it is left, but for a token in the slot `last` on a value that
-    /// the run would publish next, if it has published nothing.
+    /// The result of a task whose run this ledger was, for the enclosing run `W`. None if the enclosing run could affect an entry: time has passed, a
+    /// call was cancelled, or a site was called that a script answers. None also if something is left of the run. A run that has published nothing
+    /// may have one token left, in slot `last`, on a value that it would publish next.
     pub fn into_sub_run<W: Run>(
         self,
         inputs: &Inputs<'_, P>,
@@ -318,9 +328,9 @@ impl<P: Run> Ledger<P> {
         Some(self.part_of(task, true, Some(last)))
     }
 
-    /// A part is taken in where its token stood: its entries stand behind the journal, under the numbers that they have here, and the token is
-    /// gone, or one stands in its slot on the value to which the call has come. The fault is Limit where the limit has no room for all of the entries, else
-    /// Memory; nothing has changed then.
+    /// Merges a part where the token at its call is. Its entries are appended to the journal under the numbers that they have in this run. The token
+    /// is gone then, or a token on the value that the call yields is in its slot. The fault is Limit if the limit has no room for all of the entries,
+    /// else Memory; nothing has changed then.
     pub fn append_sub_run(
         &mut self,
         slot: usize,
@@ -344,6 +354,7 @@ impl<P: Run> Ledger<P> {
             token: token.serial,
             mark: self.next_mark,
             calls: self.calls.next_number() - 1,
+            // There is no cell 0.
             cells: self.cells.len() as u64 - 1,
         };
         let comer = comer_of(numbering, token, part.left);
@@ -352,6 +363,7 @@ impl<P: Run> Ledger<P> {
         self.journal
             .append(&part.journal, numbering, &mut self.calls, part.calls)?;
         self.entries += entries;
+        // Its marks from 2 on are new; its mark 1 is the token's.
         self.next_mark = self.next_mark + part.next_mark - 2;
         add_cells(&mut self.cells, part.cells);
         exchange(

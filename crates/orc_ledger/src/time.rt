@@ -16,7 +16,8 @@ use orc_rules::value::{Answer, Found};
 use orc_tables::Call;
 
 impl<P: Run> Ledger<P> {
-    /// The least number over this one of a pending call that is due now.
+    /// The least number over this one of a pending call that is due now. None where no such call is. No record changes: `&mut` is for the notes of
+    /// due times, of which it drops those whose calls are gone.
     pub fn due_beyond(&mut self, number: u64) -> Option<u64>
         ensures due { MatchOption result ((k : ℕ) → IsDueBeyond self.old.calls number self.old.now k → ⊥) (IsLeastBeyond self.old.calls number self.old.now) }
         ensures same { self.new ≡ self.old }
@@ -24,11 +25,13 @@ impl<P: Run> Ledger<P> {
         self.calls.due_beyond(self.time, number)
     }
 
-    /// The call with the least number of those that are due now, and the answer that the table gives. Where there is none no call is overdue either.
+    /// The call with the least number of those that are due now, and the answer that the table gives. None where no call is due, and then none is
+    /// overdue. No record changes, as in `due_beyond`.
     pub fn due(&mut self) -> Option<(Call, Answer)>
         ensures due { MatchOption result ((c : Its) (t : ℕ) → IsIn c self.old.calls → due_of c ≡ Some t → t ≤ self.old.now → ⊥) (λ d. Pends self.old d.0.number d.0 × IsDueNow P.listing P.sites self.old d.0.number d.1 × IsLeastBeyond self.old.calls 0 self.old.now d.0.number) }
         ensures same { self.new ≡ self.old }
     {
+        // Shows the prover the invariant, by which no call is overdue; nothing runs.
         let _time = &self.time;
         let Some(number) = self.due_beyond(0) else {
             return None;
@@ -36,13 +39,14 @@ impl<P: Run> Ledger<P> {
         let Some(call) = self.pending(number) else {
             unreachable!()
         };
+        // A call that the table never answers is never due.
         let Found::After(answer, _) = call.found else {
             unreachable!()
         };
         Some((call, answer))
     }
 
-    /// The least due time of the pending calls.
+    /// The least due time of the pending calls, in logical units. None where none is ever due. No record changes, as in `due_beyond`.
     pub fn next_due(&mut self) -> Option<u64>
         ensures due { result ≡ next_due self.old.calls }
         ensures same { self.new ≡ self.old }
@@ -50,7 +54,8 @@ impl<P: Run> Ledger<P> {
         self.calls.next_due()
     }
 
-    /// Time goes on, where the rules allow that tick. The error is Limit where the journal has as many entries as the limit, else refused memory.
+    /// Sets the time to this one, and writes the tick, which the rules have to allow (`MayTick`). Limit where the journal has as many entries as its
+    /// limit, else Memory; nothing has changed then.
     pub fn tick(&mut self, time: u64) -> Result<(), LedgerFault>
         requires { MayTick P.listing P.sites self.old time }
         ensures done { OnOk result (self.new ≡ record self.old { journal = self.old.journal ++ Tick time ∷ []; entries = self.old.entries + 1; now = time }) }

@@ -18,7 +18,7 @@ use orc_rules::param::Operand;
 use orc_tables::{Standing, Token};
 
 impl<P: Run> Ledger<P> {
-    // The same in a scope of the ledger.
+    // Writes the unbound cells among operands, in a scope of the ledger, over `listed`, in their order.
     fn list_awaited(
         &self,
         operands: &[Operand],
