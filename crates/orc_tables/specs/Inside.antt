@@ -10,12 +10,14 @@ use Rattle.orc_tables.specs.declared.records.Side.{Side}
 use Rattle.orc_tables.specs.declared.records.Side.TheVariants.{Right, Left}
 use Rattle.orc_tables.specs.Steps.{step_at}
 
+-- this is the right side of cell c
 abbrev pub aids : ℕ → Frame → Bool
 aids c (SeqLeft x g scope) = false
 aids c (PruneRight d) = nat_eq c d
 aids c (OtherwiseLeft n) = false
 
 module _ (c : ℕ) (ss : List Step) where
+  -- a step enters it, or one further outwards does
   abbrev pub is_on : (ℕ → Bool) → Option Step → Bool
   is_on outwards None = false
   is_on outwards (Some p) = aids c p.entered || outwards p.outer
@@ -25,9 +27,11 @@ module _ (c : ℕ) (ss : List Step) where
   is_among zero i = false
   is_among (suc n) i = is_on (λ j. is_among n j) (step_at ss i)
 
+  -- what has step i for its innermost one is inside the right side of cell c: there are i steps around it at most
   abbrev pub stands_inside : ℕ → Bool
   stands_inside i = is_among i i
 
+  -- a side, with the step around it, is inside, or is that right side itself
   abbrev pub side_inside : ℕ → Side → Bool
   side_inside i (Right d) = nat_eq c d || stands_inside i
   side_inside i (Left n g scope) = stands_inside i

@@ -53,6 +53,7 @@ size_of sizes i = slice_index_or sizes i 0
 abbrev pub HaveLeft : List ℕ → List ℕ → (ℕ → ℕ) → (ℕ → ℕ) → Type 0
 HaveLeft sizes sizes' before after = (i : ℕ) → before i ≤ size_of sizes i → size_of sizes' i + before i ≡ size_of sizes i + after i
 
+-- 1 for none, else 0
 abbrev pub is_none : ℕ → ℕ
 is_none zero = 1
 is_none (suc k) = 0

@@ -7,9 +7,11 @@ use Rattle.orc_tables.specs.declared.records.Call.{Call}
 use Rattle.orc_calls.specs.Due.{due_by}
 use Rattle.orc_indexes.specs.Dues.{IsNoted}
 
+-- when a call is due, if it ever is
 abbrev pub due_of : Call → Option ℕ
 due_of c = due_by c.made_at c.found
 
+-- the earlier of two times, where none is later than any
 abbrev pub earlier : Option ℕ → Option ℕ → Option ℕ
 earlier None o = o
 earlier (Some t) None = Some t
@@ -35,10 +37,11 @@ ArePlaced items places = (k : ℕ) (c : Call) → slice_get items k ≡ Some c �
 abbrev pub HasNote : List (ℕ × ℕ) → Call → Type 0
 HasNote notes c = (t : ℕ) → due_of c ≡ Some t → IsNoted notes t c.number
 
--- each call is
+-- each call is noted with its due time, where it has one
 abbrev pub HaveNotes : List (ℕ × ℕ) → List Call → Type 0
 HaveNotes notes items = (c : Call) → IsIn c items → HasNote notes c
 
+-- the call has this number
 abbrev pub is_numbered : ℕ → Call → Bool
 is_numbered number c = nat_eq number c.number
 

@@ -46,6 +46,7 @@ is_try (SeqLeft x g scope) = false
 is_try (PruneRight c) = false
 is_try (OtherwiseLeft n) = true
 
+-- past a step that enters an otherwise one looks further outwards; any other one is it
 abbrev pub past_try : (ℕ → ℕ) → ℕ → Option Step → ℕ
 past_try outwards i None = i
 past_try outwards i (Some p) = cond (is_try p.entered) (outwards p.outer) i
@@ -55,6 +56,7 @@ abbrev pub taker_among : ℕ → List Step → ℕ → ℕ
 taker_among zero ss i = i
 taker_among (suc n) ss i = past_try (λ j. taker_among n ss j) i (step_at ss i)
 
+-- the nearest step that is no otherwise, from step i on outwards: there are i steps around it at most
 abbrev pub taker_at : List Step → ℕ → ℕ
 taker_at ss i = taker_among i ss i
 
@@ -67,6 +69,7 @@ abbrev pub mark_at : List Step → ℕ → Step → List Step
 mark_at ss zero p = ss
 mark_at ss (suc k) p = slice_set ss k (marked p)
 
+-- an otherwise gets its mark, and those around it are next; any other step ends it
 abbrev pub past_left : (List Step → ℕ → List Step) → List Step → ℕ → Option Step → List Step
 past_left outwards ss i None = ss
 past_left outwards ss i (Some p) = cond (is_try p.entered) (outwards (mark_at ss i p) p.outer) ss

@@ -1,4 +1,7 @@
 //! The open groups, each found by its number, and how many members each group has.
+//!
+//! In contracts `weight w items` is the sum of w over the items: an equation for every w says which items there are, in any order. `is_this i n` is 1
+//! if both numbers are the same, else 0.
 
 ghost use Rattle.std.specs.Prelude.{◌≡◌, [], ◌∷◌, ◌++◌, ◌+◌, ◌-◌, ◌^◌, ◌≤◌, ◌<◌, ℕ, Some, cond, length, nat_eq, IfNone, IfOk, OnOk, OnErr, MatchOption, slice_get, slice_set, vec_len, vec_capacity};
 ghost use Rattle.orc_rules.specs.Timed.{IsIn};
@@ -17,14 +20,14 @@ use std::marker::Model;
 /// so that there are never more than `MOST_GROUPS`.
 pub struct Groups {
     items: Vec<Group>,
-    // By number: where its group is among the items, if it is open, and how many members it has.
+    // By number, 0 included: where its group is among the items, if it is open, and how many members it has.
     places: Vec<usize>,
     sizes: Vec<u32>,
     // By number: which step entered its group's side. Nothing is promised of it: who uses it tests it.
     hints: Vec<usize>,
-    // The numbers that no group has.
+    // The numbers that no group has, the next one to be used last.
     free: Vec<u32>,
-    // The places in `items` by parent.
+    // The places in `items` of the groups in each group. They are hints.
     chains: Chains,
     // How many of the open groups have no members.
     empty: usize,
@@ -76,7 +79,7 @@ fn set_size(sizes: &mut Vec<u32>, number: u32, size: u32)
     }
 }
 
-// 1 for a number without members, else 0.
+// 1 for a number without members, else 0: what it adds to `empty`.
 fn none_at(sizes: &Vec<u32>, number: u32) -> usize
     ensures { result ≡ is_none (size_of sizes.now.items number) }
 {
@@ -113,6 +116,7 @@ fn place_of(items: &Vec<Group>, places: &Vec<usize>, number: u32) -> Option<usiz
 {
     let place = place_at(places, number)?;
     let group = group_in(items, place)?;
+    // The place of a number that is free may be another group's.
     if group.number == number {
         Some(place)
     } else {
@@ -120,7 +124,8 @@ fn place_of(items: &Vec<Group>, places: &Vec<usize>, number: u32) -> Option<usiz
     }
 }
 
-// How many groups have this number: 1 or none.
+// How many open groups have this number: 1 or none, and none has the number 0. Not inlined, since few joins are a group's first one, and few leaves
+// its last.
 #[cold]
 #[inline(never)]
 fn count_at(items: &Vec<Group>, places: &Vec<usize>, number: u32) -> usize
@@ -134,7 +139,7 @@ fn count_at(items: &Vec<Group>, places: &Vec<usize>, number: u32) -> usize
     }
 }
 
-// The same where it is asked, else 0.
+// How many open groups have this number, if it is asked; else 0.
 #[inline(always)]
 fn count_if(asked: bool, items: &Vec<Group>, places: &Vec<usize>, number: u32) -> usize
     requires lead { LeadTo items.now.items places.now.items }
@@ -148,7 +153,7 @@ fn count_if(asked: bool, items: &Vec<Group>, places: &Vec<usize>, number: u32) -
     }
 }
 
-// One more number, with its place in each list. Where memory is refused the lists stay.
+// Adds a number that no group has had, with its place in each list, and sets it free. Where memory is refused the lists stay.
 fn add_number(
     places: &mut Vec<usize>,
     sizes: &mut Vec<u32>,
@@ -169,7 +174,7 @@ fn add_number(
     reserve(sizes)?;
     reserve(hints)?;
     let number = places.len();
-    // The stack has room for all numbers.
+    // Room for all numbers, so that `remove` can put each back without asking for memory.
     if free.try_reserve(number).is_err() {
         return Err(AllocError);
     }
@@ -180,7 +185,7 @@ fn add_number(
     Ok(())
 }
 
-// A number that no group has.
+// Takes a number that no group has. There has to be one.
 fn take_free(free: &mut Vec<u32>) -> u32
     requires { 1 ≤ vec_len free.old }
     ensures taken { free.old.items ≡ free.new.items ++ result ∷ [] }
@@ -192,7 +197,7 @@ fn take_free(free: &mut Vec<u32>) -> u32
     }
 }
 
-// The group at a place goes, and the last one takes its place.
+// Removes the group at a place; the last one takes its place. Those before it stay where they are (`before`), so a loop can go on.
 fn remove_at(
     items: &mut Vec<Group>,
     places: &mut Vec<usize>,
@@ -220,7 +225,7 @@ fn remove_at(
 }
 
 impl Groups {
-    /// No groups, and no members of the program's own.
+    /// No open groups, and no members in the program's own. The error is refused memory.
     pub fn begin(alloc: Global) -> Result<Groups, AllocError>
         ensures items { IfOk result (λ t. t.items ≡ []) }
         ensures sizes { IfOk result (λ t. (i : ℕ) → size_of t.sizes i ≡ 0) }
@@ -232,6 +237,7 @@ impl Groups {
         reserve(&mut places)?;
         reserve(&mut sizes)?;
         reserve(&mut hints)?;
+        // Number 0 is the program's own group: it has a size, and leads to no item.
         push_within(&mut places, 0);
         push_within(&mut sizes, 0);
         push_within(&mut hints, 0);
@@ -253,7 +259,7 @@ impl Groups {
         self.items.len()
     }
 
-    /// How many of the open groups have no members.
+    /// How many of the open groups have no members, the program's own left out.
     #[inline(always)]
     pub fn empty(&self) -> usize
         ensures { result ≡ empty_in self.now.sizes self.now.items }
@@ -268,7 +274,7 @@ impl Groups {
         &self.items
     }
 
-    /// The group at this place.
+    /// The group at this place among `items`, from 0, which has to be there.
     pub(crate) fn at(&self, place: usize) -> Group
         requires { place < length self.now.items }
         ensures { slice_get self.now.items place ≡ Some result }
@@ -276,14 +282,14 @@ impl Groups {
         self.items[place]
     }
 
-    /// The places of the groups in a group, each once. They are a hint.
+    /// Writes the places of the groups directly in a group over `places`, each once. They are hints: some may be missing or wrong.
     pub(crate) fn list(&self, parent: u32, places: &mut Vec<usize>)
         ensures once { (k : ℕ) → weight (is_this k) places.new.items ≤ 1 }
     {
         self.chains.list(parent, places);
     }
 
-    /// How many members a number has.
+    /// How many members are counted for the group with this number; 0 for a number that was never given out.
     #[inline(always)]
     pub fn size(&self, number: u32) -> u32
         ensures { result ≡ size_of self.now.sizes number }
@@ -291,7 +297,8 @@ impl Groups {
         size_at(&self.sizes, number)
     }
 
-    /// Makes room for one more group. Whether memory is refused or not, the groups and their sizes stay.
+    /// Makes room for one more group, of at most 1,022 before it (`MOST_GROUPS` less the program's own and the new one). The error is refused memory.
+    /// The groups and their sizes stay either way.
     pub fn reserve(&mut self) -> Result<(), AllocError>
         requires few { length self.old.items ≤ 1022 }
         ensures items { self.new.items ≡ self.old.items }
@@ -313,7 +320,8 @@ impl Groups {
         Ok(())
     }
 
-    /// Which step enters the side of the group with this number, as `open` was told it. Any number where no group has this one.
+    /// Which step enters the side of the group with this number, as `open` was told it. Nothing is promised of it; 0 for a number that was never
+    /// given out.
     pub fn hint(&self, number: u32) -> usize {
         match self.hints.get(number as usize) {
             Some(step) => *step,
@@ -321,7 +329,9 @@ impl Groups {
         }
     }
 
-    /// Opens a group in the one with the number `parent`, and gives its number, which was free. Which step enters its side is told as a hint.
+    /// Opens a group, and gives its number, which was free: from 1, under `MOST_GROUPS`. `outer` is the step around it. There has to be room
+    /// (`reserve`). It doesn't make the group a member of its parent: that is `join`. Of the step into the side (`hint`) and the number of the parent
+    /// nothing is promised: they make later searches short.
     pub fn open(&mut self, side: Side, outer: usize, hint: usize, parent: u32) -> u32
         requires room { 1 ≤ self.old.room }
         ensures items { self.new.items ≡ self.old.items ++ record { side = side; outer = outer; number = result } ∷ [] }
@@ -346,7 +356,7 @@ impl Groups {
         number
     }
 
-    /// One more member.
+    /// Counts one more member of the group with this number, which is open or the program's own.
     #[inline(always)]
     pub fn join(&mut self, number: u32)
         requires open { IsOpen self.old.items number }
@@ -357,11 +367,11 @@ impl Groups {
     {
         let size = size_at(&self.sizes, number);
         set_size(&mut self.sizes, number, size + 1);
-        // It has its first member.
+        // With its first member it isn't empty any more.
         self.empty -= count_if(size == 0, &self.items, &self.places, number);
     }
 
-    /// One member less, where there is one.
+    /// Counts one member less of the group with this number, if it has one.
     #[inline(always)]
     pub fn leave(&mut self, number: u32)
         ensures items { self.new.items ≡ self.old.items }
@@ -370,11 +380,11 @@ impl Groups {
     {
         let size = size_at(&self.sizes, number);
         set_size(&mut self.sizes, number, size.saturating_sub(1));
-        // Its last one has left.
+        // Without its last member it is empty.
         self.empty += count_if(size == 1, &self.items, &self.places, number);
     }
 
-    /// The group at this place goes, and the last one takes its place.
+    /// Removes the group at this place among `items`, which has to be there; the last one takes its place. Its number is free then.
     pub(crate) fn remove(&mut self, place: usize) -> Group
         requires there { place < length self.old.items }
         ensures is { slice_get self.old.items place ≡ Some result }
@@ -388,7 +398,7 @@ impl Groups {
         group
     }
 
-    /// The group with this number.
+    /// The open group with this number; None where there is none, as for 0.
     pub fn get(&self, number: u32) -> Option<Group>
         ensures { MatchOption result ((g : Its) → IsIn g self.now.items → g.number ≡ number → ⊥) (λ g. IsIn g self.now.items × (g.number ≡ number)) }
     {
@@ -396,7 +406,7 @@ impl Groups {
         group_in(&self.items, place)
     }
 
-    /// Takes the group with this number out, where there is one.
+    /// Removes the open group with this number, and gives it; None, and nothing changes, where there is none. The sizes stay.
     pub fn take(&mut self, number: u32) -> Option<Group>
         ensures group { MatchOption result ((g : Its) → IsIn g self.old.items → g.number ≡ number → ⊥) (λ g. IsIn g self.old.items × (g.number ≡ number)) }
         ensures one { (g : Its) → IsIn g self.old.items → g.number ≡ number → (w : Its → ℕ) → weight w self.new.items + w g ≡ weight w self.old.items }

@@ -1,5 +1,5 @@
 //! The records of a run in tables, each with an invariant of its own: tokens in slots, open groups with their members, calls that pend, the steps
-//! that tokens have taken; and how what stands inside a side is found in them and leaves them.
+//! that tokens have taken; and how all that is inside the right side of a cell is found in them and leaves them.
 #![tactic(auto)]
 
 mod crowd;

@@ -1,4 +1,7 @@
 //! The calls that pend, by their numbers.
+//!
+//! In contracts `weight w items` is the sum of w over the items: an equation for every w says which items there are, in any order. `but p w` leaves
+//! out those that pass p.
 
 ghost use Rattle.std.specs.Prelude.{◌≡◌, ◌+◌, ◌≤◌, ◌<◌, ◌-◌, ◌⊎◌, ◌^◌, [], ℕ, Some, None, true, false, IfSome, IfNone, MatchOption, IfOk, OnOk, OnErr, length, vec_len, slice_get, slice_set};
 ghost use Rattle.orc_rules.specs.Timed.{IsIn};
@@ -24,9 +27,11 @@ use std::marker::Model;
 /// The calls that pend, in no order, with the place of each number that was given out and the due times.
 pub struct Pending {
     items: Vec<Call>,
+    // By number, the first being 1: where its call is among the items. Of a call that doesn't pend it may name the place of another one.
     places: Vec<usize>,
+    // When each call is due, if it ever is. A note may stay when its call is gone, so each is tested.
     dues: Dues,
-    // The places in `items` by group.
+    // The places in `items` of the calls in each group. They are hints.
     chains: Chains,
 }
 
@@ -60,7 +65,7 @@ struct Spot {
     call: Call,
 }
 
-// When a call is due.
+// When a call is due, in logical time; None if it never is.
 fn due_of(call: Call) -> Option<u64>
     ensures { result ≡ due_of call }
 {
@@ -114,6 +119,7 @@ fn find(items: &Vec<Call>, places: &Vec<usize>, number: u64) -> Option<Spot>
         Some(call) => call,
         None => return None,
     };
+    // The place of a number whose call is gone may be another call's.
     if call.number == number {
         Some(Spot { place, call })
     } else {
@@ -121,7 +127,7 @@ fn find(items: &Vec<Call>, places: &Vec<usize>, number: u64) -> Option<Spot>
     }
 }
 
-// The call at a place goes, and the last one takes its place.
+// Removes the call at a place; the last one takes its place. Those before it stay where they are (`before`), so a loop can go on.
 fn remove_at(
     items: &mut Vec<Call>,
     places: &mut Vec<usize>,
@@ -184,6 +190,7 @@ fn drop_inside(
             let gone = remove_at(items, places, chains, i);
             forget(dues, gone);
             groups.leave(steps.group_at(gone.step));
+            // The last call has come to place `i`, and is looked at next.
         } else {
             i += 1;
         }
@@ -205,7 +212,7 @@ fn is_due(items: &Vec<Call>, places: &Vec<usize>, time: u64, number: u64) -> boo
     }
 }
 
-// The least due time. Notes before it whose calls pend no more go.
+// The least due time of the pending calls; None if none is ever due. Notes before it whose calls are gone are dropped.
 fn next_due(items: &Vec<Call>, places: &Vec<usize>, dues: &mut Dues) -> Option<u64>
     requires placed { ArePlaced items.now.items places.now.items }
     requires noted { HaveNotes dues.old items.now.items }
@@ -221,7 +228,7 @@ fn next_due(items: &Vec<Call>, places: &Vec<usize>, dues: &mut Dues) -> Option<u
     None
 }
 
-// The least number over `beyond` whose call is due at this time. Notes before it whose calls pend no more go.
+// The least number over `beyond` whose call is due at this time, if there is one. Notes in between whose calls are gone are dropped.
 fn due_beyond(
     items: &Vec<Call>,
     places: &Vec<usize>,
@@ -245,7 +252,7 @@ fn due_beyond(
 }
 
 impl Pending {
-    /// No calls.
+    /// No calls, and none made. The error is refused memory.
     pub fn begin(alloc: Global) -> Result<Pending, AllocError>
         ensures items { IfOk result (λ p. p.items ≡ []) }
         ensures made { IfOk result (λ p. p.made ≡ 0) }
@@ -274,7 +281,7 @@ impl Pending {
         places.len() as u64 + 1
     }
 
-    /// The call with this number.
+    /// The pending call with this number, if there is one.
     pub fn get(&self, number: u64) -> Option<Call>
         ensures { MatchOption result (weight (has_number number) self.now.items ≡ 0) (λ c. IsIn c self.now.items × (c.number ≡ number)) }
     {
@@ -284,7 +291,7 @@ impl Pending {
         }
     }
 
-    /// Makes room for a call, and notes when it is due. Whether memory is refused or not, the calls stay.
+    /// Makes room for a call, and notes when it is due. The error is refused memory. The calls stay either way.
     pub fn reserve(&mut self, call: Call) -> Result<(), AllocError>
         ensures items { self.new.items ≡ self.old.items }
         ensures made { self.new.made ≡ self.old.made }
@@ -300,7 +307,7 @@ impl Pending {
         Ok(())
     }
 
-    /// Adds a call of this group with the next number, where there is room and its due time is noted.
+    /// Adds a call with the next number, for which `reserve` was called. Its group, which the caller counts, is only a hint here.
     pub fn add(&mut self, call: Call, group: u32)
         requires number { call.number ≡ self.old.made + 1 }
         requires room { 1 ≤ self.old.room }
@@ -314,27 +321,29 @@ impl Pending {
         self.chains.put(place, group);
     }
 
-    /// Makes room for the number of a call that won't pend. Whether memory is refused or not, the calls stay.
+    /// Makes room for the number of a call that won't pend. The error is refused memory. The calls stay either way.
     pub fn reserve_number(&mut self) -> Result<(), AllocError>
         ensures items { self.new.items ≡ self.old.items }
         ensures made { self.new.made ≡ self.old.made }
         ensures room { OnOk result (1 ≤ self.new.room) }
     {
+        // `room` counts both lists, though only `places` is to grow.
         self.items.try_reserve(1)?;
         self.places.try_reserve(1)?;
         Ok(())
     }
 
-    /// The next number is that of a call that doesn't pend.
+    /// Gives the next number to a call that doesn't pend, since it was answered at once. There has to be room (`reserve_number`).
     pub fn pass_number(&mut self)
         requires room { 1 ≤ self.old.room }
         ensures items { self.new.items ≡ self.old.items }
         ensures made { self.new.made ≡ self.old.made + 1 }
     {
+        // No item has this number, so the place is never used.
         push_within(&mut self.places, 0);
     }
 
-    /// The next numbers, so many, are those of calls that don't pend. Where memory is refused nothing changes.
+    /// Gives the next `count` numbers to calls that don't pend. The error is refused memory, and then nothing changes.
     pub fn pass_numbers(&mut self, count: u64) -> Result<(), AllocError>
         ensures items { self.new.items ≡ self.old.items }
         ensures made { OnOk result (self.new.made ≡ self.old.made + count) }
@@ -346,7 +355,7 @@ impl Pending {
         self.places.resize(len, 0)
     }
 
-    /// Takes the call with this number out, where there is one.
+    /// Removes the pending call with this number, and gives it; None, and nothing changes, where there is none.
     pub fn take(&mut self, number: u64) -> Option<Call>
         ensures made { self.new.made ≡ self.old.made }
         ensures taken { (w : Its → ℕ) → weight w self.new.items ≡ weight (but (is_numbered number) w) self.old.items }
@@ -368,7 +377,7 @@ impl Pending {
         }
     }
 
-    /// The places of a group's calls, each once. They are a hint.
+    /// Writes the places of a group's calls over `places`, each once. They are hints: some may be missing or wrong.
     pub(crate) fn list(&self, group: u32, places: &mut Vec<usize>)
         ensures once { (k : ℕ) → weight (is_this k) places.new.items ≤ 1 }
     {
@@ -421,7 +430,8 @@ impl Pending {
         }
     }
 
-    /// The least due time. Notes before it whose calls pend no more go.
+    /// The least due time of the pending calls, in logical time; None if none is ever due. Notes before it whose calls are gone are dropped: hence
+    /// `&mut`.
     pub fn next_due(&mut self) -> Option<u64>
         ensures items { self.new.items ≡ self.old.items }
         ensures made { self.new.made ≡ self.old.made }
@@ -430,14 +440,15 @@ impl Pending {
         next_due(&self.items, &self.places, &mut self.dues)
     }
 
-    /// The least number over `beyond` whose call is due at this time. Notes in between whose calls pend no more go.
+    /// The least number over `beyond` whose call is due at this time, if there is one. Notes in between whose calls are gone are dropped: hence
+    /// `&mut`.
     pub fn due_beyond(&mut self, time: u64, beyond: u64) -> Option<u64>
         ensures items { self.new.items ≡ self.old.items }
         ensures made { self.new.made ≡ self.old.made }
         ensures due { MatchOption result ((k : ℕ) → IsDueBeyond self.old.items beyond time k → ⊥) (IsLeastBeyond self.old.items beyond time) }
     {
         if beyond >= self.places.len() as u64 {
-            // No number over it was given out.
+            // No number over it was given out. So `beyond + 1` doesn't overflow below.
             return None;
         }
         due_beyond(&self.items, &self.places, &mut self.dues, time, beyond)

@@ -1,40 +1,53 @@
-//! The records of a run.
+//! The records of a run. A *token* marks a part of the program's term that runs. A *side* is a branch that ends as a whole: the right side of a
+//! `<x<`, or the left side of a `;`. A *group* is an open side with its members: the tokens, pending calls and inner groups directly in it. A *step*
+//! is the entry into a side or into the left side of a `>x>`: from a token's innermost step outwards they are what is around it.
 
 use orc_rules::value::{Found, Value};
 
-/// Where a token stands: at a node of the program in a scope, or on a value that a call has answered.
+/// What a token is on.
 #[derive(Clone, Copy)]
 pub enum Standing {
+    /// A node of the program, in a scope; scope 0 has no names.
     At(u32, usize),
+    /// A value that a call has answered.
     On(Value),
 }
 
-/// A token: its mark, where it stands, and the number of the step that it took last.
+/// A token.
 #[derive(Clone, Copy)]
 pub struct Token {
+    /// Its mark in the journal, from 1. In a slot that is free it is 0.
     pub serial: u64,
     pub standing: Standing,
+    /// Its innermost step, which it took last; 0 is the program as a whole.
     pub step: usize,
 }
 
-/// A call that pends: the table's word on it, when it was made, and the place of its entry in the journal, from 0.
+/// A call of a site that pends.
 #[derive(Clone, Copy)]
 pub struct Call {
+    /// Its number in the journal, from 1.
     pub number: u64,
+    /// What the table of sites says: an answer after a delay, or none ever.
     pub found: Found,
+    /// When it was made, in logical time.
     pub made_at: u64,
+    /// The innermost step around it, as of a token.
     pub step: usize,
+    /// The place of its `call` entry in the journal, from 0; cancels count.
     pub row: usize,
     /// Which call it is of its site with the same arguments, from 1; 1 where no script answers the site.
     pub nth: u64,
 }
 
-/// What a step enters: the left side of a `>x>` with its name, the node of its right side and its scope; the right side of a cell; the
-/// left side of an otherwise.
+/// What a step enters.
 #[derive(Clone, Copy)]
 pub enum Frame {
+    /// The left side of a `>x>`: its name, the node of its right side, and the scope of the whole.
     SeqLeft(u32, u32, usize),
+    /// The right side of this cell.
     PruneRight(u64),
+    /// The left side of the otherwise (`f ; g`) with this number.
     OtherwiseLeft(u64),
 }
 
@@ -42,26 +55,31 @@ pub enum Frame {
 #[derive(Clone, Copy)]
 pub struct Step {
     pub entered: Frame,
+    /// The number of the step around it, which is less than its own; 0 is the program as a whole.
     pub outer: usize,
-    /// The number of the group in which a token at this step stands; the program's own is 0.
+    /// The number of the group of a token whose innermost step this is; the program's own is 0.
     pub group: u32,
-    /// How many left sides of a `>x>` are round such a token, out to the innermost right side of a cell.
+    /// How many left sides of a `>x>` are around such a token, out to the innermost right side of a cell.
     pub depth: u32,
-    /// Whether a publication has left this otherwise.
+    /// Of a left side of an otherwise: whether it has published, so that the right side never runs. False for the others.
     pub published: bool,
 }
 
-/// A side that is open: the right side of a cell, or the left side of an otherwise with the node of its right side and its scope.
+/// A side that is open.
 #[derive(Clone, Copy)]
 pub enum Side {
+    /// The right side of this cell.
     Right(u64),
+    /// The left side of the otherwise with this number; the node of its right side, and its scope.
     Left(u64, u32, usize),
 }
 
-/// A group: its side, the step round it, and its number.
+/// An open group.
 #[derive(Clone, Copy)]
 pub struct Group {
     pub side: Side,
+    /// The step around the whole `f <x< g` or `f ; g`, not the one into the side.
     pub outer: usize,
+    /// From 1; 0 is the program's own group, which has no record.
     pub number: u32,
 }

@@ -1,5 +1,5 @@
-//! Steps inwards: the group and the depth of a token that took one last, what takes its publications, and whether it stands inside the right side
-//! of a cell.
+//! The table of steps. It tells, of a token with this innermost step, the group and the depth, what takes a publication, and whether it is inside the
+//! right side of a cell.
 
 ghost use Rattle.std.specs.Prelude.{◌≡◌, ◌≤◌, ◌<◌, ◌^◌, ◌++◌, ◌∷◌, [], false, length, OnOk};
 ghost use Rattle.orc_tables.specs.Steps.{step_at, group_at, depth_at, taker_at, left_from, is_try as tries, HasRoom};
@@ -11,12 +11,12 @@ use orc_indexes::{push_within, reserve};
 use std::alloc::{AllocError, Global};
 use std::marker::Model;
 
-/// The steps of a run, from 1 on; 0 is the program. What takes a publication from a step is known at once, and an otherwise that a publication has
-/// left isn't passed again, however many are round a token.
+/// The steps of a run, numbered from 1; 0 is the program as a whole. A publication costs the same however many otherwises are around a token: each
+/// step notes what takes it, and an otherwise is marked only once.
 #[derive(Drop)]
 pub struct Steps {
     items: Vec<Step>,
-    // Of each step the nearest, from it on outwards, that is no otherwise; 0 where there is none.
+    // For each step the nearest one outwards, itself included, that enters no otherwise, and so takes a publication; 0 where there is none.
     takers: Vec<usize>,
 }
 
@@ -31,6 +31,7 @@ impl Model for Steps {
     ghost invariant = { λ s. AreLinked s.items.items s.takers.items };
 }
 
+// Whether it is the left side of an otherwise, which passes publications on.
 fn is_try(entered: Frame) -> bool
     ensures { result ≡ tries entered }
 {
@@ -40,6 +41,7 @@ fn is_try(entered: Frame) -> bool
     }
 }
 
+// Whether it is the right side of this cell.
 fn is_aid(entered: Frame, cell: u64) -> bool
     ensures { result ≡ aids cell entered }
 {
@@ -68,7 +70,7 @@ impl Steps {
         self.items.len()
     }
 
-    /// The step with this number; there is no step 0.
+    /// The step with this number. None for 0 and past the last one.
     #[inline(always)]
     pub fn at(&self, step: usize) -> Option<Step>
         ensures { result ≡ step_at self.now.items step }
@@ -79,7 +81,7 @@ impl Steps {
         self.items.get(step - 1).copied()
     }
 
-    /// The group of a token that took this step last.
+    /// The number of the group of a token whose innermost step this is; 0, the program's own, for step 0 and past the last one.
     #[inline(always)]
     pub fn group_at(&self, step: usize) -> u32
         ensures { result ≡ group_at self.now.items step }
@@ -93,7 +95,8 @@ impl Steps {
         }
     }
 
-    /// How many left sides of a `>x>` are round such a token, out to the innermost right side of a cell.
+    /// How many left sides of a `>x>` are around a token whose innermost step this is, out to the innermost right side of a cell; 0 past the last
+    /// step.
     #[inline(always)]
     pub fn depth_at(&self, step: usize) -> u32
         ensures { result ≡ depth_at self.now.items step }
@@ -107,7 +110,7 @@ impl Steps {
         }
     }
 
-    /// The nearest step, from this one on outwards, that is no otherwise, and so takes a publication from it; 0 where there is none.
+    /// The nearest step outwards, this one included, that enters no otherwise, and so takes a publication; 0 where there is none.
     #[inline(always)]
     pub fn taker(&self, from: usize) -> usize
         requires { from ≤ length self.now.items }
@@ -119,7 +122,7 @@ impl Steps {
         self.takers[from - 1]
     }
 
-    /// Makes room for one more step. The error is refused memory.
+    /// Makes room for one more step. The error is refused memory. The steps stay as they are.
     #[inline(always)]
     pub fn reserve(&mut self) -> Result<(), AllocError>
         ensures items { self.new.items ≡ self.old.items }
@@ -129,7 +132,7 @@ impl Steps {
         reserve(&mut self.takers)
     }
 
-    /// One more step, which no publication has left, where there is room.
+    /// Adds a step that has not published; its number is the new `len`. There has to be room for it (`reserve`).
     #[inline(always)]
     pub fn push(&mut self, step: Step)
         requires room { HasRoom self.old }
@@ -137,6 +140,7 @@ impl Steps {
         requires unmarked { step.published ≡ false }
         ensures items { self.new.items ≡ self.old.items ++ step ∷ [] }
     {
+        // An otherwise leaves publications to what takes them around it; any other step takes them itself.
         let taker = if is_try(step.entered) {
             self.taker(step.outer)
         } else {
@@ -146,7 +150,7 @@ impl Steps {
         push_within(&mut self.items, step);
     }
 
-    /// The last step goes, and leaves room for another one.
+    /// Removes the last step, of which there has to be one. Its room is kept.
     #[inline(always)]
     pub fn drop_last(&mut self)
         requires { 1 ≤ length self.old.items }
@@ -157,8 +161,8 @@ impl Steps {
         let _step = self.items.pop();
     }
 
-    /// A publication goes outwards from a step to what takes it: the otherwises on its way get their marks. It passes no otherwise that has its
-    /// mark, since those round it have theirs.
+    /// Marks as published each otherwise that a publication passes on its way from this step to what takes it. It stops at the first that is marked,
+    /// since those around that one are marked, too.
     pub fn leave(&mut self, from: usize)
         requires { from ≤ length self.old.items }
         ensures { self.new.items ≡ left_from self.old.items from }
@@ -175,11 +179,12 @@ impl Steps {
         }
     }
 
-    // Whether a step is inside the right side of a cell.
+    // Whether a token with this innermost step is inside the right side of a cell, at any depth.
     pub(crate) fn is_inside(&self, from: usize, cell: u64) -> bool
         ensures { result ≡ stands_inside cell self.now.items from }
     {
         let mut at = from;
+        // How many steps may still follow: each has a lower number than the one inside it.
         let mut left = from;
         while left > 0 {
             let last = match self.at(at) {
@@ -195,7 +200,7 @@ impl Steps {
         false
     }
 
-    // Whether a side is, that side's own included.
+    // Whether a side is inside the right side of a cell, or is that right side itself. `outer` is the step around the side's whole term.
     pub(crate) fn is_side_inside(&self, outer: usize, side: Side, cell: u64) -> bool
         ensures { result ≡ side_inside cell self.now.items outer side }
     {

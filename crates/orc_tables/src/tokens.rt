@@ -1,4 +1,8 @@
-//! The tokens, each in a slot.
+//! The tokens, each in a slot: a place in a list that a token keeps while it lives. A token is *parked* if it is known to wait, and noted with each
+//! cell for which it does.
+//!
+//! In contracts `live` are the tokens of the slots that aren't free, and `weight w items` is the sum of w over the items: an equation for every w
+//! says which items there are, in any order.
 
 ghost use Rattle.std.specs.Prelude.{◌≡◌, [], ◌∷◌, ◌+◌, ◌≤◌, ◌<◌, ℕ, true, false, Some, None, length, IfSome, IfNone, IfOk, OnOk, slice_get, slice_set, vec_len, vec_capacity};
 ghost use Rattle.orc_rules.specs.Timed.{IsIn};
@@ -17,11 +21,12 @@ use std::marker::Model;
 /// it is still the one that was put there.
 pub struct Tokens {
     slots: Vec<Token>,
-    // Slots that became free. A slot may stand here that is in use again, so each is tested when it is taken.
+    // Slots that became free. That they still are isn't proved, so each is tested when it is taken.
     free: Vec<usize>,
+    // How many slots hold a token.
     count: usize,
     parking: Parking,
-    // The slots by group.
+    // The slots of the tokens in each group. They are hints.
     chains: Chains,
 }
 
@@ -49,7 +54,7 @@ impl Model for Tokens {
     ghost invariant = { λ t. (t.count ≡ length (live t.slots.items)) × AreHeld t.slots.items t.parking.flags };
 }
 
-// What stands in a free slot.
+// What is in a free slot.
 const NOBODY: Token = Token {
     serial: 0,
     standing: Standing::At(0, 0),
@@ -68,7 +73,7 @@ fn put(slots: &mut Vec<Token>, slot: usize, token: Token)
     }
 }
 
-// A slot that is free, where the stack knows one.
+// Takes the last slot from the stack, if it is free. None where the stack is empty or that slot is in use.
 #[inline(always)]
 fn free_slot(slots: &Vec<Token>, free: &mut Vec<usize>) -> Option<usize>
     ensures { IfSome result (λ slot. (free : Its) × (slice_get slots.now.items slot ≡ Some free) × (free.serial ≡ 0)) }
@@ -80,7 +85,7 @@ fn free_slot(slots: &Vec<Token>, free: &mut Vec<usize>) -> Option<usize>
     }
 }
 
-// Whether the token of a note is still there.
+// Whether the token of a note is still in its slot.
 fn is_there(slots: &Vec<Token>, note: Note) -> bool
     ensures { result ≡ false → (t : Its) → slice_get slots.now.items note.slot ≡ Some t → t.serial ≡ note.serial → ⊥ }
 {
@@ -90,7 +95,7 @@ fn is_there(slots: &Vec<Token>, note: Note) -> bool
     }
 }
 
-// The token of a note is not known to wait any more.
+// The token of a note, if it is still there, is not known to wait any more.
 fn rouse(slots: &Vec<Token>, parking: &mut Parking, note: Note)
     ensures flags { (k : ℕ) → is_set parking.new.flags k ≡ true → is_set parking.old.flags k ≡ true }
     ensures gone { (t : Its) → slice_get slots.now.items note.slot ≡ Some t → t.serial ≡ note.serial → is_set parking.new.flags note.slot ≡ true → ⊥ }
@@ -131,13 +136,14 @@ fn note_all(
 }
 
 impl Tokens {
-    /// One token, in slot 0.
+    /// One token, in slot 0, in the program's own group. The error is refused memory.
     pub fn begin(alloc: Global, token: Token) -> Result<Tokens, AllocError>
         requires { 1 ≤ token.serial }
         ensures items { IfOk result (λ t. t.items ≡ token ∷ []) }
         ensures parked { IfOk result (λ t. t.parked ≡ record { flags = []; notes = [] }) }
     {
         let mut chains = Chains::begin(alloc)?;
+        // Slot 0, group 0.
         chains.put(0, 0);
         let mut slots = Vec::new(alloc);
         if slots.push(token).is_err() {
@@ -174,7 +180,7 @@ impl Tokens {
         self.slots.len()
     }
 
-    /// What stands in this slot.
+    /// What is in this slot, which has to be there; its serial is 0 if the slot is free.
     #[inline(always)]
     pub(crate) fn at(&self, slot: usize) -> Token
         requires { slot < length self.now.items }
@@ -208,21 +214,21 @@ impl Tokens {
         }
     }
 
-    /// Makes room for one more token.
+    /// Makes room for one more token. The error is refused memory. The tokens stay either way.
     pub fn reserve(&mut self) -> Result<(), AllocError>
         ensures items { self.new.items ≡ self.old.items }
         ensures parked { self.new.parked ≡ self.old.parked }
         ensures room { OnOk result (1 ≤ self.new.room) }
     {
         reserve(&mut self.slots)?;
-        // With this much, a slot that becomes free is always noted.
+        // `remove` asks for no memory: a slot for which there is no room here isn't noted, and never used again.
         if self.free.len() == self.free.capacity() {
             self.free.try_reserve(1)?;
         }
         self.chains.reserve()
     }
 
-    /// Puts a token of this group into a slot, and gives its number.
+    /// Puts a token of this group into a free slot or a new one, and gives the slot. There has to be room (`reserve`).
     #[inline(always)]
     pub fn add(&mut self, token: Token, group: u32) -> usize
         requires room { 1 ≤ self.old.room }
@@ -248,7 +254,7 @@ impl Tokens {
         }
     }
 
-    /// Another token, of this group, takes the slot of one that goes.
+    /// Replaces the token in this slot, which has to hold one, by another one, of this group. Nothing is known of its waiting.
     #[inline(always)]
     pub fn replace(&mut self, slot: usize, token: Token, group: u32)
         requires held { (t : Its) × IsHeld self.old.items slot t }
@@ -262,14 +268,14 @@ impl Tokens {
         self.chains.put(slot, group);
     }
 
-    /// The slots of a group's tokens, each once. They are a hint.
+    /// Writes the slots of a group's tokens over `slots`, each once. They are hints: some may be missing or wrong.
     pub(crate) fn list(&self, group: u32, slots: &mut Vec<usize>)
         ensures once { (k : ℕ) → weight (is_this k) slots.new.items ≤ 1 }
     {
         self.chains.list(group, slots);
     }
 
-    /// A token goes, and its slot is free.
+    /// Removes the token in this slot, which has to hold one. The slot is free then.
     #[inline(always)]
     pub fn remove(&mut self, slot: usize)
         requires { (t : Its) × IsHeld self.old.items slot t }
@@ -286,14 +292,15 @@ impl Tokens {
         }
     }
 
-    /// Whether each token is known to wait.
+    /// Whether each token is known to wait. The contract promises it of `true` alone.
     pub fn all_wait(&self) -> bool
         ensures { result ≡ true → (k : ℕ) (t : Its) → IsHeld self.now.items k t → is_set self.now.parked.flags k ≡ true }
     {
         self.parking.len() == self.count
     }
 
-    /// The token with this serial, in this slot, is known to wait for these cells. Where memory is refused it isn't.
+    /// The token with this serial, which has to be in this slot, is known to wait from here on, until one of these cells is bound or lost (`wake`).
+    /// The error is refused memory, and then it isn't known to wait.
     pub fn park(&mut self, slot: usize, serial: u64, cells: &Vec<u64>) -> Result<(), AllocError>
         requires { (t : Its) × IsHeld self.old.items slot t × (t.serial ≡ serial) }
         ensures items { self.new.items ≡ self.old.items }
