@@ -30,12 +30,13 @@ taken v (feeding x g p) = Send v
 taken v (aiding c p) = Bind c v
 taken v (trying n p) = taken v p
 
+-- a token at a call of a site: whether an argument is void, and the values if all arguments have one
 abbrev pub what_site : List Param → Bool → Option (List Value) → Action
 what_site ps true o = Void
 what_site ps false (Some args) = Call
 what_site ps false None = Wait (first_cell ps)
 
--- the same in one pass over the arguments: whether one before them isn't a value, and the first cell before them
+-- ---- what_site in one pass over the arguments
 abbrev pub or_zero : Option ℕ → ℕ
 or_zero (Some c) = c
 or_zero None = 0
@@ -44,6 +45,7 @@ abbrev pub or_else : Option ℕ → ℕ → Option ℕ
 or_else (Some c) d = Some c
 or_else None d = Some d
 
+-- with these arguments left: one before them isn't a value if `waits`, and `first` is the first cell before them
 abbrev pub scan : Bool → Option ℕ → List Param → Action
 scan waits first [] = cond waits (Wait (or_zero first)) Call
 scan waits first (is.Void ∷ ps) = Void
@@ -55,12 +57,14 @@ scan waits first (is.Cell c ∷ ps) = scan true (or_else first c) ps
 abbrev pub closed : Env → List Operand → List Param
 closed env ps = map (close_param env) (map param_of ps)
 
+-- a token on a parameter
 abbrev pub of_param : Path → Param → Action
 of_param p (is.Is v) = taken v p
 of_param p is.Void = Void
 of_param p (is.Cell c) = Wait c
 of_param p (is.Name x) = Wait 0
 
+-- a token at a call of a definition, if there is one with that number
 abbrev pub what_def : Option Definition → Action
 what_def (Some d) = Def
 what_def None = Wait 0
@@ -78,6 +82,7 @@ what_by defs p (other f g) = Other
 what_by defs p (pending k) = Wait 0
 what_by defs p (opened f c g) = Wait 0
 
+-- the token stays as it is
 abbrev pub is_wait : Action → Bool
 is_wait (Wait c) = true
 is_wait _ = false
@@ -90,7 +95,7 @@ moves_marks (seq f x g) = true
 moves_marks (other f g) = true
 moves_marks _ = false
 
--- what each word asks of the term and the path
+-- what each action asks of the term and the path
 abbrev pub Allows : List Definition → Action → Path → Term → Type 0
 Allows defs Halt p u = u ≡ stop
 Allows defs Fork p u = (f g : Term) × (u ≡ par f g)

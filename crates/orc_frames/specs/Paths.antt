@@ -32,6 +32,7 @@ module _ (code : ℕ → Term) (env : ℕ → Env) where
   abbrev pub path : List Step → ℕ → Path
   path ss i = slice_index_or (paths_from (whole ∷ []) ss) i whole
 
+-- this is the left side of otherwise n
 abbrev pub is_number : ℕ → Frame → Bool
 is_number n (SeqLeft x g scope) = false
 is_number n (PruneRight c) = false
@@ -47,7 +48,7 @@ abbrev pub has_left : List Step → ℕ → Bool
 has_left [] n = false
 has_left (s ∷ ss) n = (s.published && is_number n s.entered) || has_left ss n
 
--- ---- the records name what is there
+-- ---- what names something that isn't there: a scope past the n that there are, or an otherwise whose number isn't under the next mark
 abbrev pub is_out : ℕ → Standing → Bool
 is_out n (At node scope) = nat_lt n scope
 is_out n (On v) = false

@@ -22,6 +22,7 @@ abbrev pub crossed : Path → List ℕ
 crossed (trying n p) = n ∷ crossed p
 crossed _ = []
 
+-- this is what takes a publication of a token at step `from`
 abbrev pub Takes : (ℕ → Term) → (ℕ → Env) → (ℕ → Bool) → List Step → ℕ → Taker → Type 0
 Takes code env left steps from by.Whole = taker (seen left (path code env steps from)) ≡ whole
 Takes code env left steps from (by.SeqLeft x node scope outer) = taker (seen left (path code env steps from)) ≡ feeding x (close (without x (env scope)) (code node)) (seen left (path code env steps outer))
@@ -31,6 +32,7 @@ Takes code env left steps from (by.PruneRight c outer) = taker (seen left (path 
 abbrev pub GoesTo : List Step → ℕ → Taker → Type 0
 GoesTo steps from t = (code : ℕ → Term) (env : ℕ → Env) (left : ℕ → Bool) → Takes code env left steps from t
 
+-- the step around a step
 abbrev pub outer_of : Option Step → ℕ
 outer_of (Some p) = p.outer
 outer_of None = 0

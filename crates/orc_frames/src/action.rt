@@ -1,4 +1,8 @@
-//! What a token does next.
+//! What a token does next, by the node that it is on and what is around it.
+//!
+//! In contracts a path is what is around a token, the innermost first: `feeding` is the left side of a `>x>`, `aiding` the right side of a cell,
+//! `trying` the left side of an otherwise, and `whole` nothing. `seen left` leaves out the otherwises that have published, which take nothing.
+//! `what_by` defines what a token does next, and `scan` what one at a call of a site does.
 
 ghost use Rattle.std.specs.Prelude.{◌≡◌, ℕ, Bool, true, false, None as Nothing};
 ghost use Rattle.orc_rules.specs.Term.{Term};
@@ -17,24 +21,37 @@ use orc_rules::param::Operand;
 use orc_rules::value::Value;
 use orc_tables::Steps;
 
-/// What a token can do next: a move of marks, an entry of its own, or to wait for a cell (0: for nothing that ever comes).
+/// What a token can do next. `Halt`, `Fork`, `Seq` and `Other` are moves of marks: their entries use no rule of Orc.
 #[derive(Clone, Copy)]
 pub enum Action {
+    /// It is on `stop`, and ends.
     Halt,
+    /// It is on `f | g`, and becomes a token on each side.
     Fork,
+    /// It enters the left side of a `>x>`.
     Seq,
+    /// It opens a `<x<`, with a token on each side.
     Prune,
+    /// It enters the left side of a `;`.
     Other,
+    /// It calls a definition.
     Def,
+    /// Its variable, or an argument of its call of a site, is void: it ends.
     Void,
+    /// Nothing around it takes its value: the program publishes it.
     Publish(Value),
+    /// A `>x>` takes its value.
     Send(Value),
+    /// This cell is bound to its value.
     Bind(u64, Value),
+    /// It calls a site, and all arguments have values.
     Call,
+    /// It waits for this cell, the first where it waits for several; 0 where it waits for nothing that ever comes.
     Wait(u64),
 }
 
-/// What a token does that publishes this value from a step, by what takes it; past the last step nothing does.
+/// What a token on this value does, by what takes the value from step `from` on outwards. Where there is no such step nothing takes it: the program
+/// publishes it.
 pub fn taken_from(steps: &Steps, from: usize, value: Value) -> Action
     requires { AreOutwards steps.now.items }
     ensures { (code : ℕ → Term) (env : ℕ → Env) (left : ℕ → Bool) → result ≡ taken value (seen left (path code env steps.now.items from)) }
@@ -49,7 +66,7 @@ pub fn taken_from(steps: &Steps, from: usize, value: Value) -> Action
     }
 }
 
-/// Whether each operand of a call has a value.
+/// Whether each operand of a call has a value in a scope. The contract promises it of `true` alone.
 pub fn are_values(
     scopes: &[StoredScope],
     cells: &[Bound],
@@ -59,6 +76,7 @@ pub fn are_values(
     requires { AreOrdered scopes.now }
     ensures { result ≡ true → scan false Nothing (closed (env_of cells.now scopes.now scope) operands.now) ≡ Action.Call }
 {
+    // It recurses over the operands of one call, which are `MOST_ARGUMENTS` at most; so does `call_with`.
     match operands {
         [] => true,
         [operand, operands @ ..] => match meaning(scopes, cells, *operand, scope) {
@@ -70,7 +88,8 @@ pub fn are_values(
     }
 }
 
-/// What a call of a site does, with these operands still to look at: `waits` where one before them isn't a value, `first` the first cell before them.
+/// What a token at a call of a site does: `Call` where all operands have values, `Void` where one is void, else `Wait`. `operands` are those that are
+/// still to be looked at: `waits` says that one before them has no value yet, and `first` is the first unbound cell before them.
 pub fn call_with(
     scopes: &[StoredScope],
     cells: &[Bound],
@@ -92,16 +111,18 @@ pub fn call_with(
         }
         [operand, operands @ ..] => match meaning(scopes, cells, *operand, scope) {
             Some(Bound::Is(_)) => call_with(scopes, cells, operands, scope, waits, first),
+            // One void operand is enough, whatever the others wait for.
             Some(Bound::Void) => Action::Void,
             Some(Bound::Cell(cell)) => {
                 call_with(scopes, cells, operands, scope, true, first.or(Some(cell)))
             }
+            // A name that isn't bound, as no checked program has it.
             None => call_with(scopes, cells, operands, scope, true, first),
         },
     }
 }
 
-// What a token does whose term is an operand.
+// What a token does whose term is a variable or a value, by what stands for it.
 fn stand_on(
     scopes: &[StoredScope],
     cells: &[Bound],
@@ -122,7 +143,7 @@ fn stand_on(
     }
 }
 
-/// What a token does at a node.
+/// What a token does at a node in a scope, where `from` is its innermost step, 0 if it has none.
 pub fn stand_at(
     graph: &Graph,
     scopes: &[StoredScope],
@@ -149,6 +170,7 @@ pub fn stand_at(
             None,
         ),
         Node::Call(definition, _) => match graph.body(definition as usize) {
+            // Its arguments need no values: they are passed on as they are.
             Some(_) => Action::Def,
             None => Action::Wait(0),
         },

@@ -12,7 +12,8 @@ use orc_env::{Bound, StoredScope, meaning};
 use orc_rules::param::Operand;
 use orc_rules::value::Args;
 
-/// Puts the values of operands into `args`, if each of them has one. Whether each has one.
+/// Writes the values of a call's operands over `args`, in their order, and says whether each has one. Where one has none, `args` has the values
+/// before it.
 #[inline(always)]
 pub fn take_values(
     scopes: &[StoredScope],

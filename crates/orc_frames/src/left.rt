@@ -1,4 +1,4 @@
-//! Whether a publication has left an otherwise.
+//! Whether an otherwise (`f ; g`) has published: a publication has left it, so that its right side never runs.
 
 ghost use Rattle.std.specs.Prelude.{◌≡◌, ◌≤◌, false, Some, IfSome, IfNone};
 ghost use Rattle.orc_indexes.specs.Same.{weight};
@@ -8,6 +8,7 @@ ghost use Rattle.orc_tables.specs.declared.records.Step.{Step as Entering};
 
 use orc_tables::{Frame, Steps};
 
+// Whether this is the left side of the otherwise with this number.
 fn is_number(entered: Frame, number: u64) -> bool
     ensures { result ≡ is_number number entered }
 {
@@ -17,7 +18,7 @@ fn is_number(entered: Frame, number: u64) -> bool
     }
 }
 
-/// Whether a publication has left an otherwise, if this is the step that enters it.
+/// Whether the otherwise with this number has published, if this is the step into its left side. None where it isn't, and then nothing is known.
 pub fn left_at(steps: &Steps, step: usize, number: u64) -> Option<bool>
     requires { weight (tries number) steps.now.items ≤ 1 }
     ensures left { IfSome result (λ left. left ≡ has_left steps.now.items number) }
@@ -31,7 +32,7 @@ pub fn left_at(steps: &Steps, step: usize, number: u64) -> Option<bool>
     }
 }
 
-// Whether this step enters the otherwise, and a publication has left it there.
+// Whether this step enters the otherwise with this number, and that has published.
 fn is_left(steps: &Steps, step: usize, number: u64) -> bool
     ensures { result ≡ is_left number (step_at steps.now.items step) }
 {
@@ -41,7 +42,7 @@ fn is_left(steps: &Steps, step: usize, number: u64) -> bool
     }
 }
 
-/// Whether a publication has left an otherwise. It looks at each step.
+/// Whether the otherwise with this number has published. It looks at one step after another, and at all of them where it hasn't.
 pub fn has_left(steps: &Steps, number: u64) -> bool
     ensures { result ≡ has_left steps.now.items number }
 {

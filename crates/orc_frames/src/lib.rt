@@ -1,4 +1,5 @@
-//! What is round a token: the path of its steps outwards, what takes its publication, and what stands for its names; and so what it does next.
+//! What is around a token: the steps from its own one outwards, what takes its publication, and what stands for its names; and so what it does next.
+//! A *step* (`orc_tables`) is the entry into a left or right side; those around a token are its path.
 #![tactic(auto)]
 
 mod action;

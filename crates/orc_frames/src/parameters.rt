@@ -9,8 +9,10 @@ use orc_indexes::{push_within, reserve};
 use orc_rules::param::Operand;
 use std::alloc::AllocError;
 
-/// The scopes of a definition's parameters, written over `added`: the last parameter first, each the outer of the next. Gives the number of the
-/// last scope; None where the operands are not as many, or one of them isn't bound.
+/// Writes the scopes of a definition's parameters over `added`: one for each, the last parameter's first, each the outer one of the next. They count
+/// on from `scopes`, behind which they are to be put. What stands for them are the operands in `scope`, the caller's; the outermost extends scope 0,
+/// since a body sees nothing but its parameters. Gives the number of the innermost scope. None where the operands are not as many, or one of them
+/// isn't bound. The error is refused memory, or a number of over 32 bits; what is in `added` isn't known then.
 pub fn parameter_scopes(
     scopes: &[StoredScope],
     cells: &[Bound],
@@ -42,6 +44,7 @@ pub fn parameter_scopes(
                 outer,
             }),
         );
+        // The number of the scope that was just added.
         outer = outer_number(scopes.len() + added.len())?;
     }
     Ok(Some(outer as usize))

@@ -1,4 +1,7 @@
-//! What takes a publication, and which otherwises it leaves on its way.
+//! What takes a publication, and which otherwises (`f ; g`) it passes on its way.
+//!
+//! In contracts a path is what is around a token, the innermost first: `feeding` is the left side of a `>x>`, `aiding` the right side of a cell,
+//! `trying` the left side of an otherwise, and `whole` nothing.
 
 ghost use Rattle.std.specs.Prelude.{◌≤◌, ℕ, length};
 ghost use Rattle.orc_rules.specs.Term.{Term};
@@ -10,16 +13,18 @@ ghost use Rattle.orc_tables.specs.Steps.{AreOutwards};
 
 use orc_tables::{Frame, Steps};
 
-/// What takes a publication: nothing; a `>x>`, with its name, the node and scope of its right side and the step round it; the right side of
-/// a cell, with the step round it.
+/// What takes a publication.
 #[derive(Clone, Copy)]
 pub enum Taker {
+    /// Nothing: the program publishes it.
     Whole,
+    /// A `>x>`: its name, the node of its right side, its scope, and the step around it.
     SeqLeft(u32, u32, usize, usize),
+    /// A `<x<`, from its right side: its cell, and the step around it.
     PruneRight(u64, usize),
 }
 
-/// What takes a publication from a step.
+/// What takes a publication of a token whose innermost step is `from`: the nearest step outwards, itself included, that enters no otherwise.
 #[inline(always)]
 pub fn find_taker(steps: &Steps, from: usize) -> Taker
     requires within { from ≤ length steps.now.items }
@@ -32,14 +37,14 @@ pub fn find_taker(steps: &Steps, from: usize) -> Taker
         Some(step) => match step.entered {
             Frame::SeqLeft(name, node, scope) => Taker::SeqLeft(name, node, scope, step.outer),
             Frame::PruneRight(cell) => Taker::PruneRight(cell, step.outer),
-            // No step that takes a publication enters an otherwise.
+            // This doesn't happen: `taker` passes over them.
             Frame::OtherwiseLeft(_) => Taker::Whole,
         },
         None => Taker::Whole,
     }
 }
 
-/// The otherwises that a publication from a step leaves get their marks.
+/// Marks as published each otherwise that a publication passes on its way from step `from` to what takes it.
 pub fn leave_others(steps: &mut Steps, from: usize)
     requires within { from ≤ length steps.old.items }
     requires outwards { AreOutwards steps.old.items }

@@ -11,7 +11,8 @@ use orc_indexes::{push_within, reserve};
 use orc_rules::param::Operand;
 use std::alloc::AllocError;
 
-/// Writes the unbound cells among these operands over `listed`, in their order. Where memory is refused what is listed isn't known.
+/// Writes the unbound cells among these operands in a scope over `listed`, in the operands' order, each as often as it occurs. The error is refused
+/// memory; what is listed isn't known then.
 pub fn list_cells(
     scopes: &[StoredScope],
     cells: &[Bound],
