@@ -8,9 +8,11 @@ pub record Parked : Type 0 where
   pub flags : List Bool
   pub notes : List (List Note)
 
+-- the token in this slot is known to wait; a slot without a flag holds none
 abbrev pub is_set : List Bool → ℕ → Bool
 is_set flags slot = slice_index_or flags slot false
 
+-- the notes of a cell; one without a list has none
 abbrev pub notes_at : List (List Note) → ℕ → List Note
 notes_at notes cell = slice_index_or notes cell []
 

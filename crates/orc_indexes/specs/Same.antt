@@ -1,7 +1,7 @@
 -- Lists that have the same items, in any order.
 use Rattle.std.specs.Prelude.{◌≡◌, ℕ, ◌+◌, List, [], ◌∷◌, Bool, cond, nat_eq}
 
--- what the items weigh in all
+-- what the items weigh in all; with 1 for those that pass a test and 0 for the others it counts those that pass
 abbrev pub weight : {X : Type 0} → (X → ℕ) → List X → ℕ
 weight w [] = 0
 weight w (x ∷ xs) = w x + weight w xs
@@ -14,7 +14,7 @@ Same {X} xs ys = (w : X → ℕ) → weight w xs ≡ weight w ys
 abbrev pub only : {X : Type 0} → (X → Bool) → (X → ℕ) → X → ℕ
 only p w x = cond (p x) (w x) 0
 
--- a weight of those that don't
+-- a weight of those that don't pass it alone
 abbrev pub but : {X : Type 0} → (X → Bool) → (X → ℕ) → X → ℕ
 but p w x = cond (p x) 0 (w x)
 
@@ -22,5 +22,6 @@ but p w x = cond (p x) 0 (w x)
 abbrev pub None : {X : Type 0} → (X → Bool) → List X → Type 0
 None p xs = weight (only p (λ x. 1)) xs ≡ 0
 
+-- 1 if the numbers are the same, else 0
 abbrev pub is_this : ℕ → ℕ → ℕ
 is_this i j = cond (nat_eq i j) 1 0

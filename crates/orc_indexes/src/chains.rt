@@ -1,4 +1,5 @@
-//! Who is in each group: chains of places in a table.
+//! Who is in each group. A *chain* links the places of one group's members in a table, each with the one before and after it, so that a place is put
+//! in and taken out at once. Nothing is proved of chains but that a listing names no place twice: they are hints, and a wrong one costs time alone.
 
 ghost use Rattle.std.specs.Prelude.{◌≡◌, ◌≤◌, ℕ, slice_get};
 ghost use Rattle.orc_indexes.specs.Same.{weight};
@@ -8,13 +9,13 @@ use crate::memory::{push_within, reserve};
 use orc_rules::limits::MOST_GROUPS;
 use std::alloc::{AllocError, Global};
 
-// A place in the chain of a group, with its neighbours. That of group 0, which never goes, isn't kept.
+// A place in the chain of a group, with its neighbours. Members of group 0, the program's own, aren't chained: it is never dropped as a whole.
 #[derive(Clone, Copy)]
 struct Link {
     group: u32,
     before: usize,
     after: usize,
-    // The later it was put, the greater.
+    // The later it was put in, the greater.
     rank: u64,
 }
 
@@ -36,10 +37,11 @@ pub struct Chains {
     firsts: Vec<usize>,
     // By place.
     links: Vec<Link>,
+    // The greatest rank that was given out.
     rank: u64,
 }
 
-// Who stands before a place, or the group whose first it is, is told who follows.
+// Writes `after` where this link's place was named: in the link before it, or as the first of its group.
 fn set_after(firsts: &mut Vec<usize>, links: &mut Vec<Link>, link: Link, after: usize) {
     match links.get_mut(link.before) {
         Some(before) => before.after = after,
@@ -51,6 +53,7 @@ fn set_after(firsts: &mut Vec<usize>, links: &mut Vec<Link>, link: Link, after: 
     }
 }
 
+// Writes `before` into the link that follows this one, if one does.
 fn set_before(links: &mut Vec<Link>, link: Link, before: usize) {
     if let Some(after) = links.get_mut(link.after) {
         after.before = before;
@@ -78,7 +81,7 @@ fn link_at(links: &Vec<Link>, place: usize) -> Link {
     }
 }
 
-// Where the chain of a group begins. None for group 0, whose members aren't chained, for a number that no group has, and where memory is refused.
+// Where the chain of a group begins, `NOWHERE` if it is empty. None for group 0, for a number that is over any group's, and where memory is refused.
 #[inline(always)]
 fn reach_first(firsts: &mut Vec<usize>, group: u32) -> Option<usize> {
     if group == 0 {
@@ -90,8 +93,8 @@ fn reach_first(firsts: &mut Vec<usize>, group: u32) -> Option<usize> {
     firsts.get(group as usize).copied()
 }
 
-// Each group up to this one has a chain, where it may be the number of one and memory isn't refused.
-// Kept apart, since a number is seldom met for the first time.
+// Gives each group up to this one an empty chain, unless the number is over any group's; not all where memory is refused.
+// Not inlined, since a number is seldom met for the first time.
 #[cold]
 #[inline(never)]
 fn grow_firsts(firsts: &mut Vec<usize>, group: usize) {
@@ -107,7 +110,7 @@ fn grow_firsts(firsts: &mut Vec<usize>, group: usize) {
 }
 
 impl Chains {
-    /// No places, and room for one.
+    /// No places, and room for one. The error is refused memory.
     pub fn begin(alloc: Global) -> Result<Chains, AllocError> {
         let mut links = Vec::new(alloc);
         reserve(&mut links)?;
@@ -118,15 +121,17 @@ impl Chains {
         })
     }
 
-    /// Makes room for one more place.
+    /// Makes room for one more place. The error is refused memory, and then nothing changes.
     #[inline(always)]
     pub fn reserve(&mut self) -> Result<(), AllocError> {
         reserve(&mut self.links)
     }
 
-    /// The member of a group stands at this place.
+    /// Notes that a member of this group is at this place, and nobody else. A new place is the one right behind the others, and needs room
+    /// (`reserve`).
     #[inline(always)]
     pub fn put(&mut self, place: usize, group: u32) {
+        // Most often a token is replaced by one of the same group.
         if let Some(link) = self.links.get(place)
             && link.group == group
         {
@@ -135,9 +140,10 @@ impl Chains {
         self.move_to(place, group);
     }
 
-    // A place goes from one group's chain to another's.
+    // A place goes from the chain that it is in, if any, to the front of this group's.
     #[inline(never)]
     fn move_to(&mut self, place: usize, group: u32) {
+        // A new place, for which `reserve` has made room.
         if place == self.links.len() && place < self.links.capacity() {
             self.links.push_reserved(ALONE);
         }
@@ -157,7 +163,7 @@ impl Chains {
         set_link(&mut self.links, place, link);
     }
 
-    /// Nobody stands at this place.
+    /// Notes that nobody is at this place.
     pub fn take(&mut self, place: usize) {
         let link = link_at(&self.links, place);
         if link.group == 0 {
@@ -168,10 +174,12 @@ impl Chains {
         set_link(&mut self.links, place, ALONE);
     }
 
-    /// Nobody stands at this place but who stood at the last one, where they aren't the same.
+    /// Notes that who was at place `last` is at this one, and nobody at `last`: as after `Vec::swap_remove`. Whoever was here is gone; `last` may be
+    /// this place.
     pub fn swap_take(&mut self, place: usize, last: usize) {
         self.take(place);
         let link = link_at(&self.links, last);
+        // So it is, too, if `last` is the place that was just emptied.
         if link.group == 0 {
             return;
         }
@@ -181,7 +189,7 @@ impl Chains {
         set_link(&mut self.links, last, ALONE);
     }
 
-    /// The places of a group's members, each once; not all where memory is refused.
+    /// Writes the places of a group's members over `places`, the latest first and each once; not all where memory is refused. They are hints.
     pub fn list(&self, group: u32, places: &mut Vec<usize>)
         ensures once { (k : ℕ) → weight (is_this k) places.new.items ≤ 1 }
     {
@@ -190,6 +198,7 @@ impl Chains {
             Some(first) => *first,
             None => return,
         };
+        // Ranks fall along a chain. The test makes sure of it, so that the loop ends and names no place twice.
         let mut rank = u64::MAX;
         while let Some(link) = find_link(&self.links, at) {
             if link.rank >= rank || reserve(places).is_err() {

@@ -1,4 +1,4 @@
-//! When calls are due.
+//! When calls are due: notes of times with numbers of calls.
 
 ghost use Rattle.std.specs.Prelude.{◌≡◌, ◌<◌, ℕ, [], List, length, true, false, OnOk, MatchOption};
 ghost use Rattle.orc_indexes.specs.Dues.{IsNoted, IsBefore, IsEarliest, IsLeastFrom, KeepsBut};
@@ -7,10 +7,11 @@ use std::alloc::{AllocError, Global};
 use std::collections::BTreeSet;
 use std::marker::Model;
 
-/// Numbers of calls with their due times, the earliest first. A note may stay whose call pends no more.
+/// Notes, each of a due time in logical time and the number of a call, the earliest first. A note may stay when its call is gone: who uses it tests
+/// it.
 #[derive(Drop)]
 pub struct Dues {
-    // The earliest note stands beside the tree of the others: where one call pends at a time the tree stays empty.
+    // The earliest note is kept beside the tree of the others: if one call pends at a time, the tree stays empty and costs nothing.
     first: Option<(u64, u64)>,
     others: BTreeSet<(u64, u64)>,
 }
@@ -46,7 +47,7 @@ impl Dues {
         }
     }
 
-    /// Notes when a call is due. Where memory is refused nothing changes.
+    /// Notes when a call is due; once, however often it is told. The error is refused memory, and then nothing changes.
     pub fn note(&mut self, time: u64, number: u64) -> Result<(), AllocError>
         ensures noted { OnOk result (IsNoted self.new time number) }
         ensures kept { (t k : ℕ) → IsNoted self.old t k → IsNoted self.new t k }
@@ -66,18 +67,19 @@ impl Dues {
         Ok(())
     }
 
-    /// The earliest note.
+    /// The earliest note: the time, and the number of a call. None if there are no notes.
     pub fn first(&self) -> Option<(u64, u64)>
         ensures { MatchOption result (self.now ≡ []) (IsEarliest self.now) }
     {
         self.first
     }
 
-    /// The least number from this one on that is noted with this time.
+    /// The least number from this one on that is noted with this time. None if there is none.
     pub fn first_at(&self, time: u64, from: u64) -> Option<u64>
         ensures { MatchOption result ((k : ℕ) → IsNoted self.now time k → k < from) (IsLeastFrom self.now time from) }
     {
         let first = self.first?;
+        // No note has an earlier time than the first.
         if first.0 > time {
             return None;
         }
@@ -90,7 +92,7 @@ impl Dues {
         }
     }
 
-    /// Takes a note out, where it is there.
+    /// Takes a note out, if it is there. The others stay.
     pub fn forget(&mut self, time: u64, number: u64)
         ensures kept { KeepsBut self.old self.new time number }
         ensures gone { IsNoted self.old time number → length self.new < length self.old }

@@ -1,5 +1,5 @@
-//! What stands beside a table, so that a record is found without a search: the places of each group's members, the tokens that wait for each cell, the calls
-//! by the times at which they are due; and lists that grow before something is added to them.
+//! What is kept beside a table, so that a record is found without a search: the places of each group's members, the tokens that wait for each cell,
+//! the calls by the times at which they are due. And lists that reserve room before something is added.
 #![tactic(auto)]
 
 mod chains;

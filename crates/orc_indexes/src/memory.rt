@@ -1,10 +1,10 @@
-//! Room in a list, and items that are added where there is room.
+//! Room in a list, and items that are added where there is room. So a call can ask for all its memory before it changes anything.
 
 ghost use Rattle.std.specs.Prelude.{◌≡◌, ◌+◌, ◌<◌, ◌≤◌, ◌++◌, ◌∷◌, [], vec_len, vec_capacity, OnOk};
 
 use std::alloc::AllocError;
 
-/// Adds an item where there is room.
+/// Adds an item at the end, where there is room (`reserve`).
 // In place: a call of `push` would put the item together on the stack first.
 #[inline(always)]
 pub fn push_within<T: Drop>(items: &mut Vec<T>, item: T)
@@ -15,7 +15,7 @@ pub fn push_within<T: Drop>(items: &mut Vec<T>, item: T)
     items.push_reserved(item);
 }
 
-// Kept apart, since a list seldom grows.
+// Not inlined, since a list seldom grows.
 #[cold]
 #[inline(never)]
 fn grow<T: Drop>(items: &mut Vec<T>) -> Result<(), AllocError>
@@ -25,7 +25,7 @@ fn grow<T: Drop>(items: &mut Vec<T>) -> Result<(), AllocError>
     items.reserve(1)
 }
 
-/// Makes room for one more item.
+/// Makes room for one more item. The error is refused memory. The items stay either way.
 #[inline(always)]
 pub fn reserve<T: Drop>(items: &mut Vec<T>) -> Result<(), AllocError>
     ensures items { items.new.items ≡ items.old.items }

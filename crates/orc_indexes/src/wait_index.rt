@@ -16,12 +16,14 @@ pub struct Note {
     pub serial: u64,
 }
 
-/// By slot whether its token is known to wait, and by cell the tokens that wait for it. A note may stay whose token is gone.
+/// By slot whether its token is known to wait (is parked), and by cell the tokens that wait for it. A note may stay when its token is gone: its
+/// serial tells.
 pub struct Parking {
     alloc: Global,
     flags: Vec<bool>,
     // How many flags are set.
     count: usize,
+    // By the number of the cell.
     notes: Vec<Vec<Note>>,
 }
 
@@ -69,7 +71,7 @@ fn write_flag(flags: &mut Vec<bool>, slot: usize, value: bool)
     }
 }
 
-// A flag for each slot up to this one. Those that come aren't set.
+// Gives each slot up to this one a flag. New flags aren't set. The error is refused memory.
 fn reach_slot(flags: &mut Vec<bool>, slot: usize) -> Result<(), AllocError>
     ensures same { (k : ℕ) → is_set flags.new.items k ≡ is_set flags.old.items k }
     ensures count { weight one flags.new.items ≡ weight one flags.old.items }
@@ -84,7 +86,7 @@ fn reach_slot(flags: &mut Vec<bool>, slot: usize) -> Result<(), AllocError>
     Ok(())
 }
 
-// A list for each cell up to this one.
+// Gives each cell up to this one a list. New lists are empty. The error is refused memory.
 fn reach_cell(alloc: Global, notes: &mut Vec<Vec<Note>>, cell: usize) -> Result<(), AllocError>
     ensures same { (c : ℕ) → notes_at (map vec_items notes.new.items) c ≡ notes_at (map vec_items notes.old.items) c }
     ensures there { OnOk result (cell < vec_len notes.new) }
@@ -97,7 +99,7 @@ fn reach_cell(alloc: Global, notes: &mut Vec<Vec<Note>>, cell: usize) -> Result<
     Ok(())
 }
 
-// Adds a note to a cell's list.
+// Adds a note to a cell's list, which has to be there. The error is refused memory.
 fn write_note(notes: &mut Vec<Vec<Note>>, cell: usize, note: Note) -> Result<(), AllocError>
     requires there { cell < vec_len notes.old }
     ensures noted { OnOk result (IsIn note (notes_at (map vec_items notes.new.items) cell)) }
@@ -110,7 +112,7 @@ fn write_note(notes: &mut Vec<Vec<Note>>, cell: usize, note: Note) -> Result<(),
     }
 }
 
-// Takes the last note out of a cell's list.
+// Takes the last note out of a cell's list, if there is one.
 fn take_note(notes: &mut Vec<Vec<Note>>, cell: usize) -> Option<Note>
     ensures note { MatchOption result (notes_at (map vec_items notes.old.items) cell ≡ []) (λ n. notes_at (map vec_items notes.old.items) cell ≡ notes_at (map vec_items notes.new.items) cell ++ n ∷ []) }
     ensures others { (c : ℕ) → (c ≡ cell → ⊥) → notes_at (map vec_items notes.new.items) c ≡ notes_at (map vec_items notes.old.items) c }
@@ -148,7 +150,7 @@ impl Parking {
         is_set(&self.flags, slot)
     }
 
-    /// The token in this slot is not known to wait.
+    /// Notes that the token in this slot is not known to wait.
     #[inline(always)]
     pub fn clear(&mut self, slot: usize)
         ensures flags { self.new.flags ≡ slice_set self.old.flags slot false }
@@ -161,13 +163,14 @@ impl Parking {
         write_flag(&mut self.flags, slot, false);
     }
 
-    /// The token in this slot is known to wait.
+    /// Notes that the token in this slot is known to wait. The slot needs a flag (`reach`).
     pub fn set(&mut self, slot: usize)
         requires there { slot < length self.old.flags }
         ensures flags { self.new.flags ≡ slice_set self.old.flags slot true }
         ensures notes { self.new.notes ≡ self.old.notes }
     {
         let len = self.flags.len();
+        // Shows the prover that the flag is there.
         prove!(slot < len);
         if is_set(&self.flags, slot) {
             return;
@@ -176,7 +179,7 @@ impl Parking {
         write_flag(&mut self.flags, slot, true);
     }
 
-    /// Makes room for what is known of the token in this slot.
+    /// Gives the slots up to this one a flag each. New flags aren't set. The error is refused memory.
     pub fn reach(&mut self, slot: usize) -> Result<(), AllocError>
         ensures flags { (k : ℕ) → is_set self.new.flags k ≡ is_set self.old.flags k }
         ensures notes { self.new.notes ≡ self.old.notes }
@@ -185,7 +188,7 @@ impl Parking {
         reach_slot(&mut self.flags, slot)
     }
 
-    /// Notes a token with a cell for which it waits.
+    /// Notes a token with a cell for which it waits. The error is refused memory. The notes that were there stay either way.
     pub fn note(&mut self, cell: u64, note: Note) -> Result<(), AllocError>
         ensures flags { self.new.flags ≡ self.old.flags }
         ensures noted { OnOk result (IsIn note (notes_at self.new.notes cell)) }
@@ -195,7 +198,7 @@ impl Parking {
         write_note(&mut self.notes, cell as usize, note)
     }
 
-    /// Takes a note out of those of a cell.
+    /// Takes one of a cell's notes out, the latest first. None if the cell has no note.
     pub fn take(&mut self, cell: u64) -> Option<Note>
         ensures flags { self.new.flags ≡ self.old.flags }
         ensures note { MatchOption result (notes_at self.old.notes cell ≡ []) (λ n. notes_at self.old.notes cell ≡ notes_at self.new.notes cell ++ n ∷ []) }
