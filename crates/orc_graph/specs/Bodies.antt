@@ -4,6 +4,7 @@ use Rattle.orc_rules.specs.Nodes.{Routine}
 use Rattle.orc_graph.specs.Ranges.{cut}
 use Rattle.orc_graph.specs.declared.definitions.Body.{Body}
 
+-- a definition with its parameters, which are among these names
 abbrev pub routine_in : List ℕ → Body → Routine
 routine_in names b = record { params = cut names b.params; body = b.node }
 

@@ -5,6 +5,7 @@ use Rattle.orc_rules.specs.declared.program.TermNode.TheVariants as term
 use Rattle.orc_graph.specs.declared.node.Node.{Node}
 use Rattle.orc_graph.specs.declared.node.Node.TheVariants.{Stop, Name, Is, Site, Call, Par, Seq, Prune, Other}
 
+-- the same node, with numbers of any size
 abbrev pub term_node : Node → TermNode
 term_node Stop = term.Stop
 term_node (Name x) = term.Operand (operand.Name x)

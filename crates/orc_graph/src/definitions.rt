@@ -1,4 +1,4 @@
-//! The definitions, their parameters one behind another.
+//! The definitions of a graph. The parameters of all of them are in one list, one definition's behind another's.
 
 ghost use Rattle.std.specs.Prelude.{◌≡◌, ◌++◌, ◌∷◌, [], length, map, slice_get, option_map, true, MatchOption, IfOk, OnOk};
 ghost use Rattle.std.specs.List.{AllByRecursion};
@@ -9,16 +9,17 @@ use crate::numbers::{GraphFault, Range, copied, part, place, put, short};
 use std::alloc::Global;
 use std::marker::Model;
 
-/// A definition: where its parameters stand, and the node of its body.
+/// A definition: where its parameters are among those of all, and the node of its body.
 #[derive(Clone, Copy)]
 pub(crate) struct Body {
     pub(crate) params: Range,
     pub(crate) node: u32,
 }
 
-/// Definitions by their numbers.
+/// Definitions by their numbers, from 0.
 #[derive(Drop)]
 pub(crate) struct Definitions {
+    // The parameters of all definitions, as numbers of names.
     names: Vec<u32>,
     bodies: Vec<Body>,
 }
@@ -56,7 +57,7 @@ impl Definitions {
         }
     }
 
-    /// Adds a definition at the end: its parameters and the node of its body.
+    /// Adds a definition at the end: its parameters and the node of its body. `Memory` where memory is refused or a number takes more than 32 bits.
     pub(crate) fn push(&mut self, params: &[u32], body: usize) -> Result<(), GraphFault>
         ensures { OnOk result (self.new ≡ self.old ++ record { params = params.now; body = body } ∷ []) }
     {
@@ -66,7 +67,7 @@ impl Definitions {
         Ok(())
     }
 
-    /// The same definitions again. The error is refused memory.
+    /// A copy of the definitions. The error is refused memory.
     pub(crate) fn copied(&self, alloc: Global) -> Result<Definitions, GraphFault>
         ensures { IfOk result (λ definitions. definitions ≡ self.now) }
     {
@@ -76,7 +77,7 @@ impl Definitions {
         })
     }
 
-    /// Whether each body is one of so many nodes.
+    /// Whether the body of each definition is one of the first `nodes` nodes.
     pub(crate) fn have_bodies(&self, nodes: usize) -> bool
         ensures { result ≡ true → AllByRecursion (HasBody nodes) self.now }
     {
@@ -95,7 +96,7 @@ impl Definitions {
         self.bodies.len()
     }
 
-    /// The node of the body of the definition with that number.
+    /// The node of the body of the definition with that number. None where there is no such definition.
     pub(crate) fn body(&self, number: usize) -> Option<u32>
         ensures { result ≡ option_map (λ r. r.body) (slice_get self.now number) }
     {

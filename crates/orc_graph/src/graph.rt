@@ -1,4 +1,4 @@
-//! The graph of a program.
+//! The graph of a program: what a run reads of it.
 
 ghost use Rattle.std.specs.Prelude.{◌≡◌, ◌≤◌, ◌++◌, ◌∷◌, [], length, map, slice_get, slice_index_or, option_map, true, IfOk, IfErr};
 ghost use Rattle.std.specs.List.{AllByRecursion};
@@ -57,7 +57,7 @@ impl Drop for Graph {
     }
 }
 
-// The same node with short numbers.
+// A node of a program with its numbers in 32 bits. `Memory` where one takes more.
 fn short_node(node: TermNode) -> Result<Node, GraphFault>
     ensures { IfOk result (λ short. term_node short ≡ node) }
 {
@@ -135,6 +135,7 @@ impl Graph {
         ensures why { IfErr result (λ fault. fault ≡ GraphFault.Memory) }
     {
         let root = short(program.source())?;
+        // A law of programs, for the prover; nothing runs. The graph's invariant says the same.
         program.are_parts_first();
         let nodes = short_nodes(alloc, program)?;
         let lists = lists_of(alloc, program)?;
@@ -211,7 +212,7 @@ impl Graph {
         }
     }
 
-    // Each node stands behind its parts.
+    // A law, for the prover: each node stands behind its parts, so its term is finite. Naming a field shows the invariant; nothing runs.
     fn are_parts_first(&self)
         ensures { ArePartsFirst self.now.nodes }
     {
@@ -256,7 +257,7 @@ impl Graph {
         self.definitions.body(definition)
     }
 
-    /// The parameters of the definition with that number, none where there is no such definition.
+    /// The parameters of the definition with that number, as numbers of names; none where there is no such definition.
     pub fn params(&self, definition: usize) -> &[u32]
         ensures { result.now ≡ params_at self.now.routines definition }
     {

@@ -1,4 +1,4 @@
-//! The lists of operands, one behind another.
+//! The lists of operands of a graph's calls. They are all in one list, one behind another.
 
 ghost use Rattle.std.specs.Prelude.{◌≡◌, ◌++◌, ◌∷◌, ◌≤◌, [], length, map, slice_index_or, slice_get, IfOk, OnOk};
 ghost use Rattle.orc_rules.specs.declared.limits.TheConstants.{MOST_ARGUMENTS};
@@ -9,9 +9,10 @@ use orc_rules::param::Operand;
 use std::alloc::Global;
 use std::marker::Model;
 
-/// Lists of operands, by their numbers, each of a call.
+/// Lists of operands by their numbers, from 0, each that of a call.
 #[derive(Drop)]
 pub(crate) struct Lists {
+    // The operands of all lists.
     operands: Vec<Operand>,
     ranges: Vec<Range>,
 }
@@ -49,7 +50,7 @@ impl Lists {
         }
     }
 
-    /// The same lists again, with room for one more. The error is refused memory.
+    /// A copy of the lists, with room for one more. The error is refused memory.
     pub(crate) fn copied(&self, alloc: Global) -> Result<Lists, GraphFault>
         ensures { IfOk result (λ lists. lists ≡ self.now) }
     {
@@ -66,7 +67,7 @@ impl Lists {
         self.ranges.len()
     }
 
-    /// Adds a list at the end.
+    /// Adds a list at the end. `Memory` where memory is refused or there are more operands than 32 bits count.
     pub(crate) fn push(&mut self, operands: &[Operand]) -> Result<(), GraphFault>
         requires { length operands.now ≤ MOST_ARGUMENTS }
         ensures { OnOk result (self.new ≡ self.old ++ operands.now ∷ []) }

@@ -2,11 +2,11 @@
 
 use orc_rules::value::Value;
 
-/// A node, which names its parts and its list of operands by their numbers.
+/// A node of a program's terms. Its parts are nodes, named by their numbers from 0; its operands, if it is a call, are a list, named by its number.
 #[derive(Clone, Copy, Debug, PartialEq, Eq)]
 pub enum Node {
     Stop,
-    /// A variable.
+    /// A variable, by the number of its name.
     Name(u32),
     /// A value.
     Is(Value),
@@ -14,12 +14,12 @@ pub enum Node {
     Site(u32, u32),
     /// A call of a definition, with the number of the definition and that of its list of operands.
     Call(u32, u32),
-    /// `f | g`
+    /// `f | g`, with the nodes of f and g.
     Par(u32, u32),
-    /// `f >x> g`
+    /// `f >x> g`, with the node of f, the name x and the node of g.
     Seq(u32, u32, u32),
-    /// `f <x< g`
+    /// `f <x< g`, with the node of f, the name x and the node of g.
     Prune(u32, u32, u32),
-    /// `f ; g`
+    /// `f ; g`, with the nodes of f and g.
     Other(u32, u32),
 }

@@ -1,4 +1,4 @@
-//! The numbers of a graph, of 32 bits each, and what grows.
+//! The numbers of a graph, of 32 bits each, ranges of a list, and lists that grow.
 
 ghost use Rattle.orc_graph.specs.Ranges.{cut};
 ghost use Rattle.std.specs.Prelude.{◌≡◌, ◌++◌, ◌∷◌, ◌+◌, ◌≤◌, [], length, IfOk, OnOk, if◌then◌else◌, is_ok};
@@ -12,14 +12,14 @@ pub enum GraphFault {
     Memory,
 }
 
-/// Where a list begins in a longer one, and where it ends.
+/// Where a list is in a longer one: from place `start`, from 0, up to place `end`, which isn't in it.
 #[derive(Clone, Copy)]
 pub(crate) struct Range {
     pub(crate) start: u32,
     pub(crate) end: u32,
 }
 
-/// The same number in 32 bits.
+/// The same number in 32 bits. `Memory` where it takes more.
 pub(crate) fn short(number: usize) -> Result<u32, GraphFault>
     ensures { IfOk result (λ short. short ≡ number) }
 {
@@ -29,7 +29,7 @@ pub(crate) fn short(number: usize) -> Result<u32, GraphFault>
     Ok(number as u32)
 }
 
-/// Adds an item at the end.
+/// Adds an item at the end. The error is refused memory, and then nothing is added.
 pub(crate) fn put<T: Copy + Drop>(items: &mut Vec<T>, item: T) -> Result<(), GraphFault>
     ensures { items.new.items ≡ (if is_ok result then items.old.items ++ item ∷ [] else items.old.items) }
 {
@@ -39,7 +39,7 @@ pub(crate) fn put<T: Copy + Drop>(items: &mut Vec<T>, item: T) -> Result<(), Gra
     }
 }
 
-/// The same items again, with room for as many more. The error is refused memory.
+/// A copy of the items, with room for `more` of them. The error is refused memory.
 pub(crate) fn copied<T: Copy + Drop>(
     alloc: Global,
     items: &[T],
@@ -57,7 +57,7 @@ pub(crate) fn copied<T: Copy + Drop>(
     }
 }
 
-/// Adds a list at the end: where it stands.
+/// Adds a list at the end, and gives where it is. `Memory` where memory is refused or a place takes more than 32 bits; nothing is added then.
 pub(crate) fn place<T: Copy + Drop>(items: &mut Vec<T>, list: &[T]) -> Result<Range, GraphFault>
     ensures start { IfOk result (λ range. range.start ≡ length items.old.items) }
     ensures end { IfOk result (λ range. range.end ≡ length items.old.items + length list.now) }
@@ -65,6 +65,7 @@ pub(crate) fn place<T: Copy + Drop>(items: &mut Vec<T>, list: &[T]) -> Result<Ra
 {
     let start = short(items.len())?;
     let count = short(list.len())?;
+    // A sum of two numbers of 32 bits fits `usize`.
     let end = short(start as usize + count as usize)?;
     match items.extend_from_slice(list) {
         Ok(()) => Ok(Range { start, end }),
