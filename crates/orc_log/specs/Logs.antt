@@ -1,4 +1,4 @@
--- The journal of a run of which only the last entries need to be held.
+-- The journal of a run, of which all entries are held or none.
 use Rattle.std.specs.Prelude.{◌≡◌, ◌≤◌, ◌++◌, ◌^◌, ℕ, Bool, true, false, List, [], length}
 use Rattle.orc_rules.specs.declared.entry.Entry.{Entry}
 use Rattle.orc_rules.specs.declared.value.Value.{Value}
@@ -16,8 +16,8 @@ pub record Logged : Type 0 where
 abbrev pub log_with : Logged → List Entry → Logged
 log_with c es = record { version = c.version; entries = c.entries ++ es }
 
--- what is known of the entries where they aren't held: how many they are, what they publish, and whether they are known to be local; a journal that is
--- kept has all of its entries held, and any other one has none
+-- what a log knows of the entries that aren't held, the past: how many they are, what they publish, and whether they are known to be local; where the
+-- journal is kept all of its entries are held, and else none is
 pub record IsKnown (sites : List Site) (keeps : Bool) (past : List Entry) (passed : ℕ) (values : List Value) (is_local : Bool) (held : ℕ) : Type 0 where
   pub count : length past ≡ passed
   pub publishes : published past ≡ values

@@ -1,7 +1,7 @@
 //! A ghost list: contracts can mention it, and it takes no memory at run time.
 //!
-//! Who forgets a part of a list that it keeps can still say what the whole list is: it keeps a [`GhostList`] of what it has forgotten. A ghost list has no bytes. So
-//! whoever makes one picks what stands in it, and what ties it to what was there is the invariant of the type that keeps it.
+//! A type that forgets items can still say in its contracts which they were: it keeps a [`GhostList`] of them. A ghost list has no bytes. So whoever
+//! makes one picks its items in the proof, and the invariant of the type that keeps it ties them to what has happened.
 
 ghost use Rattle.std.specs.Prelude.{◌≡◌, List};
 ghost use Rattle.std.specs.Borrow.{ftrue};
@@ -9,7 +9,7 @@ ghost use Rattle.std.specs.Coded.{coded_list};
 
 use std::marker::{Model, PhantomData, Send, Sync};
 
-/// A list that clauses speak of and no code holds.
+/// A list of items that contracts can mention and that no code can read.
 #[derive(Drop)]
 pub struct GhostList<T> {
     of: PhantomData<T>,
@@ -17,14 +17,16 @@ pub struct GhostList<T> {
 }
 
 impl<T> Model for GhostList<T> {
+    // It owns no memory and no item.
     ghost also_owns = { λ _. ftrue };
 }
 
+// Any `T` will do for these two: there is no item that another thread could reach.
 unsafe impl<T> Send for GhostList<T> {}
 
 unsafe impl<T> Sync for GhostList<T> {}
 
-/// The past in which these items stand. The caller's proof picks them.
+/// A ghost list of these items, which the caller's proof picks.
 pub fn ghost_list_of<T>() -> GhostList<T>
     ghost items: { List T }
     ensures { result.items ≡ items }

@@ -1,5 +1,6 @@
-//! The journal of a run, which holds all of its entries or none. Of those that aren't held it is known how many they are, what they publish and whether
-//! something round the run bears on them; which they are clauses say, and no code.
+//! The journal of a run, which holds all of its entries or none. Of entries that aren't held it knows how many they are, what they publish, and
+//! whether they are *local*: nothing outside the run affects them (no tick, no cancel, no call that a script answers). Contracts alone can name these
+//! entries, by a ghost list, the *past*. A *part* is the log of a sub-run: of a call of a definition that was run by itself.
 
 ghost use Rattle.std.specs.Prelude.{◌≡◌, ◌≢◌, ◌+◌, ◌≤◌, ◌^◌, ◌++◌, ◌∷◌, [], ℕ, List, true, false, length, map, take, drop, IfOk, IfSome, IfNone, OnOk, OnErr};
 ghost use Rattle.std.specs.List.{slice_get};
@@ -22,7 +23,7 @@ use orc_tables::Pending;
 use std::alloc::{AllocError, Global};
 use std::marker::{Model, PhantomData};
 
-/// The most entries: more than any memory has room for.
+/// The most entries: more than any memory has room for, and so few that sums of lengths don't overflow.
 const MOST: usize = 1 << 62;
 
 /// The journal of a run. Where the run keeps it, it holds all entries; else none.
@@ -32,10 +33,12 @@ pub struct Log<P: Run> {
     keeps: bool,
     // The entries, where they are held.
     held: Journal,
-    // What is known of them where they aren't: which they are, how many, what they publish, and whether all are known to be local.
+    // The entries that aren't held, for contracts alone; and how many they are.
     past: GhostList<Entry>,
     passed: usize,
+    // The values that those publish, in order.
     published: Vec<Value>,
+    // Whether all of those are known to be local.
     is_local: bool,
     program: PhantomData<P>,
 }
@@ -51,7 +54,7 @@ impl<P: Run> Model for Log<P> {
     ghost invariant = { λ c. (c.keeps ≡ P.keeps) × IsKnown P.sites c.keeps c.past.items c.passed c.published.items c.is_local (length c.held.entries) };
 }
 
-// The past with an entry behind it.
+// The past with an entry behind it. It uses no argument: the caller's proof picks the items by them. So it is with the four functions below.
 fn past_with_entry(past: &GhostList<Entry>, entry: &Entry) -> GhostList<Entry>
     ghost items: { List EntryOf }
     ensures { result.items ≡ items }
@@ -61,7 +64,7 @@ fn past_with_entry(past: &GhostList<Entry>, entry: &Entry) -> GhostList<Entry>
     ghost_list_of::<Entry>()
 }
 
-// The same with a call.
+// The past with a call behind it.
 fn past_with_call(
     past: &GhostList<Entry>,
     token: u64,
@@ -78,7 +81,7 @@ fn past_with_call(
     ghost_list_of::<Entry>()
 }
 
-// The same with a bind and its cancels.
+// The past with a bind and its cancels behind it.
 fn past_with_bind(
     past: &GhostList<Entry>,
     token: u64,
@@ -96,7 +99,7 @@ fn past_with_bind(
     ghost_list_of::<Entry>()
 }
 
-// The first of its entries, so many.
+// The first `len` entries of the past.
 fn first_of_past(past: &GhostList<Entry>, len: usize) -> GhostList<Entry>
     ghost items: { List EntryOf }
     ensures { result.items ≡ items }
@@ -106,7 +109,7 @@ fn first_of_past(past: &GhostList<Entry>, len: usize) -> GhostList<Entry>
     ghost_list_of::<Entry>()
 }
 
-// The same with a part's entries under these numbers.
+// The past with a part's entries behind it, under the numbers that they have in this run.
 fn past_with_part<P: Run>(
     past: &GhostList<Entry>,
     part: &Log<P>,
@@ -121,7 +124,7 @@ fn past_with_part<P: Run>(
     ghost_list_of::<Entry>()
 }
 
-// Whether so many more may be held.
+// Whether `more` entries may still be held: at most `MOST` in all.
 #[inline(always)]
 fn has_room(held: &Journal, more: usize) -> bool
     ensures { result ≡ true → length held.now.entries + more ≤ 2 ^ 62 }
@@ -129,7 +132,7 @@ fn has_room(held: &Journal, more: usize) -> bool
     more <= MOST && held.len() <= MOST - more
 }
 
-// Counts so many more, if they may be so many. The error leaves the count as it was.
+// Adds `more` to a count, if it stays within `MOST`. The error leaves the count as it was.
 #[inline(always)]
 fn count_more(count: &mut usize, more: usize) -> Result<(), AllocError>
     requires { count.old ≤ 2 ^ 62 }
@@ -144,7 +147,7 @@ fn count_more(count: &mut usize, more: usize) -> Result<(), AllocError>
     Ok(())
 }
 
-// Whether an entry is none that is local wherever it stands.
+// Whether something outside the run may affect an entry: a tick, a cancel, or a call, since a script may answer it. Only `false` is certain.
 #[inline(always)]
 fn may_bear(entry: &Entry) -> bool
     ensures { result ≡ false → (sites : List Site) → IsLocal sites entry.now }
@@ -170,8 +173,8 @@ fn add_published(values: &mut Vec<Value>, entry: &Entry) -> Result<(), AllocErro
     }
 }
 
-// Puts a part's entries behind others under these numbers, and gives its calls of sites, so many as were `made`, the next numbers. Where memory is refused
-// nothing changes.
+// Appends a part's entries under the numbers that they have in this run, and passes over the numbers of the `made` calls of sites in it. Where memory
+// is refused nothing changes.
 fn append_held(
     held: &mut Journal,
     part: &Journal,
@@ -199,7 +202,7 @@ fn append_held(
 }
 
 impl<P: Run> Log<P> {
-    /// No entries. Those that come are held where the run `keeps` its journal.
+    /// A log without entries. Those that are added are held if the run `keeps` its journal, else only counted.
     pub fn new(alloc: Global, keeps: bool) -> Log<P>
         requires { keeps ≡ P.keeps }
         ensures { result ≡ record { version = Version.Two; entries = [] } }
@@ -242,6 +245,7 @@ impl<P: Run> Log<P> {
         add_published(&mut self.published, entry)?;
         self.past = past_with_entry(&self.past, entry);
         self.passed += 1;
+        // A call that comes this way counts as not local: which sites have scripts isn't at hand here. `push_call` asks.
         if may_bear(entry) {
             self.is_local = false;
         }
@@ -271,6 +275,7 @@ impl<P: Run> Log<P> {
         }
         count_more(&mut self.passed, 1)?;
         self.past = past_with_call(&self.past, token, call, site, args);
+        // A script's answer depends on the calls that the whole run has made before.
         if answers.is_scripted(site) {
             self.is_local = false;
         }
@@ -297,11 +302,12 @@ impl<P: Run> Log<P> {
         }
         count_more(&mut self.passed, more)?;
         self.past = past_with_bind(&self.past, token, cell, value, cancelled);
+        // A bind is local, a cancel isn't.
         self.is_local &= cancelled.is_empty();
         Ok(())
     }
 
-    /// Keeps the first `len` entries alone, all where there are no more. Those that go publish nothing.
+    /// Keeps the first `len` entries alone, or all if there are no more. Those that go have to publish nothing.
     pub fn truncate(&mut self, len: usize)
         requires { AreSilent (drop len self.old.entries) }
         ensures { self.new ≡ record { version = self.old.version; entries = take len self.old.entries } }
@@ -309,28 +315,31 @@ impl<P: Run> Log<P> {
         if self.keeps {
             self.held.truncate(len);
         } else if len < self.passed {
+            // `published` stays right, since what goes publishes nothing; and fewer entries are as local as more.
             self.past = first_of_past(&self.past, len);
             self.passed = len;
         }
     }
 
-    /// Whether all entries are known to be local: nothing around the run whose they are bears on them.
+    /// Whether all entries are known to be local: no tick, no cancel, no call that a script answers. They may be so where this is false: where no
+    /// entry is held, none counts as local any more once a part was appended.
     pub fn are_local(&self, answers: &Answers) -> bool
         requires { answers.now.sites ≡ P.sites }
         ensures { result ≡ true → AreLocal P.sites self.now.entries }
     {
+        // The flag is about the entries that aren't held, and the list has those that are: one of the two is of no entry.
         self.is_local && self.held.are_local(answers)
     }
 
-    /// Whether no entry is a publication.
+    /// Whether no entry is a publication. The contract promises it of `true` alone.
     pub fn is_silent(&self) -> bool
         ensures { result ≡ true → AreSilent self.now.entries }
     {
         self.published.is_empty() && self.held.is_silent()
     }
 
-    /// Puts a part's entries behind under these numbers, and gives its calls of sites, so many as were `made`, the next numbers. Where memory is refused
-    /// nothing changes.
+    /// Appends the entries of a part under the numbers that they have in this run, and passes over the numbers of the `made` calls of sites in it,
+    /// none of which pends. The error is refused memory, and then nothing changes.
     pub fn append(
         &mut self,
         part: &Log<P>,
@@ -351,7 +360,8 @@ impl<P: Run> Log<P> {
         }
     }
 
-    // The same where none is held: what is known of the part's entries is known of these then.
+    // `append` where no entry is held: adds up how many entries both have and what these publish. Whether they are local isn't followed: it counts as
+    // not known.
     fn append_known(
         &mut self,
         part: &Log<P>,
@@ -389,7 +399,7 @@ impl<P: Run> Log<P> {
         Ok(())
     }
 
-    /// The entry at a place, from 0, if it is held.
+    /// The entry at a place, from 0. None past the end, and everywhere if the run doesn't keep its journal.
     pub fn get(&self, at: usize) -> Option<Entry>
         ensures held { IfSome result (λ entry. slice_get self.now.entries at ≡ Some entry) }
         ensures none { IfNone result (P.keeps ≡ true → length self.now.entries ≤ at) }
@@ -397,7 +407,7 @@ impl<P: Run> Log<P> {
         if self.keeps { self.held.get(at) } else { None }
     }
 
-    /// The journal, which is held whole.
+    /// The whole journal, of a run that keeps it.
     pub fn journal(&self) -> &Journal
         requires { P.keeps ≡ true }
         ensures entries { result.now.entries ≡ self.now.entries }
@@ -406,7 +416,7 @@ impl<P: Run> Log<P> {
         &self.held
     }
 
-    /// The same, and nothing else.
+    /// The whole journal, of a run that keeps it; the log itself goes.
     pub fn into_journal(self) -> Journal
         requires { P.keeps ≡ true }
         ensures entries { result.entries ≡ self.entries }
@@ -426,7 +436,7 @@ impl<P: Run> Log<P> {
         }
     }
 
-    /// The same journal as that of another run, of the same sites, which keeps as much.
+    /// This log as one of another run `W`, which has the same sites and keeps its journal likewise. Its entries stay the same: only the type changes.
     pub fn named<W: Run>(self) -> Log<W>
         requires sites { P.sites ≡ W.sites }
         requires keeps { P.keeps ≡ W.keeps }

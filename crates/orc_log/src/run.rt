@@ -1,8 +1,9 @@
-//! What a run is of, as clauses name it.
+//! What belongs to a run, as contracts name it.
 
 use std::marker::Brand;
 
-/// The program that a run is of, its sites, the limit of its entries, and whether its journal is held whole.
+/// A run, for contracts: its program, its table of sites, the limit of its entries, and whether its journal is held whole. All of this is
+/// ghost, so a type that is generic over a `Run` carries no bytes for it.
 pub trait Run {
     ghost use Rattle.orc_rules.specs.Nodes.{Listing};
     ghost use Rattle.orc_rules.specs.Sites.{Site};
@@ -19,7 +20,7 @@ pub trait Run {
     ghost keeps: { Bool };
 }
 
-// A caller that picks a program names it by this.
+// A caller passes `Brand` as its run, and its proof picks the members for that call. The values below only complete the `impl`.
 impl Run for Brand {
     ghost use Rattle.std.specs.Prelude.{true, []};
 
