@@ -43,6 +43,7 @@ IsReturned s c (Gives v) (Some slot) s' = Exchanges s s' [] (answered s c v ∷ 
 IsReturned s c Halt None s' = Exchanges s s' [] [] (c ∷ []) [] 0 (ReturnHalt c.number)
 IsReturned s c _ _ s' = ⊥
 
+-- call k pends, with this record
 abbrev pub Pends : Records → ℕ → Call → Type 0
 Pends s k c = IsIn c s.calls × (c.number ≡ k)
 

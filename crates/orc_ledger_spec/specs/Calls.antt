@@ -1,4 +1,4 @@
--- What the calls of a book do to its records.
+-- What the calls of a ledger do to its records.
 use Rattle.std.specs.Prelude.{ℕ, ◌+◌, ◌≡◌, ◌≤◌, ◌<◌, ◌⊎◌, ◌↔◌, List, [], ◌∷◌, ◌++◌, Bool, false, nat_eq, length, slice_set}
 use Rattle.orc_rules.specs.declared.entry.Entry.{Entry}
 use Rattle.orc_rules.specs.declared.limits.TheConstants.{MOST_TOKENS, MOST_GROUPS, MOST_FRAMES}
@@ -31,6 +31,7 @@ is_inside c p (Right d) = inside c (aiding d p)
 is_inside c p (Left n g scope) = inside c p
 
 module _ (code : ℕ → Term) (c : ℕ) (s : Records) where
+  -- a token, a call, a group is inside the right side of cell c: it goes if that is dropped
   abbrev pub token_goes : Token → Bool
   token_goes t = inside c (raw_path code s t.step)
 
@@ -79,6 +80,7 @@ module _ (s : Records) (t : Token) where
   abbrev pub born : ℕ → ℕ → ℕ → ℕ → Token
   born serial node scope step = record { serial = serial; standing = At node scope; step = step }
 
+  -- what becomes of the records where t is at `stop`, void, at `f | g`, at `f >x> g`, at `f ; g` and at `f <x< g`; f and g are the nodes of the sides
   abbrev pub IsEnded : Records → Type 0
   IsEnded s' = Turns s s' t [] [] [] [] [] (End t.serial)
 
@@ -109,6 +111,7 @@ IsFree s number = (1 ≤ number) × None (λ (g : Group). nat_eq number g.number
 abbrev pub HasRoom : Records → ℕ → ℕ → ℕ → Type 0
 HasRoom s tokens groups depth = (length s.tokens + length s.calls + tokens ≤ MOST_TOKENS) × (length s.groups + 1 + groups ≤ MOST_GROUPS) × (depth ≤ MOST_FRAMES)
 
+-- one of these numbers would be over its limit
 abbrev pub IsFull : Records → ℕ → ℕ → ℕ → Type 0
 IsFull s tokens groups depth = (MOST_TOKENS < length s.tokens + length s.calls + tokens) ⊎ ((MOST_GROUPS < length s.groups + 1 + groups) ⊎ (MOST_FRAMES < depth))
 

@@ -11,5 +11,6 @@ use Rattle.orc_frames.specs.Doing.{what_by}
 abbrev pub term_of : (ℕ → Term) → Records → Token → Term
 term_of code s t = standing code (its_env code s) t.standing
 
+-- what a token does next, its word: by its path, without the otherwises that have published, and its term
 abbrev pub what_of : (ℕ → Term) → List Definition → Records → Token → Action
 what_of code defs s t = what_by defs (its_path code s t.step) (term_of code s t)

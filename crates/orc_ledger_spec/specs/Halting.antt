@@ -49,6 +49,7 @@ module _ (code : ℕ → Term) (s s' : Records) (g : Group) where
     pub done : Closes s s' g
     pub round : parent ≡ group_at s.steps g.outer
 
+  -- what each answer of `halt` says
   abbrev pub Becomes : Halted → Type 0
   Becomes (Lost cell parent) = Loses cell parent
   Becomes (Resumed slot) = Starts slot

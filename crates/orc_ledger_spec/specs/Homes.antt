@@ -10,11 +10,13 @@ abbrev pub home : List ℕ → ℕ → ℕ
 home hs zero = 0
 home hs (suc k) = slice_index_or hs k 0
 
+-- a step into a side is its own home; one into the left side of a `>x>` has that of the step around it
 abbrev pub home_by : List ℕ → ℕ → Step → Frame → ℕ
 home_by hs i p (SeqLeft x g scope) = home hs p.outer
 home_by hs i p (PruneRight c) = i
 home_by hs i p (OtherwiseLeft n) = i
 
+-- these are the homes of the steps
 abbrev pub AreHomes : List ℕ → List Step → Type 0
 AreHomes hs ss = (k : ℕ) (p : Step) → slice_get ss k ≡ Some p → home hs (suc k) ≡ home_by hs (suc k) p p.entered
 

@@ -12,6 +12,7 @@ use Rattle.orc_ledger_spec.specs.Told.{AreTold}
 use Rattle.orc_indexes.specs.Parking.{Parked}
 use Rattle.orc_ledger_spec.specs.AtRest.{AreAtRest}
 
+-- what holds between two calls of a ledger, but for what the next record adds
 pub record Kept (l : Listing) (sites : List Site) (counts : List (List ℕ × ℕ)) (sizes : List ℕ) (s : Records) : Type 0 where
   -- the journal leads from the program's term to a place that the records spell
   pub lawful : Lawful l sites s

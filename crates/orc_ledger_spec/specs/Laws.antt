@@ -77,10 +77,12 @@ NoneIsLost = (l : Listing) (sites : List Site) (s : Records) (L : Lawful l sites
 
 -- ---- what comes next, where the records have the table's word on each call, and each group those that are in it
 
+-- a tick that comes next is one that the rules allow
 abbrev pub NextTicks : Type 0
 NextTicks = (l : Listing) (sites : List Site) (s : Records) (L : Lawful l sites s) → AreTold sites L.place.calls s.calls → (n : Numbers) → AreGrouped n s
     → (t : ℕ) → next_of (code l) (definitions l) n s ≡ ticks t → IsTick (context l sites) (moment L.place) t
 
+-- where nothing comes next, the run is quiet by the rules
 abbrev pub NextIsQuiet : Type 0
 NextIsQuiet = (l : Listing) (sites : List Site) (s : Records) (L : Lawful l sites s) → AreTold sites L.place.calls s.calls → (n : Numbers) → AreGrouped n s
     → next_of (code l) (definitions l) n s ≡ quiet → IsQuiet (context l sites) (moment L.place)
@@ -100,7 +102,7 @@ abbrev pub TickIsNext : Type 0
 TickIsNext = (l : Listing) (sites : List Site) (s : Records) (L : Lawful l sites s) → AreTold sites L.place.calls s.calls → (n : Numbers) → AreGrouped n s
     → (t : ℕ) → IsTick (context l sites) (moment L.place) t → (next_of (code l) (definitions l) n s ≡ ticks t) ⊎ IsDelayed l n s sites L.place
 
--- and so is quiet
+-- where the run is quiet by the rules, quiet comes next, but for moves of marks and groups that go
 abbrev pub QuietIsNext : Type 0
 QuietIsNext = (l : Listing) (sites : List Site) (s : Records) (L : Lawful l sites s) → AreTold sites L.place.calls s.calls → (n : Numbers) → AreGrouped n s
     → IsQuiet (context l sites) (moment L.place) → (next_of (code l) (definitions l) n s ≡ quiet) ⊎ IsDelayed l n s sites L.place

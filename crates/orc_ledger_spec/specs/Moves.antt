@@ -149,6 +149,7 @@ Hinders s t Call fault = ⊥
 Hinders s t (Wait c) fault = ⊥
 Hinders s t _ fault = IsRefused s 0 0 0 fault
 
+-- why the token's move is refused
 abbrev pub IsHindered : Listing → Records → Token → LedgerFault → Type 0
 IsHindered l s t fault = Hinders s t (what_of (code l) (definitions l) s t) fault
 

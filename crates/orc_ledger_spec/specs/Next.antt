@@ -1,4 +1,4 @@
--- What a book does next, as a function of its records and of the groups that the tables note.
+-- What a ledger does next, as a function of its records and of the groups that the tables note.
 use Rattle.std.specs.Prelude.{◌≡◌, ℕ, zero, suc, ◌+◌, List, Bool, true, false, cond, nat_lt, ◌≤◌, Option, Some, None, slice_get}
 use Rattle.orc_rules.specs.Term.{Term, Definition}
 use Rattle.orc_rules.specs.Timed.{IsIn}
@@ -40,6 +40,7 @@ members n s i = weight (λ (t : Token). is_this i (n.token t)) s.tokens + (weigh
 abbrev pub AreSizes : List ℕ → Records → Type 0
 AreSizes sizes s = (i : ℕ) → size_of sizes i ≡ members (numbers_of s) s i
 
+-- 1 for no members, else 0
 abbrev pub is_empty : ℕ → ℕ
 is_empty zero = 1
 is_empty (suc k) = 0
@@ -82,11 +83,13 @@ pub record AreGrouped (n : Numbers) (s : Records) : Type 0 where
 
 -- ---- what comes next
 
+-- something to do at this time, a tick to a time, or nothing ever
 pub data Next : Type 0 where
   work : Next
   ticks : ℕ → Next
   quiet : Next
 
+-- 1 for a token that doesn't wait, else 0
 abbrev pub ready_one : (ℕ → Term) → List Definition → Records → Token → ℕ
 ready_one code defs s t = cond (is_wait (what_of code defs s t)) 0 1
 
@@ -94,10 +97,12 @@ ready_one code defs s t = cond (is_wait (what_of code defs s t)) 0 1
 abbrev pub ready : (ℕ → Term) → List Definition → Records → ℕ
 ready code defs s = weight (ready_one code defs s) s.tokens
 
+-- where nothing moves: by the next due time, if there is one
 abbrev pub next_at : ℕ → Option ℕ → Next
 next_at now None = quiet
 next_at now (Some t) = cond (nat_lt now t) (ticks t) work
 
+-- work if something is ready or empty, which are so many in all; else by the next due time
 abbrev pub next_by : ℕ → ℕ → Option ℕ → Next
 next_by zero now due = next_at now due
 next_by (suc k) now due = work

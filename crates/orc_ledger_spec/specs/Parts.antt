@@ -1,4 +1,4 @@
--- A part of a run that was made apart, and what taking it in does to the records.
+-- A sub-run (part): a call of a definition that was run by itself; and what merging it does to the records.
 use Rattle.std.specs.Prelude.{◌≡◌, ◌<◌, ◌≤◌, ℕ, zero, suc, ◌+◌, ◌-◌, ◌*◌, ◌⊎◌, List, [], ◌∷◌, ◌++◌, map, length, Option, Some, None}
 use Rattle.orc_rules.specs.declared.value.Value.{Value}
 use Rattle.orc_rules.specs.declared.param.Param.TheVariants.{Is}
@@ -32,6 +32,7 @@ pub record Apart : Type 0 where
   pub cells : ℕ
   pub left : Option Yield
 
+-- the call of a definition with values, as a term
 abbrev pub call_of : ℕ → List Value → Term
 call_of definition args = call definition (map Is args)
 
@@ -98,7 +99,7 @@ pub record TakesIn (s s' : Records) (t : Token) (a : Apart) : Type 0 where
   pub steps : s'.steps ≡ s.steps
   pub cells : s'.cells ≡ s.cells ++ cells_from (length s.cells) a.cells
 
--- why a part isn't taken in: the limit has no room for its entries, or memory was refused
+-- why a part isn't merged: the limit has no room for its entries, or memory was refused
 abbrev pub IsUntaken : Records → Apart → LedgerFault → Type 0
 IsUntaken s a fault.Full = ⊥
 IsUntaken s a fault.Limit = s.limit < s.entries + length a.entries

@@ -1,4 +1,4 @@
--- What the records of a book spell.
+-- What the records of a ledger describe (spell): a place of a journal, that is a marked term with its time and counts.
 use Rattle.std.specs.Prelude.{ℕ, suc, ◌+◌, ◌*◌, ◌≤◌, ◌≡◌, List, [], ◌++◌, length, map, filter, Bool, true, false, cond, nat_eq, nat_lt, not, ◌||◌, slice_get, Option, Some}
 use Rattle.orc_rules.specs.declared.entry.Entry.{Entry}
 use Rattle.orc_rules.specs.declared.entry.Entry.TheVariants.{Cancel}
@@ -24,7 +24,7 @@ use Rattle.orc_tables.specs.declared.records.Side.TheVariants.{Right, Left}
 use Rattle.orc_tables.specs.declared.records.Group.{Group}
 use Rattle.orc_frames.specs.Paths.{standing, path, has_left, is_out, step_out, tries}
 
--- what callers of a book see
+-- what callers of a ledger see
 pub record Records : Type 0 where
   pub limit : ℕ
   pub journal : List Entry
@@ -41,16 +41,19 @@ pub record Records : Type 0 where
   pub cells : List Bound  -- by number, an unbound one itself; there is no cell 0
 
 module _ (code : ℕ → Term) (s : Records) where
+  -- what stands for the names of a scope
   abbrev pub its_env : ℕ → Env
   its_env = env_of s.cells s.scopes
 
-  -- with all otherwises, and without those that were left
+  -- what is around a token with this innermost step, with all otherwises
   abbrev pub raw_path : ℕ → Path
   raw_path = path code its_env s.steps
 
+  -- the same without the otherwises that have published
   abbrev pub its_path : ℕ → Path
   its_path i = seen (has_left s.steps) (raw_path i)
 
+  -- what a token and a call spell: their mark or number, a token's term, and their path
   abbrev pub token_row : Token → Row
   token_row t = stands t.serial (standing code its_env t.standing) (its_path t.step)
 
@@ -61,10 +64,12 @@ module _ (code : ℕ → Term) (s : Records) where
   abbrev pub rows_of : List Row
   rows_of = map token_row s.tokens ++ map call_row s.calls
 
+  -- what an open side with this path around it spells
   abbrev pub side_at : Path → Side → Numbered
   side_at p (Right c) = right_of c p
   side_at p (Left n g scope) = left_of n (close (its_env scope) (code g)) p
 
+  -- what a group spells
   abbrev pub group_side : Group → Numbered
   group_side g = side_at (its_path g.outer) g.side
 
@@ -87,6 +92,7 @@ pub record Spells (code : ℕ → Term) (s : Records) (p : Place) : Type 0 where
   pub made : length p.calls ≡ s.made
   pub none_due : p.to_cancel ≡ []
 
+-- ---- what names a scope past the n or a step past the m that there are
 abbrev pub token_out : ℕ → ℕ → Token → Bool
 token_out n m t = is_out n t.standing || nat_lt m t.step
 
@@ -100,18 +106,21 @@ side_out n (Left m g scope) = nat_lt n scope
 abbrev pub group_out : ℕ → ℕ → Group → Bool
 group_out n m g = side_out n g.side || nat_lt m g.outer
 
+-- 1 for a token with this mark
 abbrev pub has_serial : ℕ → Token → ℕ
 has_serial m t = cond (nat_eq m t.serial) 1 0
 
--- the side's cell has become something
+-- the cell isn't bound: it stands for itself
 abbrev pub is_own : ℕ → Option Bound → Bool
 is_own c (Some (Cell d)) = nat_eq c d
 is_own c _ = false
 
+-- the side's cell has become something else
 abbrev pub is_settled : List Bound → Side → Bool
 is_settled cells (Right c) = not (is_own c (slice_get cells c))
 is_settled cells (Left n g scope) = false
 
+-- what the records name is there, and no two things share a name
 pub record Sound (s : Records) : Type 0 where
   pub tokens : Nobody (token_out (length s.scopes) (length s.steps)) s.tokens
   pub calls : Nobody (call_out (length s.steps)) s.calls
@@ -132,6 +141,7 @@ pub record Sound (s : Records) : Type 0 where
 abbrev pub context : Listing → List Site → Context
 context l sites = record { definitions = definitions l; sites = sites; cancels = true }
 
+-- 1 for an entry that counts against the limit: a cancel doesn't
 abbrev pub counts : Entry → ℕ
 counts (Cancel k) = 0
 counts _ = 1

@@ -8,6 +8,7 @@ use Rattle.orc_rules.specs.Timed.{CallMade, IsIn, says_of}
 use Rattle.orc_indexes.specs.Same.{None}
 use Rattle.orc_tables.specs.declared.records.Call.{Call}
 
+-- both say the same: this answer after this delay, or none ever
 abbrev pub found_eq : Found → Found → Bool
 found_eq (After (Gives v) d) (After (Gives w) e) = value_eq v w && nat_eq d e
 found_eq (After Halt d) (After Halt e) = nat_eq d e
@@ -23,7 +24,7 @@ abbrev pub is_told : List Site → List CallMade → Call → Bool
 is_told sites [] c = false
 is_told sites (m ∷ ms) c = cond (nat_eq c.number m.number) (found_eq (says_of sites m) c.found && nat_eq m.at c.made_at && is_nth sites m c.nth) (is_told sites ms c)
 
--- the same as a fact
+-- is_told as a fact
 pub record IsTold (sites : List Site) (made : List CallMade) (c : Call) : Type 0 where
   pub by : CallMade
   pub is_made : IsIn by made
@@ -32,6 +33,6 @@ pub record IsTold (sites : List Site) (made : List CallMade) (c : Call) : Type 0
   pub at : by.at ≡ c.made_at
   pub nth : is_scripted sites by.site ≡ true → by.nth ≡ c.nth
 
--- of all
+-- each pending call is told
 abbrev pub AreTold : List Site → List CallMade → List Call → Type 0
 AreTold sites made calls = None (λ c. not (is_told sites made c)) calls

@@ -4,14 +4,17 @@ ghost use Rattle.std.specs.Prelude.{◌≡◌};
 
 use std::alloc::AllocError;
 
-/// Why a call is refused; nothing has changed then. The first of these that is a cause: the most tokens and calls (`MOST_TOKENS`), groups
-/// (`MOST_GROUPS`, with the program's own) or left sides of a `>x>` round one token (`MOST_FRAMES`) are reached; the journal has as many entries as
-/// the limit; memory; the claim that is asked last was lost, if the call asks one.
+/// Why a call is refused; nothing has changed then. The first of these that is a cause.
 #[derive(Clone, Copy, Debug, PartialEq, Eq)]
 pub enum LedgerFault {
+    /// There would be over `MOST_TOKENS` tokens and calls, `MOST_GROUPS` groups (with the program's own), or `MOST_FRAMES` left sides of a `>x>`
+    /// around a token.
     Full,
+    /// The journal has as many entries as its limit, cancels not counted.
     Limit,
+    /// Memory was refused.
     Memory,
+    /// The call asks a claim last, and that was lost.
     Unclaimed,
 }
 
@@ -25,21 +28,26 @@ impl From<AllocError> for LedgerFault {
     }
 }
 
-/// Why an answer of a call is refused; nothing has changed then. The first of these that is a cause: no call with this number pends; the table of
-/// sites has another answer for it, or another due time, or none; the journal has as many entries as the limit; memory.
+/// Why an answer of a call is refused; nothing has changed then. The first of these that is a cause.
 #[derive(Clone, Copy, Debug, PartialEq, Eq)]
 pub enum ReturnFault {
+    /// No call with this number pends.
     Gone,
+    /// The table of sites has another answer for it, or another due time, or none.
     Wrong,
+    /// The journal has as many entries as its limit, cancels not counted.
     Limit,
+    /// Memory was refused.
     Memory,
 }
 
-/// Why a group doesn't halt; nothing has changed then. The first of these that is a cause: no open group has this number; it has members; the
-/// entry is refused.
+/// Why a group doesn't halt; nothing has changed then. The first of these that is a cause.
 #[derive(Clone, Copy, Debug, PartialEq, Eq)]
 pub enum HaltFault {
+    /// No open group has this number.
     Gone,
+    /// It has members.
     Live,
+    /// Its entry is refused.
     Refused(LedgerFault),
 }

@@ -1,5 +1,5 @@
-//! What the records of a run spell, what becomes of them, and what that promises of Orc's rules: the definitions and laws on which a ledger stands, without
-//! its code.
+//! What the records of a run describe, what each call does to them, and what that promises of Orc's rules: the definitions and laws on which a ledger
+//! rests, without its code.
 #![tactic(auto)]
 
 mod faults;

@@ -5,20 +5,20 @@ ghost use Rattle.orc_ledger_spec.specs.Passing.{goes};
 
 use orc_rules::value::{Args, Value};
 
-/// What a move of a token has done.
+/// What a move of a token has done. A group that may have no member any more is named, so that its caller can halt it.
 #[derive(Clone, Copy, Debug, PartialEq, Eq)]
 pub enum Moved {
-    /// Another token stands in its slot.
+    /// Another token is in its slot.
     On,
-    /// Another token stands in its slot, and one more in this slot.
+    /// Another token is in its slot, and one more in this slot.
     Forked(usize),
     /// A `>x>` took its value, and a token on the right side stands in its slot. The group that it was in may have no member any more.
     Sent(u32),
     /// It went, out of this group, which may have no member any more.
     Gone(u32),
-    /// The cell has its value, and all inside its right side went. The group round that side is this one, which may have no member any more.
+    /// This cell has its value, and all inside its right side went. The group around the pruning has this number, and may have no member any more.
     Bound(u64, u32),
-    /// It stands at a call of a site with values: nothing has changed.
+    /// It is at a call of a site with values, which is made by another function (`call`): nothing has changed.
     Calls,
     /// It waits for a cell, or for nothing that ever comes: nothing has changed.
     Waits,
@@ -35,7 +35,8 @@ pub enum Called {
     Halted(u32),
 }
 
-/// What has become of a token that goes on: a move, as [`Moved`] says; or it has entered the left side of a `>x>` and made the call at which it stood there.
+/// What has become of a token that moves, or that enters the left side of a `>x>` and makes the call there in one go. Up to `Waits` each is the
+/// [`Moved`] of the same name.
 #[derive(Clone, Copy)]
 pub enum Passed {
     On,
@@ -56,7 +57,7 @@ pub enum Passed {
 }
 
 impl Moved {
-    /// The same of a token that goes on.
+    /// This outcome as a [`Passed`].
     #[inline(always)]
     pub fn passed(self) -> Passed
         ensures { result ≡ goes self }
@@ -86,18 +87,21 @@ pub struct Request {
 /// What has become of a group that halted.
 #[derive(Clone, Copy, Debug, PartialEq, Eq)]
 pub enum Halted {
-    /// The cell has no value; the group round its side has this number, and may have no member any more.
+    /// The cell has become void; the group around its pruning has this number, and may have no member any more.
     Lost(u64, u32),
-    /// A token stands on the right side of the otherwise, in this slot.
+    /// The otherwise starts its right side: a token on it is in this slot.
     Resumed(usize),
-    /// A publication had left the side: its group went without an entry. The group round it has this number, and may have no member any more.
+    /// The otherwise had published: its group went without an entry. The group around the otherwise has this number, and may have no member any more.
     Closed(u32),
 }
 
-/// What comes next: an entry or a group that goes, a tick to that time, or nothing any more.
+/// What comes next in a run.
 #[derive(Clone, Copy, Debug, PartialEq, Eq)]
 pub enum Next {
+    /// Something can be done at this time: a token can move, a group has no members, or a call is due.
     Work,
+    /// A tick to this time, in logical units.
     Ticks(u64),
+    /// Nothing ever.
     Quiet,
 }
