@@ -36,6 +36,7 @@ kind_at ws w = Stood.kind (stood_at ws w)
 abbrev pub owed_at : List Stood → ℕ → Option View
 owed_at ws w = Stood.owed (stood_at ws w)
 
+-- the word isn't free; it is that of a killed group
 abbrev pub takes : Kind → Bool
 takes Free = false
 takes (kind.Open number) = true

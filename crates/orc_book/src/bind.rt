@@ -1,4 +1,5 @@
-//! A cell is bound: what stood inside its right side goes.
+//! A cell is bound: what stood inside its right side goes. A group's word has a bit for *killed*, which one pass at most sets, and so wins: of two
+//! tokens of the group that bind at the same time it picks one.
 ghost use Rattle.std.specs.Prelude.{◌≡◌, ◌≤◌, ◌+◌, ◌⊎◌, ℕ, IfOk, IfErr, IfSome, OnOk, OnErr, vec_len, vec_capacity};
 ghost use Rattle.orc_rules.specs.Timed.{IsIn};
 ghost use Rattle.orc_tables.specs.declared.records.Token.{Token as Its};
@@ -19,7 +20,7 @@ use orc_log::Run;
 use orc_word::{Bit, Groups, Naming, Pass};
 use std::alloc::AllocError;
 
-// How many records there are.
+// How many tokens, pending calls and open groups there are; none where a sum overflows.
 fn count_records<P: Run>(ledger: &Ledger<P>) -> Option<usize>
     ensures { IfSome result (λ count. count ≡ records_in ledger.now) }
 {
@@ -35,6 +36,7 @@ fn reserve_all<P: Run, J: Naming>(
     ensures items { leave.new.items ≡ leave.old.items }
     ensures room { OnOk result (vec_len leave.new + records_in ledger.now + 1 ≤ vec_capacity leave.new) }
 {
+    // No sum overflows: a run has far fewer records. The prover isn't told so, and the call may refuse.
     let Some(count) = count_records(ledger) else {
         return Err(AllocError);
     };
@@ -45,11 +47,11 @@ fn reserve_all<P: Run, J: Naming>(
 }
 
 impl<P: Run + Naming> Book<P> {
-    /// A cell takes what the token publishes: all that stands inside its right side goes. The token's pass has won the mark that its group is killed, and
-    /// is to be left with those of all records that went. Refused as Gone where the token isn't out or the mark was set already, as Wrong where it does something
-    /// else next, as Full, Limit or Memory where the ledger refuses the entry for that or memory is refused. Of a refused token the pass has won the mark only
-    /// where the fault is Memory. `cancelled` is lent: where the bind is Ok it then holds the numbers of the calls that went, in rising order, and else any
-    /// numbers.
+    /// A cell takes what the token publishes: all that stands inside its right side goes. The token's pass has won the mark that its group is killed,
+    /// and is to be left with those of all records that went. Refused as Gone where the token isn't out or the mark was set already, as Wrong where
+    /// it does something else next, as Full, Limit or Memory where the ledger refuses the entry for that or memory is refused. Of a refused token the
+    /// pass has won the mark only where the fault is Memory. `cancelled` is lent: where the bind is Ok it then holds the numbers of the calls that
+    /// went, in rising order, and else any numbers.
     pub fn bind(
         &mut self,
         groups: &Groups<P>,
@@ -77,6 +79,8 @@ impl<P: Run + Naming> Book<P> {
             let why = BookFault::Wrong;
             return Err(Refused { why, back: token });
         };
+        // All refusals that can be foreseen come before the mark, since nothing clears that again: here for one entry, with no token, group or frame
+        // more.
         if let Err(fault) = self.ledger.within(0, 0, 0) {
             return Err(Refused {
                 why: fault_of(fault),
@@ -100,6 +104,7 @@ impl<P: Run + Naming> Book<P> {
                 back: Token { serial, slot, pass },
             });
         }
+        // A law, before the move and behind it: the journal leads to a place that the records spell. Nothing runs.
         stands(&self.ledger);
         match self
             .ledger
@@ -107,6 +112,8 @@ impl<P: Run + Naming> Book<P> {
         {
             Ok(_bound) => {
                 stands(&self.ledger);
+                // What was in the cell's right side has gone from the records. Its words are those of killed groups then, and its passes are to be
+                // left.
                 bury_missing(&self.ledger, &mut self.posts, &mut self.words);
                 settle_all(&self.ledger, &mut self.posts, leave);
                 leave.push_reserved(pass);

@@ -1,4 +1,5 @@
-//! The records of a run, and the passes of those that are not out with a worker.
+//! The book: the records of a run, and the passes of those that are not out with a worker. What a call may assume and must keep of the passes is its
+//! type's invariant, `AreHeld` and `AreNamed` of `specs/`.
 ghost use Rattle.std.specs.Prelude.{◌≡◌, ◌≤◌, true, [], Some, IfOk, IfErr, count_by};
 ghost use Rattle.orc_ledger_spec.specs.Whole.{IsWhole};
 ghost use Rattle.orc_rules.specs.declared.limits.TheConstants.{MOST_ENTRIES};
@@ -23,13 +24,15 @@ use std::marker::Model;
 /// The records of a run, and of each record that is not out with a worker a pass to its group.
 pub struct Book<P: Run + Naming> {
     pub(crate) ledger: Ledger<P>,
-    // For the posts of groups that are opened.
+    // Gives the memory of the posts of groups that are opened.
     pub(crate) alloc: Global,
-    // By the ledger's numbers of groups, up to the highest one that was given.
+    // What the book has of each group, by the ledger's numbers of groups (0 is the program's own) up to the highest one that was given.
     pub(crate) posts: Vec<Post<P>>,
+    // Which group each word counts.
     pub(crate) words: WordTable<P>,
+    // Which tokens are kept here while they wait for a cell.
     pub(crate) keeping: Keeping,
-    // Lent to the ledger's calls.
+    // Three lists that the ledger's calls fill. They stay here so that their memory is used again.
     pub(crate) scopes: Vec<StoredScope>,
     pub(crate) cancelled: Vec<u64>,
     pub(crate) cells: Vec<u64>,
@@ -41,6 +44,7 @@ impl<P: Run + Naming> Model for Book<P> {
 
     ghost Value = { Held };
 
+    // `stands`: by words, what each stands for. `marks`: by slots, the serial of the token that the book keeps there, 0 for none.
     ghost view = { λ b. record { ledger = b.ledger; posts = b.posts.items; stands = b.words.stands; marks = b.keeping } };
 
     ghost invariant = { λ b. AreHeld b.posts.items b.ledger × AreNamed b.ledger b.posts.items b.words.stands };
@@ -70,8 +74,9 @@ impl<P: Run + Naming> Drop for Book<P> {
 }
 
 impl<P: Run + Naming> Book<P> {
-    /// A new run, whose words are as many as are said: token 1 is out, at the program's main term, with this pass, which names group 0. The journal is to have
-    /// at most `limit` entries beside the cancels, and is held where the run `keeps` it. The only fault is `Memory`.
+    /// A new run, over `words` words for its groups: token 1 is out, at the program's main term, with `pass`, which names group 0. The journal is to
+    /// have at most `limit` entries (1 to `MOST_ENTRIES`, the cancels left out); it is kept where the run `keeps` it, and else only counted. The only
+    /// fault is Memory, where memory was refused; `back` is the pass.
     pub fn new(
         alloc: Global,
         inputs: &Inputs<'_, P>,
@@ -110,6 +115,7 @@ impl<P: Run + Naming> Book<P> {
                 back: pass,
             });
         };
+        // Of group 0 one token is out.
         set_out(&mut posts, 0, 1);
         let book = Book {
             ledger,
@@ -125,18 +131,19 @@ impl<P: Run + Naming> Book<P> {
         Ok((book, token))
     }
 
-    /// The journal of the run, which is kept, and nothing else of the book.
+    /// The journal of the run, of which `P` says that it is kept. The rest of the book is dropped, passes too: their words count them for good.
     pub fn into_journal(self) -> Journal
         requires keeps { P.keeps ≡ true }
         ensures entries { result.entries ≡ self.ledger.journal }
         ensures whole { IsWhole P.listing P.sites self.ledger }
     {
         let ledger = self.into_ledger();
+        // A law: it shows the prover the clause *whole*. Nothing runs.
         ledger.is_whole();
         ledger.into_journal()
     }
 
-    /// The records of the run, and nothing else of the book.
+    /// The records of the run. The rest of the book is dropped, passes too: their words count them for good.
     pub fn into_ledger(self) -> Ledger<P>
         ensures { result ≡ self.ledger }
     {
@@ -159,7 +166,7 @@ impl<P: Run + Naming> Book<P> {
         ledger
     }
 
-    /// How many killed groups' words are still taken.
+    /// How many words stand for killed groups: each does until its last pass is left and `halt` is told so.
     pub fn dying(&self) -> usize
         ensures { result ≡ count_by is_dying self.now.stands }
     {

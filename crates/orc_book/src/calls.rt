@@ -32,8 +32,9 @@ pub enum Answered<P: Naming> {
 }
 
 impl<P: Run + Naming> Book<P> {
-    /// A call of a site with values: it pends where the token was, and the book holds its pass. Gives its number. `args` is lent for the arguments.
-    /// Refused as Gone where the token isn't out, as Wrong where it does something else next, as Full or Limit where the entry is over one, else as Memory.
+    /// A call of a site with values: it pends where the token was, and the book holds its pass. Gives its number, from 1. `args` is lent: the call's
+    /// arguments stand in it then, and what it held is lost. Refused as Gone where the token isn't out, as Wrong where it does something else next,
+    /// as Full or Limit where the entry is over one, else as Memory.
     pub fn call(
         &mut self,
         inputs: &Inputs<'_, P>,
@@ -65,9 +66,11 @@ impl<P: Run + Naming> Book<P> {
                 back: token,
             });
         }
+        // A law: it shows the prover that the journal leads to a place that the records spell. Nothing runs.
         stands(&self.ledger);
         match self.ledger.call(inputs, token.slot, found.its, args) {
             Ok(call) => {
+                // The token was out, so `found.out` is 1 at least.
                 bring_at(&mut self.posts, found.group, found.out - 1, token.pass);
                 Ok(call.number)
             }
@@ -80,9 +83,9 @@ impl<P: Run + Naming> Book<P> {
 }
 
 impl<P: Run + Naming> Book<P> {
-    /// A call that pends is answered, where the table of sites gives this answer and it is due now. With a value a token on it is out, with the call's pass;
-    /// else that is to be left. Refused as Gone where no call pends with the number, as Wrong where the answer isn't due now, as Limit where the journal has as
-    /// many entries as the limit, else as Memory.
+    /// A call that pends is answered, where the table of sites gives this answer and it is due now. With a value a token on it is out, with the
+    /// call's pass; else that is to be left. Refused as Gone where no call pends with the number, as Wrong where the answer isn't due now, as Limit
+    /// where the journal has as many entries as the limit, else as Memory.
     pub fn returned(&mut self, number: u64, answer: Answer) -> Result<Answered<P>, BookFault>
         ensures done { IfOk result (λ a. (c : ItsCall) × Pends self.old.ledger number c × IsAnswered self.old c answer a self.new) }
         ensures stands { KeepsWords self.old self.new }
@@ -95,10 +98,13 @@ impl<P: Run + Naming> Book<P> {
         };
         let group = self.ledger.group_of_call(&call);
         let out = out_in(&self.posts, group);
+        // The same law.
         stands(&self.ledger);
         match self.ledger.returned(number, answer) {
             Ok(Some(slot)) => {
+                // No more tokens are out than there are, and their number is a `usize`: so one more doesn't overflow.
                 let _tokens = self.ledger.token_count();
+                // The book holds a pass for each pending call.
                 let Some(pass) = send_at(&mut self.posts, group, out + 1) else {
                     unreachable!()
                 };

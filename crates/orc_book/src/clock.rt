@@ -1,4 +1,4 @@
-//! What comes next where no token is out that moves.
+//! What comes next of a run, asked once no worker has a token that can move; and the tick, if it is one.
 ghost use Rattle.std.specs.Prelude.{◌≡◌, ◌+◌, ◌++◌, ◌∷◌, [], IfOk, IfErr, OnOk, OnErr};
 ghost use Rattle.orc_rules.specs.declared.entry.Entry.TheVariants.{Tick};
 ghost use Rattle.orc_ledger_spec.specs.Answers.{MayTick};
@@ -15,7 +15,7 @@ use orc_word::Naming;
 /// What comes next of a run.
 #[derive(Clone, Copy)]
 pub enum Next {
-    /// A token moves, a group ends, or a call is due.
+    /// Something else comes before time goes on: a token can move, a group can end, or a call is due.
     Work,
     /// Only time could go on, and it has: a call is due now.
     Ticked,
@@ -34,6 +34,7 @@ impl<P: Run + Naming> Book<P> {
         ensures why { IfErr result (λ why. IsRefusedNext P.listing self.old.ledger why) }
     {
         let next = self.ledger.next(inputs);
+        // A law: the prover needs what the journal is for the clause *says*. Nothing runs.
         self.ledger.is_whole();
         match next {
             Comes::Work => Ok(Next::Work),
@@ -45,7 +46,7 @@ impl<P: Run + Naming> Book<P> {
         }
     }
 
-    // Time goes on.
+    // Time goes on to `time`, of which the ledger's `next` has said that a tick may set it.
     fn tick(&mut self, time: u64) -> Result<(), BookFault>
         requires { MayTick P.listing P.sites self.old.ledger time }
         ensures done { OnOk result (self.new.ledger ≡ record self.old.ledger { journal = self.old.ledger.journal ++ Tick time ∷ []; entries = self.old.ledger.entries + 1; now = time }) }

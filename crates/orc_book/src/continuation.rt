@@ -1,4 +1,4 @@
-//! Tokens that go on in their group.
+//! Tokens that go on in their group, with their pass: into the left side of a `>x>` or the body of a definition.
 ghost use Rattle.std.specs.Prelude.{◌≡◌, ◌⊎◌, ℕ, List, IfOk, IfErr};
 ghost use Rattle.orc_tables.specs.declared.records.Token.{Token as Its};
 ghost use Rattle.orc_ledger_spec.specs.Moves.{Moves};
@@ -14,9 +14,9 @@ use orc_log::Run;
 use orc_word::Naming;
 
 impl<P: Run + Naming> Book<P> {
-    /// A token at `f >x> g` or at a call of a definition: one on the left side, or on the body, is out in its place with its pass. Refused as Gone where
-    /// the token isn't out, as Wrong where it does something else next, or the call's operands don't fit, which no checked program has, and as Full, Limit or
-    /// Memory where the ledger refuses the entry for that.
+    /// A token at `f >x> g` or at a call of a definition: one on the left side, or on the body, is out in its place with its pass. Refused as Gone
+    /// where the token isn't out, as Wrong where it does something else next, or the call's operands don't fit, which no checked program has, and as
+    /// Full, Limit or Memory where the ledger refuses the entry for that.
     pub fn go_on(
         &mut self,
         inputs: &Inputs<'_, P>,
@@ -43,7 +43,7 @@ impl<P: Run + Naming> Book<P> {
         }
     }
 
-    // The same of a token that was found, and goes on.
+    // What `go_on` does, of a token that was looked up and is at a `>x>` or a call of a definition. `step` calls it too.
     #[inline(always)]
     pub(crate) fn go_on_found(
         &mut self,
@@ -61,6 +61,7 @@ impl<P: Run + Naming> Book<P> {
         ensures refused { IfErr result (λ r. (self.new ≡ self.old) × (r.back ≡ token)) }
         ensures why { IfErr result (λ r. IsRefusedOn P.listing self.old token r.why) }
     {
+        // A law: it shows the prover that the journal leads to a place that the records spell. Nothing runs.
         stands(&self.ledger);
         match self.ledger.advance(
             inputs,
@@ -70,11 +71,13 @@ impl<P: Run + Naming> Book<P> {
             &mut self.cancelled,
         ) {
             Ok(Moved::On) => {
+                // A token is in the slot still, as `born` asks.
                 let Some(_its) = self.ledger.held(token.slot) else {
                     unreachable!()
                 };
                 Ok(self.born(token.slot, token.pass))
             }
+            // The ledger leaves a token as it is whose call has operands that don't fit.
             Ok(_) => Err(Refused {
                 why: BookFault::Wrong,
                 back: token,

@@ -1,4 +1,4 @@
-//! Groups that were left last.
+//! The end of a group: somebody has left the last pass to it, and so nobody is in it.
 ghost use Rattle.std.specs.Prelude.{◌≡◌, ◌≤◌, ◌+◌, ◌⊎◌, ℕ, IfOk, IfErr, OnOk, OnErr, None, Some};
 ghost use Rattle.orc_rules.specs.Nodes.{code};
 ghost use Rattle.orc_rules.specs.Term.{Halted as HasStopped};
@@ -24,20 +24,20 @@ use orc_word::{Last, Naming, Pass};
 /// What has become of a group that was left last.
 #[derive(Drop)]
 pub enum Ended<P: Naming> {
-    /// It was the program's own: the run has halted.
+    /// It was the program's own, and the program's term has halted.
     Run,
     /// It was the left side of an otherwise: a token on the right side is out.
     Token(Token<P>),
     /// It was the right side of this cell, which will never have a value: `wake` is to be told.
     Lost(u64),
-    /// It is gone.
+    /// It is gone, and nothing follows: it was killed, or it was the left side of an otherwise that has published.
     Group,
 }
 
 impl<P: Run + Naming> Book<P> {
-    /// A group that was left last is closed. Its word is free again, and its pass to the group round it is to be left, if it had one. Refused as Gone where the
-    /// word stands for no group that is there, as Live where somebody is in that still, as Full or Limit where the ledger refuses the entry for that, else as
-    /// Memory.
+    /// A group that was left last is closed. Its word is free again, and its pass to the group round it is to be left, if it had one. Refused as Gone
+    /// where the word stands for no group that is there, as Live where somebody is in that still, as Full or Limit where the ledger refuses the entry
+    /// for that, else as Memory.
     pub fn halt(
         &mut self,
         last: Last<P>,
@@ -59,6 +59,7 @@ impl<P: Run + Naming> Book<P> {
                 why: BookFault::Gone,
                 back: last,
             }),
+            // A killed group has left the records with the bind, so the ledger isn't asked.
             Kind::Dying => {
                 if leave.try_reserve(1).is_err() {
                     return Err(Refused {
@@ -88,8 +89,8 @@ impl<P: Run + Naming> Book<P> {
         }
     }
 
-    // The group with this number, in which nobody is, ends, and its word is free again. Where it was the left side of an otherwise that no publication has
-    // left, a token stands on the right side, and is out. Else the group's pass to the one round it is to be left.
+    // The group with this number, in which nobody is, ends, and its word is free again. Where it was the left side of an otherwise that no
+    // publication has left, a token stands on the right side, and is out. Else the group's pass to the one round it is to be left.
     fn halt_group(
         &mut self,
         number: u32,
@@ -111,10 +112,12 @@ impl<P: Run + Naming> Book<P> {
         if leave.try_reserve(1).is_err() {
             return Err(BookFault::Memory);
         }
+        // A law: it shows the prover that the journal leads to a place that the records spell. Nothing runs.
         stands(&self.ledger);
         match self.ledger.halt(number) {
             Ok(Halted::Lost(cell, parent)) => {
                 self.words.close(word);
+                // The group was a member of the one that encloses it, so the book holds a pass to that.
                 let Some(pass) = take_at(&mut self.posts, parent) else {
                     unreachable!()
                 };
@@ -136,7 +139,9 @@ impl<P: Run + Naming> Book<P> {
                 };
                 let group = self.ledger.group_of_token(&its);
                 let out = out_in(&self.posts, group);
+                // No more tokens are out than there are, and their number is a `usize`: so one more doesn't overflow.
                 let _tokens = self.ledger.token_count();
+                // The pass of the group that has ended is the new token's.
                 let Some(pass) = send_at(&mut self.posts, group, out + 1) else {
                     unreachable!()
                 };

@@ -1,26 +1,26 @@
-//! Tokens that are kept while they wait for cells.
+//! Tokens that are kept while they wait for cells. The serial that a slot has here is the mark of the token that is kept there.
 ghost use Rattle.std.specs.Prelude.{◌≡◌, ◌<◌, ◌≤◌, ℕ, [], length, true, false, OnOk, OnErr};
 ghost use Rattle.orc_book.specs.Held.{IsMarked, mark_at};
 
 use std::alloc::{AllocError, Global};
 use std::marker::Model;
 
-/// A token by its slot and its serial.
+/// A token by its slot and its serial, which begins with 1: a slot is used again, a serial never.
 #[derive(Clone, Copy)]
 pub(crate) struct Handle {
     pub slot: usize,
     pub serial: u64,
 }
 
-// A token that waits for a cell, and the place of the next one that does, from 1; 0 for none.
+// A token that waits for a cell, and the place of the next one that does. Places count from 1 in `links`; 0 is none.
 #[derive(Clone, Copy)]
 struct Link {
     handle: Handle,
     next: u32,
 }
 
-/// Which tokens are kept, and a chain of those that wait for each cell. They are hints: a token may stand in several chains, and one that is out or gone
-/// may stand there still.
+/// Which tokens are kept, and a chain of those that wait for each cell. They are hints: a token may stand in several chains, and one that is out or
+/// gone may stand there still.
 #[derive(Drop)]
 pub(crate) struct Keeping {
     // The serial of the token that is kept in each slot; 0 for none.
@@ -28,7 +28,7 @@ pub(crate) struct Keeping {
     // The place of the first link of each cell, from 1.
     heads: Vec<u32>,
     links: Vec<Link>,
-    // The place of the first link that is free.
+    // The place of the first link that is free; the free ones are a chain too.
     free: u32,
 }
 
@@ -41,6 +41,7 @@ impl Model for Keeping {
 }
 
 impl Keeping {
+    /// No token is kept.
     pub(crate) fn new(alloc: Global) -> Keeping
         ensures { result ≡ [] }
     {
@@ -57,6 +58,7 @@ impl Keeping {
         self.links.len()
     }
 
+    // The link with this place.
     fn link_at(&self, place: u32) -> Option<Link> {
         if place == 0 {
             return None;
@@ -64,6 +66,7 @@ impl Keeping {
         self.links.get((place - 1) as usize).copied()
     }
 
+    // The place of a cell's first link; 0 where no token has ever waited for it.
     fn head_at(&self, cell: usize) -> u32 {
         match self.heads.get(cell) {
             Some(head) => *head,
@@ -71,7 +74,7 @@ impl Keeping {
         }
     }
 
-    // Puts a link where one is free, else behind the others. Gives its place.
+    // Puts a link where one is free, else behind the others. Gives its place, or refuses where the next one has no 32 bits.
     fn put(&mut self, link: Link) -> Result<u32, AllocError>
         ensures { self.new ≡ self.old }
     {
@@ -91,7 +94,7 @@ impl Keeping {
         Ok(place as u32)
     }
 
-    // A token waits for a cell.
+    // A token waits for a cell: it comes first in the cell's chain.
     fn add(&mut self, cell: u64, handle: Handle) -> Result<(), AllocError>
         ensures { self.new ≡ self.old }
     {
@@ -110,7 +113,7 @@ impl Keeping {
         Ok(())
     }
 
-    // There is a mark for this slot.
+    // Makes `kept` long enough for this slot. Slots that it adds keep no token.
     fn reach(&mut self, slot: usize) -> Result<(), AllocError>
         ensures same { (i : ℕ) → mark_at self.new i ≡ mark_at self.old i }
         ensures there { OnOk result (slot < length self.new) }
@@ -133,6 +136,7 @@ impl Keeping {
         for cell in cells {
             self.add(*cell, handle)?;
         }
+        // Only this makes the token a kept one. Links that were added before a refusal stay, and do no harm.
         self.reach(handle.slot)?;
         let Some(kept) = self.kept.get_mut(handle.slot) else {
             unreachable!()
@@ -151,7 +155,7 @@ impl Keeping {
         }
     }
 
-    /// A token that waits for this cell, and does so no more.
+    /// Takes the first token out of the chain of this cell, or none. `release` tells whether it is kept still.
     pub(crate) fn pop(&mut self, cell: u64) -> Option<Handle>
         ensures { self.new ≡ self.old }
     {
@@ -168,7 +172,7 @@ impl Keeping {
         Some(link.handle)
     }
 
-    /// A token is kept no more. Whether it was.
+    /// If this token is kept in its slot, it is no more. Gives whether it was.
     pub(crate) fn release(&mut self, handle: Handle) -> bool
         ensures kept { result ≡ true → (mark_at self.old handle.slot ≡ handle.serial) × IsMarked self.old handle.slot 0 self.new }
         ensures other { result ≡ false → self.new ≡ self.old }

@@ -1,4 +1,8 @@
 //! A book: the records of a run, and the passes of those that are not out with a worker.
+//!
+//! A *group* is what runs in one right side of a `<x<` or in one left side of a `;`, or the program as a whole. Its members are its tokens, its
+//! pending calls and the groups right inside it. The group's *word*, an atomic counter of `orc_word`, counts *passes*: one for each member. Of a
+//! token that is *out* a worker holds the pass; of every other record the book does. Who leaves the last pass of a group closes it (`halt`).
 #![tactic(auto)]
 
 mod bind;

@@ -1,4 +1,4 @@
-//! What a book answers without a move.
+//! What a book answers without a move, and laws of every book.
 ghost use Rattle.std.specs.Prelude.{◌≡◌, ◌≤◌, ℕ, All, Some, true, IfSome, IfNone, MatchOption};
 ghost use Rattle.orc_word.specs.Views.{group_of};
 ghost use Rattle.orc_rules.specs.Timed.{IsIn};
@@ -61,6 +61,7 @@ impl<P: Run + Naming> Book<P> {
         ensures there { IfSome result (λ v. (t : Its) × IsHeld self.now.ledger.slots slot t × (t.serial ≡ serial) × (v.what ≡ what_of (code P.listing) (definitions P.listing) self.now.ledger t) × (v.word ≡ word_at self.now.posts (group_at self.now.ledger.steps t.step)) × (v.needs ≡ needs_of v.what)) }
         ensures gone { IfNone result ((t : Its) → IsHeld self.now.ledger.slots slot t → t.serial ≡ serial → ⊥) }
     {
+        // No token has serial 0, and the ledger isn't to be asked for it.
         if serial < 1 {
             return None;
         }
@@ -74,12 +75,13 @@ impl<P: Run + Naming> Book<P> {
         })
     }
 
-    /// The passes fit the records, as a law: each token is kept or out, and of each other record of a group the book holds one pass to that group. Each group
-    /// has a word of its own: it stands for that group, and no other word does.
+    /// The passes fit the records, as a law: each token is kept or out, and of each other record of a group the book holds one pass to that group.
+    /// Each group has a word of its own: it stands for that group, and no other word does.
     pub fn holds(&self)
         ensures passes { AreHeld self.now.posts self.now.ledger }
         ensures words { AreNamed self.now.ledger self.now.posts self.now.stands }
     {
+        // A field that is read shows the prover the type's invariant, which is these clauses.
         let _posts = &self.posts;
     }
 
@@ -92,13 +94,14 @@ impl<P: Run + Naming> Book<P> {
         }
     }
 
-    /// The journal is a timed run of Orc's rules, as a law: it leads from the program's term to a place that the records spell, and nothing is lost of how it may
-    /// go on.
+    /// The journal is a timed run of Orc's rules, as a law: it leads from the program's term to a place that the records spell, and nothing is lost
+    /// of how it may go on.
     pub fn is_run(&self)
         ensures whole { IsWhole P.listing P.sites self.now.ledger }
         ensures spelt { Stands P.listing P.sites self.now.ledger }
         ensures offered { NothingIsLost P.listing P.sites self.now.ledger }
     {
+        // The ledger's own laws, one for each clause. Nothing runs.
         self.ledger.is_whole();
         stands(&self.ledger);
         offered(&self.ledger);
@@ -118,14 +121,16 @@ impl<P: Run + Naming> Book<P> {
         self.ledger.time()
     }
 
-    /// What the call that pends with this number asks. A book that doesn't keep its journal may know it no more.
+    /// What the call that pends with this number asks: its site and its arguments. None where no such call pends, and perhaps where the journal isn't
+    /// kept.
     pub fn request(&self, number: u64) -> Option<Request>
         ensures { MatchOption result (P.keeps ≡ true → weight (has_number number) self.now.ledger.calls ≡ 0) (IsAsked P.listing P.sites self.now.ledger number) }
     {
         self.ledger.request(number)
     }
 
-    /// The call with the least number of those that are due now, and the answer that the table of sites gives. Where there is none no call is overdue either.
+    /// The call with the least number of those that are due now, and the answer that the table of sites gives. Where there is none no call is overdue
+    /// either.
     pub fn due(&mut self) -> Option<(Call, Answer)>
         ensures due { MatchOption result ((c : ItsCall) (t : ℕ) → IsIn c self.old.ledger.calls → due_of c ≡ Some t → t ≤ self.old.ledger.now → ⊥) (λ d. Pends self.old.ledger d.0.number d.0 × IsDueNow P.listing P.sites self.old.ledger d.0.number d.1 × IsLeastBeyond self.old.ledger.calls 0 self.old.ledger.now d.0.number) }
         ensures same { self.new ≡ self.old }
@@ -133,7 +138,7 @@ impl<P: Run + Naming> Book<P> {
         self.ledger.due()
     }
 
-    /// The least number over this one of a pending call that is due now.
+    /// The least number over this one of a pending call that is due now; none where there is none.
     pub fn due_beyond(&mut self, number: u64) -> Option<u64>
         ensures due { MatchOption result ((k : ℕ) → IsDueBeyond self.old.ledger.calls number self.old.ledger.now k → ⊥) (IsLeastBeyond self.old.ledger.calls number self.old.ledger.now) }
         ensures same { self.new ≡ self.old }

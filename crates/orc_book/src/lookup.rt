@@ -20,13 +20,14 @@ pub(crate) struct Found {
 }
 
 impl<P: Run + Naming> Book<P> {
-    /// A token that may be out: its record is there, its pass names its group's word, the book doesn't keep it, and some token of the group is out. The fault
-    /// is Gone.
+    /// A token that may be out: its record is there, its pass names its group's word, the book doesn't keep it, and some token of the group is out.
+    /// The fault is Gone.
     #[inline(always)]
     pub(crate) fn find(&self, inputs: &Inputs<'_, P>, token: &Token<P>) -> Result<Found, BookFault>
         ensures found { IfOk result (HasFound P.listing self.now token.now) }
         ensures why { IfErr result (λ why. (why ≡ BookFault.Gone) × IsGone self.now token.now.slot token.now.serial token.now.pass) }
     {
+        // No token has serial 0: in `keeping` it means that none is kept in the slot.
         if token.serial < 1 {
             return Err(BookFault::Gone);
         }

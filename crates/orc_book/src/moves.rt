@@ -1,4 +1,4 @@
-//! Moves of tokens that are out.
+//! Moves of tokens that are out, within their group: a token ends, forks, or publishes for the program.
 ghost use Rattle.std.specs.Prelude.{◌≡◌, ◌⊎◌, ℕ, List, Some, IfOk, IfErr, OnOk};
 ghost use Rattle.orc_tables.specs.declared.records.Token.{Token as Its};
 ghost use Rattle.orc_ledger_spec.specs.Moves.{Moves, IsHindered};
@@ -19,8 +19,8 @@ use orc_log::Run;
 use orc_word::{Naming, Pass};
 
 impl<P: Run + Naming> Book<P> {
-    /// A token that ends, at `stop` or where it is void. Its pass is to be left. Refused as Gone where the token isn't out, as Wrong where it does something
-    /// else next, as Full, Limit or Memory where the ledger refuses the entry for that.
+    /// A token that ends, at `stop` or where it is void. Its pass is to be left. Refused as Gone where the token isn't out, as Wrong where it does
+    /// something else next, as Full, Limit or Memory where the ledger refuses the entry for that.
     pub fn end(
         &mut self,
         inputs: &Inputs<'_, P>,
@@ -46,7 +46,7 @@ impl<P: Run + Naming> Book<P> {
         }
     }
 
-    // The same of a token that was found, and ends.
+    // What `end` does, of a token that was looked up and is at `stop` or void. `step` calls it too.
     #[inline(always)]
     pub(crate) fn end_found(
         &mut self,
@@ -72,6 +72,7 @@ impl<P: Run + Naming> Book<P> {
             &mut self.cancelled,
         ) {
             Ok(_gone) => {
+                // The token was out, so `found.out` is 1 at least.
                 set_out(&mut self.posts, found.group, found.out - 1);
                 Ok(token.pass)
             }
@@ -100,9 +101,9 @@ impl<P: Run + Naming> Book<P> {
         }
     }
 
-    /// A token at `f | g`: one on each side is out in its place, the left one with its pass, the right one with `same`, which names its group too. Refused as
-    /// Gone where the token isn't out, as Wrong where it does something else next, as Full where the tokens and calls are as many as there may be, as Limit or
-    /// Memory where the ledger refuses the entry for that.
+    /// A token at `f | g`: one on each side is out in its place, the left one with its pass, the right one with `same`, which names its group too.
+    /// Refused as Gone where the token isn't out, as Wrong where it does something else next, as Full where the tokens and calls are as many as there
+    /// may be, as Limit or Memory where the ledger refuses the entry for that.
     pub fn fork(
         &mut self,
         inputs: &Inputs<'_, P>,
@@ -135,7 +136,7 @@ impl<P: Run + Naming> Book<P> {
         }
     }
 
-    // The same of a token that was found, and forks.
+    // What `fork` does, of a token that was looked up and is at `f | g`. `step` calls it too.
     #[inline(always)]
     pub(crate) fn fork_found(
         &mut self,
@@ -164,7 +165,7 @@ impl<P: Run + Naming> Book<P> {
             &mut self.cancelled,
         ) {
             Ok(Moved::Forked(other)) => {
-                // No more tokens are out than there are.
+                // No more tokens are out than there are, and their number is a `usize`: so one more doesn't overflow.
                 let _tokens = self.ledger.token_count();
                 set_out(&mut self.posts, found.group, found.out + 1);
                 let one = self.born(token.slot, token.pass);
@@ -181,8 +182,8 @@ impl<P: Run + Naming> Book<P> {
 }
 
 impl<P: Run + Naming> Book<P> {
-    /// A publication of the program. The token's pass is to be left. Refused as Gone where the token isn't out, as Wrong where it does something else next, as
-    /// Full, Limit or Memory where the ledger refuses the entry for that.
+    /// A publication of the program. The token's pass is to be left. Refused as Gone where the token isn't out, as Wrong where it does something else
+    /// next, as Full, Limit or Memory where the ledger refuses the entry for that.
     pub fn publish(
         &mut self,
         inputs: &Inputs<'_, P>,

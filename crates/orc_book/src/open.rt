@@ -1,4 +1,5 @@
-//! Groups that are opened: the right side of a pruning, and the left side of an otherwise.
+//! Groups that are opened: the right side of a pruning, and the left side of an otherwise. Each gets a word that is free in the book, which an idle
+//! pass opens. The new group is a member of the token's, for which the book holds a pass to that.
 ghost use Rattle.std.specs.Prelude.{◌≡◌, ◌≤◌, ◌+◌, ◌<◌, ℕ, List, length, true, Some, None, IfOk, OnOk, IfErr};
 ghost use Rattle.orc_tables.specs.declared.records.Token.{Token as Its};
 ghost use Rattle.orc_ledger_spec.specs.Moves.{Moves};
@@ -17,7 +18,7 @@ use orc_ledger::{Action, Inputs, Moved, stands};
 use orc_log::Run;
 use orc_word::{Groups, Naming, Pass};
 
-/// A word that is free, and the pass that opened it.
+/// A word that was free, and the pass that opened it and names it.
 #[derive(Drop)]
 struct Opened<P: Naming> {
     word: u32,
@@ -51,9 +52,10 @@ fn open_word<P: Naming>(
 }
 
 impl<P: Run + Naming> Book<P> {
-    /// A token at `f <x< g`: one on each side is out in its place, the left one with its pass, the right one with `idle`, which opens the new group's word.
-    /// The book holds `same` for that group, which names the token's. Refused as Gone where the token isn't out, as Wrong where it does something else next, as
-    /// Full or Limit where the ledger is at one, as Full too where no word is free, as Live where the free word is still named, else as Memory.
+    /// A token at `f <x< g`: one on each side is out in its place, the left one with its pass, the right one with `idle`, which opens the new group's
+    /// word. The book holds `same` for that group, which names the token's. Refused as Gone where the token isn't out, as Wrong where it does
+    /// something else next, as Full or Limit where the ledger is at one, as Full too where no word is free, as Live where the free word is still
+    /// named, else as Memory.
     pub fn prune(
         &mut self,
         groups: &Groups<P>,
@@ -88,7 +90,7 @@ impl<P: Run + Naming> Book<P> {
         }
     }
 
-    // The same of a token that was found, and opens a pruning.
+    // What `prune` does, of a token that was looked up and is at `f <x< g`. `step` calls it too.
     pub(crate) fn prune_found(
         &mut self,
         groups: &Groups<P>,
@@ -109,6 +111,8 @@ impl<P: Run + Naming> Book<P> {
         ensures refused { IfErr result (λ r. HasStayed self.old self.new × (r.back.0 ≡ token) × (r.back.1 ≡ same) × (group_of r.back.2 ≡ None)) }
         ensures why { IfErr result (λ r. IsRefusedOpening P.listing self.old token P.table.words is_prune r.why) }
     {
+        // Room in the ledger for an entry, a token and a group. Each refusal comes before the word is opened, but for memory that the move is
+        // refused.
         if let Err(fault) = self.ledger.within(1, 1, 0) {
             let back = (token, same, idle);
             return Err(Refused {
@@ -165,8 +169,8 @@ impl<P: Run + Naming> Book<P> {
         }
     }
 
-    /// A token at `f ; g`: one on the left side is out in its place, with `idle`, which opens the new group's word. The book holds the token's pass for that
-    /// group. Refused for the causes for which `prune` is.
+    /// A token at `f ; g`: one on the left side is out in its place, with `idle`, which opens the new group's word. The book holds the token's pass
+    /// for that group. Refused for the causes for which `prune` is.
     pub fn other(
         &mut self,
         groups: &Groups<P>,
@@ -199,7 +203,7 @@ impl<P: Run + Naming> Book<P> {
         }
     }
 
-    // The same of a token that was found, and enters an otherwise.
+    // What `other` does, of a token that was looked up and is at `f ; g`. `step` calls it too.
     pub(crate) fn other_found(
         &mut self,
         groups: &Groups<P>,
@@ -218,6 +222,7 @@ impl<P: Run + Naming> Book<P> {
         ensures refused { IfErr result (λ r. HasStayed self.old self.new × (r.back.0 ≡ token) × (group_of r.back.1 ≡ None)) }
         ensures why { IfErr result (λ r. IsRefusedOpening P.listing self.old token P.table.words is_other r.why) }
     {
+        // Room in the ledger for an entry and a group, as for a pruning.
         if let Err(fault) = self.ledger.within(0, 1, 0) {
             let back = (token, idle);
             return Err(Refused {
@@ -256,6 +261,7 @@ impl<P: Run + Naming> Book<P> {
                 };
                 let number = self.ledger.group_of_token(&inner);
                 grow_to(self.alloc, &mut self.posts, number);
+                // The token leaves its group, and its pass stays there for the new group.
                 bring_at(&mut self.posts, found.group, found.out - 1, token.pass);
                 raise_at(&mut self.posts, number, opened.word, found.group);
                 self.words.open(number);

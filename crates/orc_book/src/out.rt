@@ -16,7 +16,7 @@ pub struct Births<P: Naming> {
     pub idle: Vec<Pass<P>>,
 }
 
-/// What comes out of a book's calls; they add to it.
+/// Lists to which a book's calls add what comes out of them.
 pub struct StepOut<P: Naming> {
     /// Tokens that are out now, to be moved.
     pub born: Vec<Token<P>>,
@@ -51,7 +51,7 @@ impl<P: Naming> Births<P> {
         }
     }
 
-    // The last pass to the same group, if it names this one.
+    // Takes the last pass of `same`, if it names this group.
     pub(crate) fn take_same(&mut self, group: Option<u32>) -> Option<Pass<P>>
         ensures pass { MatchOption result (self.new ≡ self.old) (λ pass. (group_of pass ≡ group) × (self.old.same.items ≡ self.new.same.items ++ pass ∷ [])) }
         ensures room { MatchOption result (self.new ≡ self.old) (λ _. vec_len self.new.same + 1 ≤ vec_capacity self.new.same) }
@@ -64,7 +64,7 @@ impl<P: Naming> Births<P> {
         }
     }
 
-    // The last idle pass.
+    // Takes the last pass of `idle`, if it names no group.
     pub(crate) fn take_idle(&mut self) -> Option<Pass<P>>
         ensures pass { MatchOption result (self.new ≡ self.old) (λ pass. (group_of pass ≡ None) × (self.old.idle.items ≡ self.new.idle.items ++ pass ∷ [])) }
         ensures room { MatchOption result (self.new ≡ self.old) (λ _. vec_len self.new.idle + 1 ≤ vec_capacity self.new.idle) }

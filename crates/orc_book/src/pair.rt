@@ -1,4 +1,4 @@
-//! Two workers with one book under a lock.
+//! An example of a caller: two workers with one book under a lock.
 
 ghost use Rattle.std.specs.Prelude.{◌≡◌};
 
@@ -11,7 +11,7 @@ use std::alloc::Global;
 use std::sync::{Mutex, Wait};
 use std::thread::{Threads, join};
 
-// Leaves a pass outside the lock. The last one who does closes the group.
+// Leaves a pass, if it names a group, without the lock. The last one who does closes the group, and adds to `more`. Whether a group was closed.
 fn leave_one<P: Run + Naming, R: Wait>(
     rt: &R,
     groups: &Groups<P>,
@@ -29,6 +29,7 @@ fn leave_one<P: Run + Naming, R: Wait>(
     }
 }
 
+// Closes the group whose last pass was left. Its pass to the group that encloses it is added to `more`.
 fn close<P: Run + Naming, R: Wait>(
     rt: &R,
     book: &Mutex<Book<P>>,
@@ -53,6 +54,7 @@ fn bind_one<P: Run + Naming, R: Wait>(
         .lock(rt)
         .bind(groups, inputs, token, &mut leave, &mut cancelled)
         .is_ok();
+    // The passes of `more` are dropped here, so enclosing groups count them for good. A worker that goes on would leave them too.
     let mut more = Vec::new(alloc);
     while let Some(pass) = leave.pop() {
         let _closed = leave_one(rt, groups, book, pass, &mut more);
@@ -60,7 +62,7 @@ fn bind_one<P: Run + Naming, R: Wait>(
     bound
 }
 
-/// Two tokens of one group bind at the same time: which of them did.
+/// Two tokens of one group bind at the same time, on two threads. Gives for each whether it did; the contract says nothing of the answers.
 pub fn two_binds<P, R>(
     rt: &R,
     alloc: Global,

@@ -1,4 +1,5 @@
-//! What a book has of a group.
+//! Posts: a post is what a book has of one group, namely its passes and how many of its tokens are kept and are out. The functions behind the type do
+//! to the post of the group with a number what its methods do. One without a post has no passes and no tokens.
 ghost use Rattle.std.specs.Prelude.{◌≡◌, ◌+◌, ◌-◌, ◌<◌, ◌≤◌, ◌^◌, ◌∷◌, ◌++◌, [], Some, None, true, false, length, vec_len, vec_capacity, All, IfOk, OnOk, MatchOption, MatchResult};
 ghost use Rattle.orc_indexes.specs.Same.{weight};
 ghost use Rattle.orc_word.specs.Views.{group_of};
@@ -15,8 +16,9 @@ use std::marker::Model;
 #[derive(Drop)]
 pub(crate) struct Post<J: Naming> {
     word: u32,
-    // The ledger's number of the group round it.
+    // The ledger's number of the group that encloses it.
     parent: u32,
+    // Each names this group's word.
     passes: Vec<Pass<J>>,
     kept: usize,
     out: usize,
@@ -35,7 +37,7 @@ impl<J: Naming> Model for Post<J> {
 }
 
 impl<J: Naming> Post<J> {
-    /// The post of a group whose word has this number, with no passes.
+    /// The post of a group whose word has this number, with no passes and no tokens.
     pub(crate) fn new(alloc: Global, word: u32, parent: u32) -> Post<J>
         ensures { (result.word ≡ word) × (result.passes ≡ []) × (result.kept ≡ 0) × (result.out ≡ 0) }
     {
@@ -55,12 +57,12 @@ impl<J: Naming> Post<J> {
         self.word
     }
 
-    /// The ledger's number of the group round it, as it was told when the post was made.
+    /// The ledger's number of the group that encloses it, as `new` or `raise` was told last. No contract says that it is right.
     pub(crate) fn parent(&self) -> u32 {
         self.parent
     }
 
-    /// It is of a new group, whose word and whose parent's number are these, and one token of it is out.
+    /// The post is that of a new group from here on: sets its word and its parent's number, and that one token of it is out.
     pub(crate) fn raise(&mut self, word: u32, parent: u32)
         requires { length self.old.passes ≡ 0 }
         ensures { (self.new.word ≡ word) × (self.new.passes ≡ self.old.passes) × (self.new.kept ≡ self.old.kept) × (self.new.out ≡ 1) }
@@ -74,10 +76,11 @@ impl<J: Naming> Post<J> {
     pub(crate) fn names(&self)
         ensures { All (λ v. group_of v ≡ Some self.now.word) self.now.passes }
     {
+        // A field that is read shows the prover the type's invariant, which is this clause.
         let _passes = &self.passes;
     }
 
-    /// How many passes the book holds.
+    /// How many passes to the group the book holds.
     pub(crate) fn held(&self) -> usize
         ensures { result ≡ length self.now.passes }
     {
@@ -98,21 +101,21 @@ impl<J: Naming> Post<J> {
         self.out
     }
 
-    /// So many tokens are out.
+    /// Sets how many tokens are out.
     pub(crate) fn set_out(&mut self, out: usize)
         ensures { self.new ≡ record self.old { out = out } }
     {
         self.out = out;
     }
 
-    /// So many tokens are kept.
+    /// Sets how many tokens are kept.
     pub(crate) fn set_kept(&mut self, kept: usize)
         ensures { self.new ≡ record self.old { kept = kept } }
     {
         self.kept = kept;
     }
 
-    /// A pass, if one is held.
+    /// Takes out the last pass, if one is held.
     pub(crate) fn take(&mut self) -> Option<Pass<J>>
         ensures rest { (self.new.word ≡ self.old.word) × (self.new.kept ≡ self.old.kept) × (self.new.out ≡ self.old.out) }
         ensures pass { MatchOption result ((length self.old.passes ≡ 0) × (length self.new.passes ≡ 0)) (λ pass. (group_of pass ≡ Some self.old.word) × (length self.old.passes ≡ length self.new.passes + 1) × (self.old.passes ≡ self.new.passes ++ pass ∷ [])) }
@@ -120,7 +123,7 @@ impl<J: Naming> Post<J> {
         self.passes.pop()
     }
 
-    /// An idle pass comes to name the group, by one that is held; without one it comes back.
+    /// Lets an idle pass name the group too, beside one that is held. Where none is held the idle pass comes back.
     pub(crate) fn enter(&self, groups: &Groups<J>, idle: Pass<J>) -> Result<Pass<J>, Pass<J>>
         requires { group_of idle ≡ None }
         ensures { MatchResult result (λ pass. group_of pass ≡ Some self.now.word) (λ back. (back ≡ idle) × (length self.now.passes ≡ 0)) }
@@ -131,7 +134,8 @@ impl<J: Naming> Post<J> {
         }
     }
 
-    /// Nobody is kept or out where the group has no members. Passes go until they are, with the tokens that are out, as many as it has. They are to be left.
+    /// Fits the post to a group that has so many members left: passes go to `leave` until those that stay and the tokens that are out are as many.
+    /// Without members no token is kept or out.
     pub(crate) fn settle(&mut self, members: usize, leave: &mut Vec<Pass<J>>)
         requires enough { members ≤ length self.old.passes + self.old.out }
         requires out { 1 ≤ members → self.old.out ≤ members }
@@ -151,7 +155,7 @@ impl<J: Naming> Post<J> {
         self.give_up(wanted, leave);
     }
 
-    // Passes go until so many are held. They are to be left.
+    // Moves passes to `leave`, which has room for them, until so many are held.
     fn give_up(&mut self, wanted: usize, leave: &mut Vec<Pass<J>>)
         requires enough { wanted ≤ length self.old.passes }
         requires room { vec_len leave.old + length self.old.passes ≤ vec_capacity leave.old }
@@ -169,7 +173,7 @@ impl<J: Naming> Post<J> {
         }
     }
 
-    /// Makes room for one pass more.
+    /// Makes room for one pass more. The error is refused memory.
     pub(crate) fn reserve(&mut self) -> Result<(), AllocError>
         ensures rest { (self.new.word ≡ self.old.word) × (self.new.passes ≡ self.old.passes) × (self.new.kept ≡ self.old.kept) × (self.new.out ≡ self.old.out) }
         ensures room { OnOk result (1 ≤ self.new.room) }
@@ -188,7 +192,7 @@ impl<J: Naming> Post<J> {
     }
 }
 
-/// So many tokens of a group are out.
+/// Sets how many tokens of a group are out.
 pub(crate) fn set_out<J: Naming>(posts: &mut Vec<Post<J>>, number: u32, out: usize)
     requires there { number < length posts.old.items }
     ensures { (p : Hold) × Becomes posts.old.items number p (record p { out = out }) posts.new.items }
@@ -198,7 +202,7 @@ pub(crate) fn set_out<J: Naming>(posts: &mut Vec<Post<J>>, number: u32, out: usi
     }
 }
 
-/// Nobody is kept or out of a group without members, and the passes of a group that are too many go: they are to be left.
+/// Fits a group's post to so many members, as `Post::settle` does: the passes that are too many go to `leave`.
 pub(crate) fn settle_at<J: Naming>(
     posts: &mut Vec<Post<J>>,
     number: u32,
@@ -217,7 +221,7 @@ pub(crate) fn settle_at<J: Naming>(
     }
 }
 
-/// Whether a group has members, so many, and a pass of each but the tokens that are out is held.
+/// Whether a group has members, and the passes held and the tokens out are as many. `settle_at` would change nothing then.
 #[inline(always)]
 pub(crate) fn is_settled_at<J: Naming>(posts: &Vec<Post<J>>, number: u32, members: usize) -> bool
     ensures { result ≡ true → (1 ≤ members) × (held_at posts.now.items number + out_at posts.now.items number ≡ members) }
@@ -242,7 +246,7 @@ pub(crate) fn reserve_at<J: Naming>(posts: &mut Vec<Post<J>>, number: u32) -> Re
     }
 }
 
-/// One pass more of a group.
+/// Puts a pass into a group's post, which has room for it.
 pub(crate) fn put_at<J: Naming>(posts: &mut Vec<Post<J>>, number: u32, pass: Pass<J>)
     requires there { number < length posts.old.items }
     requires room { 1 ≤ room_at posts.old.items number }
@@ -254,7 +258,7 @@ pub(crate) fn put_at<J: Naming>(posts: &mut Vec<Post<J>>, number: u32, pass: Pas
     }
 }
 
-/// One pass fewer of a group.
+/// Takes a pass out of a group's post, if it holds one.
 pub(crate) fn take_at<J: Naming>(posts: &mut Vec<Post<J>>, number: u32) -> Option<Pass<J>>
     ensures fewer { MatchOption result (held_at posts.old.items number ≡ 0) (λ pass. (group_of pass ≡ Some (word_at posts.old.items number)) × Changes posts.old.items number posts.new.items (TakesOne pass)) }
 {
@@ -264,7 +268,7 @@ pub(crate) fn take_at<J: Naming>(posts: &mut Vec<Post<J>>, number: u32) -> Optio
     }
 }
 
-/// So many tokens of a group are out, and the pass of one that was comes into the book.
+/// A token is no longer out, but a record of its group remains (a call, or a group): its pass goes into the post. Sets how many tokens are out.
 pub(crate) fn bring_at<J: Naming>(posts: &mut Vec<Post<J>>, number: u32, out: usize, pass: Pass<J>)
     requires there { number < length posts.old.items }
     requires room { 1 ≤ room_at posts.old.items number }
@@ -277,7 +281,7 @@ pub(crate) fn bring_at<J: Naming>(posts: &mut Vec<Post<J>>, number: u32, out: us
     }
 }
 
-/// So many tokens of a group are out and kept, and the pass of one that was out comes into the book.
+/// A token that was out is kept: its pass goes into the post. Sets how many tokens are out and how many are kept.
 pub(crate) fn keep_at<J: Naming>(
     posts: &mut Vec<Post<J>>,
     number: u32,
@@ -297,7 +301,7 @@ pub(crate) fn keep_at<J: Naming>(
     }
 }
 
-/// So many tokens of a group are out, and a pass for one of them goes out of the book, if one is held.
+/// A token comes in place of a record of the group (a call, or a group): takes its pass out, if one is held, and sets how many tokens are out.
 pub(crate) fn send_at<J: Naming>(
     posts: &mut Vec<Post<J>>,
     number: u32,
@@ -315,7 +319,8 @@ pub(crate) fn send_at<J: Naming>(
     }
 }
 
-/// So many tokens of a group are out, one with an idle pass that comes to name it, if the book holds one that does; else it comes back.
+/// A token comes into the group: an idle pass names this too, beside one that the post holds. Sets how many tokens are out. Where the post holds no
+/// pass nothing changes, and the idle one comes back.
 pub(crate) fn enter_at<J: Naming>(
     groups: &Groups<J>,
     posts: &mut Vec<Post<J>>,
@@ -338,7 +343,7 @@ pub(crate) fn enter_at<J: Naming>(
     }
 }
 
-/// So many tokens of a group are out and kept, and a pass for one of them goes out of the book, if one is held.
+/// A token that was kept goes out: takes its pass out of the post, and sets how many are out and how many are kept. Nothing changes without a pass.
 pub(crate) fn wake_at<J: Naming>(
     posts: &mut Vec<Post<J>>,
     number: u32,
@@ -382,7 +387,7 @@ pub(crate) fn out_in<J: Naming>(posts: &Vec<Post<J>>, number: u32) -> usize
     }
 }
 
-/// A pass of a group, if with the tokens that are out it has more than so many.
+/// Takes a pass out of a group's post, if its passes and the tokens that are out are more than so many members.
 pub(crate) fn spare_at<J: Naming>(
     posts: &mut Vec<Post<J>>,
     number: u32,
@@ -409,7 +414,7 @@ pub(crate) fn held_in<J: Naming>(posts: &Vec<Post<J>>, number: u32) -> usize
     }
 }
 
-/// The number of the group round a group, as it was told.
+/// The number of the group that encloses a group, as its post was told last.
 pub(crate) fn parent_in<J: Naming>(posts: &Vec<Post<J>>, number: u32) -> u32 {
     match posts.get(number as usize) {
         Some(post) => post.parent(),
@@ -436,7 +441,7 @@ pub(crate) fn first_posts<J: Naming>(alloc: Global) -> Result<Vec<Post<J>>, Allo
     Ok(posts)
 }
 
-/// Makes room for one pass more of a group, and for the posts of as many groups as there may be.
+/// Makes room for one pass more of a group, and for the posts of as many groups as there may be. So `grow_to` never asks for memory.
 pub(crate) fn reserve_opening<J: Naming>(
     posts: &mut Vec<Post<J>>,
     number: u32,
@@ -452,7 +457,7 @@ pub(crate) fn reserve_opening<J: Naming>(
     posts.try_reserve(more)
 }
 
-/// There are posts up to the group with this number.
+/// Adds posts without passes up to the group with this number.
 pub(crate) fn grow_to<J: Naming>(alloc: Global, posts: &mut Vec<Post<J>>, number: u32)
     requires few { length posts.old.items ≤ MOST_GROUPS }
     requires number { number < MOST_GROUPS }
@@ -466,7 +471,7 @@ pub(crate) fn grow_to<J: Naming>(alloc: Global, posts: &mut Vec<Post<J>>, number
     }
 }
 
-/// A post is of a new group, whose word and whose parent's number are these, and one token of it is out.
+/// The post with this number is that of a new group from here on: sets its word and its parent's number, and that one token of it is out.
 pub(crate) fn raise_at<J: Naming>(posts: &mut Vec<Post<J>>, number: u32, word: u32, parent: u32)
     requires there { number < length posts.old.items }
     requires empty { held_at posts.old.items number ≡ 0 }

@@ -1,4 +1,4 @@
-//! Publications that a `>x>` takes.
+//! Publications that a `>x>` takes: the token goes on at a copy of the right side. Its group is that in which the `>x>` stands, perhaps another one.
 ghost use Rattle.std.specs.Prelude.{◌≡◌, ◌≤◌, ◌+◌, ◌++◌, ◌∷◌, [], ℕ, MatchResult, List, vec_len, vec_capacity, IfErr, OnOk};
 ghost use Rattle.orc_rules.specs.Nodes.{code, definitions};
 ghost use Rattle.orc_ledger_spec.specs.Doing.{what_of};
@@ -21,7 +21,8 @@ use orc_rules::value::Value;
 use orc_tables::Token as Record;
 use orc_word::{Groups, Naming};
 
-/// What a token publishes into a `>x>`: the value, the variable, the node and the scope of the right side, and the step round the `>x>`.
+/// What a token publishes into a `>x>`: the value, the variable, the right side's node and the scope in which that is read, and the step that
+/// encloses the `>x>`, by the ledger's numbers.
 #[derive(Clone, Copy)]
 pub(crate) struct Fed {
     pub value: Value,
@@ -46,13 +47,14 @@ impl<P: Run + Naming> Book<P> {
                 scope,
                 outer,
             },
+            // The token's next action is Send, so a `>x>` takes the value.
             Taker::Whole => unreachable!(),
             Taker::PruneRight(_, _) => unreachable!(),
         }
     }
 
-    // A token that was found publishes a value into a `>x>`: one on a copy of its right side is out in its place. Where that stands in another group, it has
-    // an idle pass that comes to name this, and the token's own is to be left.
+    // A token that was found publishes a value into a `>x>`: one on a copy of its right side is out in its place. Where that stands in another group,
+    // it has an idle pass that comes to name this, and the token's own is to be left.
     pub(crate) fn send(
         &mut self,
         groups: &Groups<P>,
@@ -85,7 +87,7 @@ impl<P: Run + Naming> Book<P> {
         }
     }
 
-    // The same where the right side stands in the token's group.
+    // What `send` does where the `>x>` stands in the token's group: the token's pass stays with it.
     fn send_within(
         &mut self,
         token: Token<P>,
@@ -106,6 +108,7 @@ impl<P: Run + Naming> Book<P> {
         ensures refused { IfErr result (λ r. (self.new ≡ self.old) × (r.back ≡ token) × (out.new.born ≡ out.old.born)) }
         ensures why { (same : List View) → (idle : List View) → IfErr result (λ r. IsRefusedStep P.listing self.old token same idle r.why) }
     {
+        // A law: it shows the prover that the journal leads to a place that the records spell. Nothing runs.
         stands(&self.ledger);
         match self.ledger.send(
             token.slot, found.its, fed.value, fed.name, fed.right, fed.scope, fed.outer,
@@ -122,7 +125,7 @@ impl<P: Run + Naming> Book<P> {
         }
     }
 
-    // The same where it stands in the group with this number, another one.
+    // What `send` does where the `>x>` stands in another group, `round`: the token goes over to that with an idle pass, and its own is to be left.
     fn send_across(
         &mut self,
         groups: &Groups<P>,
@@ -158,10 +161,11 @@ impl<P: Run + Naming> Book<P> {
             token.slot, found.its, fed.value, fed.name, fed.right, fed.scope, fed.outer,
         ) {
             Ok(()) => {
-                // No more tokens are out than there are.
+                // No more tokens are out than there are, and their number is a `usize`: so one more doesn't overflow.
                 let _tokens = self.ledger.token_count();
                 set_out(&mut self.posts, found.group, found.out - 1);
                 let out_there = out_in(&self.posts, round);
+                // The book holds a pass to that group: the token's own group is a member of it, or of one right inside it, and so on.
                 let Ok(pass) = enter_at(groups, &mut self.posts, round, out_there + 1, idle) else {
                     unreachable!()
                 };

@@ -1,4 +1,5 @@
-//! What a book has of groups that the ledger has no more goes.
+//! After a bind: the ledger has dropped the groups inside a right side, and the book follows. *Burying* such a group notes its word as that of a
+//! killed one, which somebody may still name; *settling* takes passes out of posts that have too many, so that they are left.
 ghost use Rattle.std.specs.Prelude.{◌≡◌, ◌+◌, ◌≤◌, ◌<◌, ℕ, true, false, length, vec_len, vec_capacity};
 ghost use Rattle.orc_rules.specs.declared.limits.TheConstants.{MOST_GROUPS};
 ghost use Rattle.orc_indexes.specs.Same.{weight};
@@ -28,7 +29,8 @@ fn is_there<P: Run>(ledger: &Ledger<P>, number: u32) -> bool
     }
 }
 
-// The word of a group that is there no more stands for a killed one, with a pass of the group that was round it.
+// If the group with this number is there no more, its word stands for a killed one. The word takes the group's own pass to the enclosing group with
+// it.
 fn bury_one<P: Run, J: Naming>(
     ledger: &Ledger<P>,
     posts: &mut Vec<Post<J>>,
@@ -48,16 +50,18 @@ fn bury_one<P: Run, J: Naming>(
     let Kind::Open(stood) = words.kind(word) else {
         return;
     };
+    // A post keeps the word of its last group, which may stand for another group since.
     if stood != number {
         return;
     }
     let parent = parent_in(posts, number);
     let above = word_in(posts, parent);
+    // The enclosing group has lost a member, so its post has a pass too many.
     let pass = spare_at(posts, parent, ledger.member_count(parent) as usize);
     words.bury(word, above, pass);
 }
 
-// The first number from `from` on, under `to`, of which nobody is a member, or else `to`.
+// The first number of `from..to` whose group has no members, or else `to`.
 fn next_empty<P: Run>(ledger: &Ledger<P>, from: u32, to: u32) -> u32
     requires { from ≤ to }
     ensures within { (from ≤ result) × (result ≤ to) }
@@ -71,7 +75,7 @@ fn next_empty<P: Run>(ledger: &Ledger<P>, from: u32, to: u32) -> u32
     to
 }
 
-// The words of groups that are there no more stand for killed ones. A group that has members is there; to ask that first is faster.
+// Buries each group that is there no more. A group that has members is there; to ask that first is faster. `posts` are few enough for a `u32`.
 pub(crate) fn bury_missing<P: Run, J: Naming>(
     ledger: &Ledger<P>,
     posts: &mut Vec<Post<J>>,
@@ -94,7 +98,7 @@ pub(crate) fn bury_missing<P: Run, J: Naming>(
     }
 }
 
-// The first number from `from` on, under `to`, whose post may have passes that are too many or tokens that are gone, or else `to`.
+// The first number of `from..to` whose post may have passes that are too many or count tokens that are gone, or else `to`.
 fn next_unsettled<P: Run, J: Naming>(
     ledger: &Ledger<P>,
     posts: &Vec<Post<J>>,
@@ -114,7 +118,7 @@ fn next_unsettled<P: Run, J: Naming>(
     to
 }
 
-// Nobody is kept or out of a group without members, and each group's passes that are too many are to be left.
+// Fits each post to its group's members. Passes that are too many go to `leave`; of a group without members no token is kept or out.
 pub(crate) fn settle_all<P: Run, J: Naming>(
     ledger: &Ledger<P>,
     posts: &mut Vec<Post<J>>,

@@ -1,4 +1,5 @@
-//! A token's next move, whichever of those it is that have no call of their own.
+//! A token's next move, where that needs nothing but passes: all but a publication of the program, a bind, a call of a site and a wait, which have
+//! calls of their own.
 ghost use Rattle.std.specs.Prelude.{◌≡◌, ◌≤◌, ◌+◌, ◌⊎◌, ◌++◌, ◌∷◌, [], List, vec_len, vec_capacity, IfErr, MatchResult, OnErr, OnOk};
 ghost use Rattle.orc_book.specs.Held.{HasStayed, KeepsWords, AreBorn};
 ghost use Rattle.orc_book.specs.Refusals.{is_end, is_opening, HasFound, IsRefusedMove, IsRefusedStep, IsUnopened};
@@ -15,13 +16,13 @@ use orc_log::Run;
 use orc_word::{Groups, Naming};
 
 impl<P: Run + Naming> Book<P> {
-    /// A token that is out does what it does next, where that is Halt, Fork, Seq, Def, Void, Send, Prune or Other of `view`: its record goes, and those of the
-    /// tokens that come in its place are out. `births` lends passes, as many as `view` says that the move needs at most; what isn't used stays there. Tokens
-    /// and passes to leave are added to `out`.
+    /// A token that is out does what it does next, where that is Halt, Fork, Seq, Def, Void, Send, Prune or Other of `view`: its record goes, and
+    /// those of the tokens that come in its place are out. `births` lends passes, as many as `view` says that the move needs at most; what isn't used
+    /// stays there. Tokens and passes to leave are added to `out`.
     ///
-    /// Refused as Gone where the token isn't out, as Wrong where it does something else next, as Short where `births` has not the passes that the move needs,
-    /// as Full or Limit where the move is over a limit, as Full too where a group is opened and no word is free, as Live where the free word is still named, and as
-    /// Memory where memory is refused. Then the records are as they were, and `back` is the token.
+    /// Refused as Gone where the token isn't out, as Wrong where it does something else next, as Short where `births` has not the passes that the
+    /// move needs, as Full or Limit where the move is over a limit, as Full too where a group is opened and no word is free, as Live where the free
+    /// word is still named, and as Memory where memory is refused. Then the records are as they were, and `back` is the token.
     pub fn step(
         &mut self,
         groups: &Groups<P>,
@@ -63,6 +64,8 @@ impl<P: Run + Naming> Book<P> {
         }
     }
 
+    // The arms of `step`. Each takes passes that it needs from `births`, and gives back those that a refused move doesn't use; what comes of the move
+    // is added to `out`, which has room for it.
     fn step_end(
         &mut self,
         inputs: &Inputs<'_, P>,
@@ -91,6 +94,7 @@ impl<P: Run + Naming> Book<P> {
         }
     }
 
+    // Needs no pass, so the clause *why* holds whatever was lent.
     fn step_on(
         &mut self,
         inputs: &Inputs<'_, P>,

@@ -1,4 +1,4 @@
-//! Sub-runs that were made apart come into a book.
+//! Sub-runs come into a book. A sub-run is a run of one call of a definition that was made by itself, in parallel; the call's token waits for it.
 ghost use Rattle.std.specs.Prelude.{◌≡◌, IfOk, OnOk, IfErr};
 ghost use Rattle.orc_tables.specs.declared.records.Token.{Token as Its};
 ghost use Rattle.orc_ledger_spec.specs.Parts.{StandsFor, TakesIn};
@@ -23,11 +23,13 @@ pub enum Comer<P: Naming> {
 }
 
 impl<P: Run + Naming> Book<P> {
-    /// A token at a call of a definition with values is replaced by what a run of that call has come to. The run was made apart; its entries stand behind the
-    /// journal at once. If the call has come to a value, a token on that is out in the token's place, with its pass; else the pass is to be left.
+    /// A token at a call of a definition with values is replaced by what a run of that call has come to. The run was made apart; its entries stand
+    /// behind the journal at once. If the call has come to a value, a token on that is out in the token's place, with its pass; else the pass is to
+    /// be left.
     ///
-    /// Refused as Gone where the token isn't out, as Wrong where it doesn't stand at the call of the sub-run, or the sub-run may have published something and
-    /// the token isn't the program's outermost, as Limit where the limit has no room for all of the entries, and as Memory. Then nothing has changed.
+    /// Refused as Gone where the token isn't out, as Wrong where it doesn't stand at the call of the sub-run, or the sub-run may have published
+    /// something and the token isn't the program's outermost, as Limit where the limit has no room for all of the entries, and as Memory. Then
+    /// nothing has changed.
     pub fn append_sub_run(
         &mut self,
         inputs: &Inputs<'_, P>,
@@ -63,6 +65,7 @@ impl<P: Run + Naming> Book<P> {
                 let why = BookFault::Memory;
                 return Err(Refused { why, back: token });
             }
+            // A sub-run leaves one token at most where one stood, and asks no claim: the ledger's clause says so.
             Err(LedgerFault::Full) => unreachable!(),
             Err(LedgerFault::Unclaimed) => unreachable!(),
         }
@@ -70,6 +73,7 @@ impl<P: Run + Naming> Book<P> {
             let born = self.born(token.slot, token.pass);
             return Ok(Comer::Token(born));
         }
+        // The token is gone. It was out, so `found.out` is 1 at least.
         set_out(&mut self.posts, found.group, found.out - 1);
         Ok(Comer::Nobody(token.pass))
     }

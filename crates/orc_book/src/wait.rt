@@ -39,11 +39,13 @@ impl<P: Run + Naming> Book<P> {
             return Err(Refused { why, back: token });
         };
         let kept = kept_in(&self.posts, found.group);
+        // No more tokens are kept than there are, and their number is a `usize`: so one more doesn't overflow.
         let _tokens = self.ledger.token_count();
         let handle = Handle {
             slot: token.slot,
             serial: token.serial,
         };
+        // Lists in `cells` what the token waits for. That the ledger has parked it does no harm where the book refuses it then.
         if let Err(fault) = self
             .ledger
             .park(inputs, token.slot, found.its, &mut self.cells)
@@ -69,7 +71,8 @@ impl<P: Run + Naming> Book<P> {
         Ok(())
     }
 
-    // A token that is kept goes out, if it is still there.
+    // A token that is kept goes out. None where it isn't kept, or a bind has dropped its record and left the mark. No contract says that the counts
+    // and the pass, asked last, are there for any other.
     fn wake_one(&mut self, handle: Handle) -> Option<Token<P>>
         ensures same { HaveStayed self.old self.new }
         ensures born { IfSome result (IsOut self.new) }
@@ -87,14 +90,15 @@ impl<P: Run + Naming> Book<P> {
         Some(self.born(handle.slot, pass))
     }
 
-    /// A cell has a value, or will never have one: those tokens that were kept for it go out, each once, and are added to `born`. The error is refused
-    /// memory; those that are still kept then come by another call.
+    /// A cell has a value, or will never have one: those tokens that were kept for it go out, each once, and are added to `born`. The error is
+    /// refused memory; those that are still kept then come by another call.
     pub fn wake(&mut self, cell: u64, born: &mut Vec<Token<P>>) -> Result<(), AllocError>
         ensures same { HaveStayed self.old self.new }
         ensures born { AreBorn born.old.items born.new.items self.new }
         ensures once { HaveWoken self.old.marks self.new.marks born.old.items born.new.items }
         ensures passes { (f : View → ℕ) → in_tokens f born.new.items + in_book f self.new ≡ in_tokens f born.old.items + in_book f self.old }
     {
+        // No chain is longer than there are links, so each is popped.
         for _link in 0..self.keeping.len() {
             born.try_reserve(1)?;
             let Some(handle) = self.keeping.pop(cell) else {

@@ -1,4 +1,5 @@
-//! What words stand for.
+//! What words stand for. A group's *word* is an atomic counter of the passes to it; here the book notes, under its lock, which group each word
+//! counts.
 ghost use Rattle.std.specs.Prelude.{◌≡◌, Some};
 ghost use Rattle.orc_book.specs.Held.{owed_to};
 
@@ -8,7 +9,7 @@ use slab::Slab;
 use std::alloc::{AllocError, Global};
 use std::marker::Model;
 
-/// The pass of a killed group to the one that was round it, whose word has this number.
+/// The pass of a killed group to the one that enclosed it, whose word has the number `parent`. None where that had no pass to spare.
 #[derive(Drop)]
 pub(crate) struct Owed<P: Naming> {
     parent: u32,
@@ -25,7 +26,7 @@ pub(crate) enum Stand<P: Naming> {
     Dying(Owed<P>),
 }
 
-/// What a word stands for, without the pass.
+/// What a word stands for, without the pass: no group, the open group with this number, a killed one.
 #[derive(Clone, Copy)]
 pub(crate) enum Kind {
     Free,
@@ -37,7 +38,9 @@ pub(crate) enum Kind {
 #[derive(Drop)]
 pub(crate) struct WordTable<P: Naming> {
     stands: Slab<Stand<P>>,
+    // How many words there are.
     count: u32,
+    // How many of them stand for killed groups.
     dying: usize,
 }
 
@@ -59,7 +62,7 @@ impl<P: Naming> WordTable<P> {
     ghost use Rattle.orc_book.specs.Passes.{in_words, of_owed};
     ghost use Rattle.orc_book.specs.Words.{IsOpened, Turns, HasNoWord, is_dying, kind_at, killed, owed_at, unused};
 
-    /// So many words: the first stands for the program's own group, the others are free.
+    /// So many words: the first stands for the program's own group, the others are free. The error is refused memory.
     pub(crate) fn new(alloc: Global, count: u32) -> Result<WordTable<P>, AllocError>
         requires { count ≡ P.table.words }
         ensures { IfOk result (λ t. IsOpened [] 0 0 t.stands) }
@@ -75,8 +78,8 @@ impl<P: Naming> WordTable<P> {
         })
     }
 
-    /// The free word that `open` takes. The fault is Full where as many words are taken as there are. Memory is that of a slab whose next key lies past the
-    /// words though one is free: no clause of the slab's rules it out.
+    /// The free word that `open` takes. The fault is Full where as many words are taken as there are. Memory is that of a slab whose next key lies
+    /// past the words though one is free: no clause of the slab's rules it out.
     #[tactic(auto, using(crate::proofs::Entries::taken_some))]
     pub(crate) fn next(&self) -> Result<u32, BookFault>
         ensures word { IfOk result (λ word. (word ≡ self.now.next) × (word < P.table.words) × (kind_at self.now.stands word ≡ Kind.Free)) }
@@ -98,6 +101,7 @@ impl<P: Naming> WordTable<P> {
         requires { self.old.next < P.table.words }
         ensures { IsOpened self.old.stands self.old.next number self.new.stands }
     {
+        // Both answers show the prover that the slab has room and puts the entry at `next`. Their values aren't used.
         let _room = self.stands.capacity();
         let _key = self.stands.vacant_key();
         let _word = self.stands.insert_reserved(Stand::Open(number));
@@ -122,6 +126,7 @@ impl<P: Naming> WordTable<P> {
         ensures killed { Turns self.old.stands word (killed pass) self.new.stands }
         ensures held { (f : View → ℕ) → in_words f self.new.stands ≡ in_words f self.old.stands + of_owed f pass }
     {
+        // Shows the prover that there are at most as many words as a `usize` counts, so that `dying` doesn't overflow.
         let _room = self.stands.capacity();
         let Some(stand) = self.stands.get_mut(word as usize) else {
             unreachable!()
@@ -130,7 +135,7 @@ impl<P: Naming> WordTable<P> {
         self.dying += 1;
     }
 
-    /// A word is free again. Gives the pass of a killed group to the one that was round it.
+    /// Frees a word. Gives the pass that it holds: that of a killed group to the one that enclosed it.
     pub(crate) fn free(&mut self, word: u32) -> Option<Pass<P>>
         ensures pass { IfSome result (λ pass. IsSome (group_of pass)) }
         ensures owed { result ≡ owed_at self.old.stands word }
@@ -147,7 +152,7 @@ impl<P: Naming> WordTable<P> {
         }
     }
 
-    /// A word that holds no pass is free again.
+    /// Frees a word that holds no pass.
     pub(crate) fn close(&mut self, word: u32)
         requires bare { owed_at self.old.stands word ≡ None }
         ensures freed { Turns self.old.stands word unused self.new.stands }
