@@ -11,9 +11,11 @@ use Rattle.orc_word.specs.declared.view.Deed.TheVariants.{Opened, Found, Ended, 
 use Rattle.orc_word.specs.declared.view.View.{View}
 use Rattle.orc_word.specs.Words.{count_of, bit_of, flag, has, no_bits, with_bit, Covers}
 
+-- what the table knows of a seat, with what it stands for and without its deeds
 abbrev pub Sat : Type 0
 Sat = Me (Unit {0}) Stance
 
+-- what an exchange tells: of the step, the seat before, the number found and the seat after
 abbrev pub Told : Type 1
 Told = Step (Unit {0}) → Sat → ℕ → Sat → Type 0
 
@@ -53,6 +55,7 @@ marked b st m r n = (seen won : Bits) → m.0 ≡ Names st.word seen won → (n 
 abbrev pub looked : Told
 looked st m r n = (seen won : Bits) → m.0 ≡ Names st.word seen won → (n ≡ (Names st.word (bits_of r) won, m.1)) × Covers seen (bits_of r)
 
+-- a supply with one pass fewer, and below one with one more; other stances are as they were
 abbrev pub one_less : Stance → Stance
 one_less (Supplies k) = Supplies (k - 1)
 one_less (Parting k j) = Parting k j
@@ -67,6 +70,7 @@ one_more Idle = Idle
 one_more (Names g seen won) = Names g seen won
 one_more Spent = Spent
 
+-- of a supply that parts with passes, the part that keeps its own, and below the part that has those set aside
 abbrev pub all_kept : Stance → Stance
 all_kept (Supplies k) = Supplies k
 all_kept (Parting k j) = Supplies k
@@ -96,6 +100,7 @@ doing deeds told st m r n = told st (stood m) r (stood n) × (n.0.deeds ≡ m.0.
 abbrev pub seeing : Told → Step (Unit {0}) → Seated → ℕ → Seated → Type 0
 seeing told st m r n = told st (stood m) r (stood n) × (n.0.deeds ≡ m.0.deeds)
 
+-- what an exchange does for good, by the number that it found: an opening, a first coming, a last leave, a win
 abbrev pub if_opened : Step (Unit {0}) → ℕ → List Deed
 if_opened st r = cond (r == st.first) (Opened st.word (bits_of r) ∷ []) []
 

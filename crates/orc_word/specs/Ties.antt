@@ -11,6 +11,7 @@ use Rattle.orc_word.specs.declared.bits.Bit.TheVariants.{Published, Killed}
 use Rattle.orc_word.specs.Words as w
 use Rattle.orc_word.specs.Machine as machine
 
+-- a bit, a word's number and a stance as the machine's bit, word and pass: a supply is no pass, so it is `gone`
 abbrev pub core_bit : Bit → machine.Bit
 core_bit Published = machine.published
 core_bit Killed = machine.killed

@@ -17,6 +17,7 @@ use Rattle.orc_word.specs.Words.{count_of, bit_of, flag, has, worth, Rule, group
 abbrev pub view_of : Stance → List Deed → View
 view_of stance deeds = record { stance = stance; deeds = deeds }
 
+-- what the seat stands for: a supply, or a pass that is idle or names a group
 abbrev pub stance_of : View → Stance
 stance_of v = v.stance
 
@@ -50,6 +51,7 @@ ends g (Found h) = 0
 ends g (Ended h) = cond (h == g) 1 0
 ends g (Won h c) = 0
 
+-- 1 where the bits are the same one
 abbrev pub same : Bit → Bit → ℕ
 same Published Published = 1
 same Published Killed = 0

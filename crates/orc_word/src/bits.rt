@@ -1,4 +1,4 @@
-//! The two bits of a group's word.
+//! The two bits of a group's word. Who sets a bit that was clear wins it; only an opening of the group clears them.
 
 /// A bit of a group's word.
 #[derive(Clone, Copy)]
@@ -9,7 +9,7 @@ pub enum Bit {
     Killed,
 }
 
-/// Both bits of a group's word.
+/// Both bits of a group's word, at one moment.
 #[derive(Clone, Copy)]
 pub struct Bits {
     pub published: bool,

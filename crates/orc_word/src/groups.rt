@@ -1,4 +1,7 @@
-//! The words of groups, and the calls on them.
+//! The words of groups, and the calls on them. A word is a 64-bit atomic: the number of passes that name the group in bits 0 to 31, then two bits.
+//!
+//! The type after `::<` of an exchange (`Open`, `Enter`, ..) is for the prover alone: it says what the exchange tells the pass's *seat*, by which the
+//! table knows the pass.
 ghost use Rattle.std.specs.Prelude.{◌≡◌, true, false, ℕ, List, [], ◌∷◌, ◌++◌, ◌<◌, Some, None, IsSome, MatchResult, MatchOption, cond};
 ghost use Rattle.orc_word.specs.declared.view.View.{View};
 ghost use Rattle.orc_word.specs.declared.view.Stance.TheVariants.{Names};
@@ -17,25 +20,27 @@ use atomic_table::{Shared, Table};
 use std::alloc::Global;
 use std::marker::PhantomData;
 
-/// A word's count is what is left of it by this number.
+/// 2^32: a word's count is the remainder by this.
 const COUNT: u64 = 4294967296;
 
-/// Bit 32.
+/// The value of bit 32.
 const PUBLISHED: u64 = 4294967296;
 
-/// Bit 33.
+/// The value of bit 33.
 const KILLED: u64 = 8589934592;
 
 /// The words of groups, which all threads share.
 #[derive(Drop)]
 pub struct Groups<J: Naming> {
     pub(crate) table: Table<(), View, Plan, Counts, Global>,
+    // Names the table in the type; it takes no memory.
     pub(crate) of: PhantomData<J>,
     pub ghost named: { table.shared.table_id ≡ J.table },
     pub ghost planned: { (table.shared.key.groups ≡ J.table.words) × (0 < J.table.words) × (J.table.slots ≡ 0) },
 }
 
 impl<J: Naming> Groups<J> {
+    /// The part of the table on which threads make exchanges.
     pub(crate) fn shared(&self) -> &Shared<(), View, Plan, Counts>
         ensures { result.now ≡ self.now.table.shared }
     {
@@ -58,6 +63,7 @@ impl<J: Naming> Groups<J> {
         let shared = &self.table.shared;
         let word = group as usize;
         let found = shared.load::<Peek>(&mut seat, word);
+        // The new word counts one pass and has no bits: it replaces the one that was read, bits of the last group included.
         let is_left = found % COUNT == 0;
         if is_left && shared.compare_exchange::<Open>(&mut seat, word, found, 1) == found {
             Ok(Pass {
@@ -87,6 +93,7 @@ impl<J: Naming> Groups<J> {
             mut seat,
             of,
         } = idle;
+        // `with` names a group, as the clause *names* asks; the other arm never runs. It is the same in `leave`, `mark` and `look`.
         let Some(group) = with.group else {
             return Pass {
                 group: none,
@@ -95,6 +102,7 @@ impl<J: Naming> Groups<J> {
             };
         };
         let shared = &self.table.shared;
+        // There are fewer than 2^31 passes, so the count never reaches bit 32.
         shared.fetch_add::<Enter>(&mut seat, group as usize, 1);
         Pass {
             group: Some(group),
@@ -143,7 +151,7 @@ impl<J: Naming> Groups<J> {
         Left { pass, last }
     }
 
-    /// Sets a bit of the pass's group, and says whether it was clear. A pass that has seen the bit set is answered `false`.
+    /// Sets a bit of the pass's group, and says whether it was clear: the pass has won it then. A pass that has seen the bit set is answered `false`.
     pub fn mark(&self, pass: &mut Pass<J>, bit: Bit) -> bool
         requires { IsSome (group_of pass.old) }
         ensures group { group_of pass.new ≡ group_of pass.old }
@@ -192,7 +200,7 @@ impl<J: Naming> Groups<J> {
         }
     }
 
-    /// The last words, which meet the rule.
+    /// The words that the table ends with, to be read by one thread. They fit the passes' views, by the rule of the table (`Keeps`).
     pub fn close(self) -> Words
         ensures { (views : List View) × Keeps self.table.shared.key result views }
     {

@@ -1,4 +1,4 @@
-//! What a leave says.
+//! What a leave gives: the pass, idle, and to the last one the duty to close the group.
 ghost use Rattle.std.specs.Prelude.{◌≡◌};
 
 use crate::naming::Naming;
@@ -21,7 +21,7 @@ impl<J: Naming> Last<J> {
     }
 }
 
-/// What is left of a pass that named a group: the pass, idle, and whether it was the last.
+/// What a leave gives: the pass, which is idle, and `last`, if it was the last one that named its group.
 #[derive(Drop)]
 pub struct Left<J: Naming> {
     pub pass: Pass<J>,

@@ -1,14 +1,15 @@
-//! Which table of words a type speaks of.
+//! Which table of words a type speaks of. It is so in types and clauses alone: no code runs by it.
 use std::marker::Brand;
 
 /// Names one table of group words. Words, supplies and passes with the same name in their types are of the same table.
 pub trait Naming {
     ghost use Rattle.atomic_table.specs.Seated.{TableId};
 
+    // The table's identity, with how many words it has.
     ghost table: { TableId };
 }
 
-// A caller picks the table when it calls a function that is generic in its name.
+// `Brand` is for the caller that makes a table: it calls a function that is generic in the name, and picks the table at that call.
 impl Naming for Brand {
     ghost use Rattle.orc_word.specs.Words.{no_table};
 

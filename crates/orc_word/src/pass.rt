@@ -6,10 +6,11 @@ use crate::view::View;
 use atomic_table::Seat;
 use std::marker::{Model, PhantomData};
 
-/// A right that is idle or names a group. To a contract it is its view.
+/// A pass: it is idle, or names a group, whose word counts it then. It can't be copied. To a contract it is its view ([`View`]).
 #[derive(Drop)]
 pub struct Pass<J: Naming> {
     pub(crate) group: Option<u32>,
+    // By which the table's rule knows this pass, and what it has seen and done.
     pub(crate) seat: Seat<(), View>,
     pub(crate) of: PhantomData<J>,
 }

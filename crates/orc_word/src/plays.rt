@@ -1,4 +1,7 @@
 //! The rule of the table of words, and what each kind of exchange tells the seat that makes it. No value of these types is made.
+//!
+//! A *seat* is that by which the table knows a pass or a supply. `doing A B` says that the exchange adds the deeds A and changes the stance by B;
+//! `seeing B` that it adds no deed. A split makes two seats of one, a join one of two.
 ghost use Rattle.orc_word.specs.declared.view.Stance.TheVariants.{Supplies, Idle, Spent};
 ghost use Rattle.orc_word.specs.declared.bits.Bit.TheVariants.{Published, Killed};
 ghost use Rattle.std.specs.Prelude.{[], ◌++◌};
@@ -8,6 +11,7 @@ ghost use Rattle.orc_word.specs.Steps.{peeked, bounded, set_aside, opened, enter
 use crate::view::{Plan, View};
 use atomic_table::{Join, Play, Split, TableRule};
 
+/// The rule, which holds between any two exchanges (`Kept`). At first one supply has all passes.
 pub struct Counts;
 
 impl TableRule<(), View, Plan> for Counts {
@@ -16,54 +20,63 @@ impl TableRule<(), View, Plan> for Counts {
     ghost first = { λ plan. view_of (Supplies plan.passes) [] };
 }
 
+/// A load before an opening, which tells nothing.
 pub struct Peek;
 
 impl Play<(), View> for Peek {
     ghost then = { seeing peeked };
 }
 
+/// A load that tells a supply that it has fewer than 2^31 passes.
 pub struct Bound;
 
 impl Play<(), View> for Bound {
     ghost then = { seeing bounded };
 }
 
+/// An exchange that changes no word: the supply's stance notes how many passes it is about to part with.
 pub struct SetAside;
 
 impl Play<(), View> for SetAside {
     ghost then = { seeing set_aside };
 }
 
+/// The opening of a group, if the word is still the one that was read.
 pub struct Open;
 
 impl Play<(), View> for Open {
     ghost then = { doing if_opened opened };
 }
 
+/// A pass enters a group.
 pub struct Enter;
 
 impl Play<(), View> for Enter {
     ghost then = { doing if_found entered };
 }
 
+/// A pass leaves its group.
 pub struct Leave;
 
 impl Play<(), View> for Leave {
     ghost then = { doing if_ended left };
 }
 
+/// A pass reads its group's bits.
 pub struct Look;
 
 impl Play<(), View> for Look {
     ghost then = { seeing looked };
 }
 
+/// A pass sets the bit *published*.
 pub struct MarkPublished;
 
 impl Play<(), View> for MarkPublished {
     ghost then = { doing (if_won Published) (marked Published) };
 }
 
+/// A pass sets the bit *killed*.
 pub struct MarkKilled;
 
 impl Play<(), View> for MarkKilled {

@@ -1,4 +1,4 @@
-//! Supplies of idle passes.
+//! Supplies of idle passes: each worker has one, out of which it takes passes without asking the others.
 ghost use Rattle.std.specs.Prelude.{◌≡◌, ◌+◌, ◌<◌, None, MatchOption};
 ghost use Rattle.orc_word.specs.Views.{group_of, stance_of};
 ghost use Rattle.orc_word.specs.declared.view.Stance.TheVariants.{Idle};
@@ -31,7 +31,7 @@ impl<J: Naming> Model for Supply<J> {
 }
 
 impl<J: Naming> Supply<J> {
-    /// An idle pass; none exactly where the supply is empty.
+    /// Takes an idle pass out; none exactly where the supply is empty.
     pub fn take(&mut self, groups: &Groups<J>) -> Option<Pass<J>>
         ensures { MatchOption result ((self.old ≡ 0) × (self.new ≡ 0)) (λ pass. (stance_of pass ≡ Idle) × (self.old ≡ self.new + 1)) }
     {
@@ -47,7 +47,7 @@ impl<J: Naming> Supply<J> {
         })
     }
 
-    /// A supply of `passes` passes out of this one; none, with nothing changed, exactly where this one has fewer.
+    /// Moves `passes` passes into a new supply; none, with nothing changed, exactly where this one has fewer.
     pub fn part(&mut self, groups: &Groups<J>, passes: u32) -> Option<Supply<J>>
         ensures { MatchOption result ((self.old < passes) × (self.new ≡ self.old)) (λ supply. (supply ≡ passes) × (self.old ≡ self.new + passes)) }
     {

@@ -1,4 +1,4 @@
-//! Words that have no name yet.
+//! Words that have no name yet. The name, a type (`Naming`), keeps passes of one table from the words of another.
 ghost use Rattle.std.specs.Prelude.{◌≡◌, ◌<◌, ◌≤◌, ◌^◌, [], IfOk};
 ghost use Rattle.orc_word.specs.declared.view.Stance.TheVariants.{Supplies};
 ghost use Rattle.orc_word.specs.Views.{view_of};

@@ -1,4 +1,4 @@
-//! What a seat of the table knows.
+//! What a seat of the table knows. A *seat* is that by which the table's rule knows a pass or a supply; contracts speak of it by its view.
 use crate::bits::{Bit, Bits};
 use std::collections::LinkedList;
 

@@ -1,4 +1,4 @@
-//! The words after the end.
+//! The words after the end: the table is closed, and one thread reads them.
 ghost use Rattle.std.specs.Prelude.{◌≡◌, ◌<◌, ℕ, List, length, slice_index};
 ghost use Rattle.std.specs.Slots.{slots_items, slots_len, IsFull};
 
@@ -29,6 +29,7 @@ impl Words {
     }
 }
 
+// Written out, since a table that was closed is to be freed by a call of its own.
 impl Drop for Words {
     fn drop(self) {
         let Words { closed } = self;
