@@ -1,4 +1,4 @@
-//! What a reader knows of a cell.
+//! Notes: what a reader knows of a cell. A note is for proofs; it holds no value.
 
 ghost use Rattle.std.specs.Prelude.{◌≡◌, IfSome};
 ghost use Rattle.once_cell.specs.Once.{Agrees};
@@ -13,7 +13,7 @@ pub struct Note<T: Drop> {
 }
 
 impl<T: Drop> Note<T> {
-    /// Notes of one cell that have read have read the same. It changes nothing.
+    /// A law, for two notes of one cell: if both have read, they have read the same. It changes nothing.
     pub fn agree(&mut self, other: Note<T>)
         requires { subject other ≡ subject self.old }
         ensures same { self.new ≡ self.old }

@@ -1,4 +1,4 @@
-//! Readers of cells.
+//! Readers of cells: a reader is a cell together with its own note of it.
 
 ghost use Rattle.std.specs.Prelude.{◌≡◌};
 ghost use Rattle.orc_cell.specs.Words.{identity, subject};
@@ -6,7 +6,7 @@ ghost use Rattle.orc_cell.specs.Words.{identity, subject};
 use crate::cell::Cell;
 use crate::note::Note;
 
-/// A cell and a note of it, with one reader.
+/// A cell and a note of it, so that a contract of a reader's calls need not speak of notes.
 #[derive(Drop)]
 pub struct Reader<'c, T: Drop> {
     cell: &'c Cell<T>,
