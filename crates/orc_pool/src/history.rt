@@ -1,4 +1,5 @@
-//! The rule of a queue: the history of its pushes, pops and thefts. No value of these types is made.
+//! The rule of a queue: the history of its pushes, pops and thefts. No value of these types is made. A *port* is who has access to a queue: its
+//! owner, or a thief, who may only steal from it.
 ghost use Rattle.std.specs.Prelude.{true, false, []};
 ghost use Rattle.orc_pool.specs.History.{Kept, view_of, IsPush, IsPop, IsTheft, WasEmpty};
 
@@ -12,7 +13,7 @@ pub enum Event<T> {
     Stolen(u64, T),
 }
 
-/// What a port has seen of the history, and what it stole.
+/// What a port has seen of the history, from its start on, and all that it stole, in order. `owns` is true of the owner.
 pub struct View<T> {
     pub owns: bool,
     pub seen: LinkedList<Event<T>>,
@@ -30,12 +31,14 @@ impl<T> Protocol<T, View<T>> for OneHistory {
     ghost guest = { view_of false [] [] };
 }
 
+/// What a push tells the owner.
 pub struct Pushes;
 
 impl<T> Outcome<T, View<T>> for Pushes {
     ghost then = { IsPush };
 }
 
+/// What a pop tells the owner, with an item and without.
 pub struct Pops;
 
 impl<T> Outcome<T, View<T>> for Pops {
@@ -44,6 +47,7 @@ impl<T> Outcome<T, View<T>> for Pops {
     ghost empty = { WasEmpty };
 }
 
+/// What a theft tells the thief.
 pub struct Thefts;
 
 impl<T> Outcome<T, View<T>> for Thefts {

@@ -1,4 +1,4 @@
-//! The end of a queue that its worker owns.
+//! The end of a queue that its worker owns. It pushes and pops at this end; thieves take from the other one.
 ghost use Rattle.std.specs.Prelude.{◌≡◌, true};
 ghost use Rattle.crossbeam_deque.specs.Handles.{worker_view, worker_flavor};
 
@@ -12,6 +12,7 @@ pub(crate) type Deque<T> = Worker<T, Global, View<T>, OneHistory>;
 #[derive(Drop)]
 pub struct Own<T: Drop> {
     pub(crate) worker: Deque<T>,
+    // Its port is the owner's; and it pops what was pushed last (1 is the flavor of `lifo_as`).
     ghost owns: { (worker_view worker).owns ≡ true },
     ghost lifo: { worker_flavor worker ≡ 1 },
 }
@@ -21,6 +22,7 @@ impl<T: Drop> Own<T> {
     ghost use Rattle.orc_pool.specs.History.{IsPush, IsPop, WasEmpty};
     ghost use Rattle.orc_pool.specs.Words.{own_view, slots, pushed};
 
+    /// The end of this deque, as `lifo_as` made it.
     pub(crate) fn of(worker: Deque<T>) -> Own<T>
         requires { ((worker_view worker).owns ≡ true) × (worker_flavor worker ≡ 1) }
         ensures { result.worker ≡ worker }

@@ -1,4 +1,4 @@
-//! The queues of all workers.
+//! The queues of all workers, before each takes its own end and its rights to steal.
 ghost use Rattle.std.specs.Prelude.{◌≡◌, ◌≤◌, true, []};
 ghost use Rattle.std.specs.Option.{ForSome};
 ghost use Rattle.crossbeam_deque.specs.Handles.{worker_view, worker_deque, worker_capacity, worker_index, stealer_deque};
@@ -11,7 +11,7 @@ use std::alloc::{AllocError, Global};
 /// The slots that a queue begins with.
 const SLOTS: usize = 64;
 
-/// One queue: its end, until its worker takes it, and the stealer that each thief gets a copy of.
+/// One queue: its end, until its worker takes it, and the stealer of which each thief gets a copy.
 #[derive(Drop)]
 pub struct Lane<T: Drop> {
     pub(crate) own: Option<Own<T>>,
@@ -22,6 +22,7 @@ pub struct Lane<T: Drop> {
 impl<T: Drop> Lane<T> {
     ghost use Rattle.std.specs.Prelude.{IfOk, is_some};
 
+    // A queue that is empty. The error is refused memory.
     fn new(alloc: Global) -> Result<Lane<T>, AllocError>
         ensures { IfOk result (λ lane. is_some lane.own ≡ true) }
     {

@@ -8,13 +8,14 @@ use std::alloc::Global;
 
 pub(crate) type Thief<T> = Stealer<T, Global, View<T>, OneHistory>;
 
-/// How often a theft that met another call is tried again. Each time another theft or pop has had success.
+/// How often a theft that met another call is tried again, so that the loop has a bound. Each time another theft or pop has had success.
 const TRIES: u32 = 1_048_576;
 
 /// The right to steal from a queue.
 #[derive(Drop)]
 pub struct Theft<T: Drop> {
     pub(crate) stealer: Thief<T>,
+    // What this thief knows of the history. It is the deque's pass, and no pass to a group.
     pub(crate) pass: Pass<T, View<T>>,
     ghost of: { IsPassOf (stealer_deque stealer) pass },
     ghost guest: { (view pass).owns ≡ false },
@@ -25,6 +26,7 @@ impl<T: Drop> Theft<T> {
     ghost use Rattle.orc_pool.specs.History.{IsTheft, view_of};
     ghost use Rattle.orc_pool.specs.Words.{theft_view};
 
+    /// A right to steal that has stolen nothing.
     pub(crate) fn by(stealer: Thief<T>) -> Theft<T>
         ensures { (stealer_deque result.stealer ≡ stealer_deque stealer) × (theft_view result ≡ view_of false [] []) }
     {

@@ -1,4 +1,5 @@
-//! A worker's side of the queues: the end of its own one, and the rights to steal from all of them.
+//! A worker's side of the queues: the end of its own one, and the rights to steal from all of them. It has one to steal from its own too, since only
+//! a theft takes what was pushed first.
 ghost use Rattle.std.specs.Prelude.{◌≡◌, ◌≤◌, ◌+◌, [], ◌∷◌, length, map, IfOk, MatchResult, MatchOption};
 ghost use Rattle.orc_pool.specs.History.{IsPush, WasEmpty};
 ghost use Rattle.orc_pool.specs.Words.{own_view, names, pushed, slots, theft_name};
@@ -35,6 +36,7 @@ impl<T: Drop> WorkerQueue<T> {
         ensures own { self.new.own ≡ self.old.own }
         ensures theft { MatchOption result (stolen_views self.new ≡ stolen_views self.old) (λ task. IsStolen self.old task self.new) }
     {
+        // Never so: there is a right to steal from each queue. The type doesn't say so.
         if self.at >= self.thefts.len() {
             return None;
         }
@@ -44,8 +46,8 @@ impl<T: Drop> WorkerQueue<T> {
         None
     }
 
-    /// The next task: the one that was pushed last of those in its own queue, or else the first one of another queue, of which the next one is asked first.
-    /// None only where its own queue was empty at one moment of the call.
+    /// The next task: the one that was pushed last of those in its own queue, or else the first one of another queue, of which the next one is asked
+    /// first. None only where its own queue was empty at one moment of the call.
     pub fn next(&mut self) -> Option<T>
         ensures rule { MatchOption result (WasEmpty (own_view self.old.own) × (own_view self.new.own ≡ own_view self.old.own) × (stolen_views self.new ≡ stolen_views self.old)) (λ task. IsTaken self.old task self.new) }
         ensures slots { (pushed self.new.own ≤ pushed self.old.own) × (slots self.old.own ≤ slots self.new.own) }
@@ -53,6 +55,7 @@ impl<T: Drop> WorkerQueue<T> {
         if let Some(task) = self.own.pop() {
             return Some(task);
         }
+        // Each worker begins with the queue behind its own, so that not all steal from the same one.
         let count = self.thefts.len();
         for step in 1..count {
             if let Some(task) = self.thefts[(self.at % count + step) % count].steal() {
@@ -71,6 +74,7 @@ pub fn worker_queues<T: Drop>(
     ensures { IfOk result (λ worker_queues. AreDealt count worker_queues.items) }
 {
     let mut queues = Queues::new(alloc, count)?;
+    // Own ends and rights are there for each `at` under `count`, so neither of the calls below gives none.
     let mut worker_queues = Vec::with_capacity(alloc, count)?;
     for at in 0..count {
         let thefts = thefts_of(alloc, &queues, count)?;
