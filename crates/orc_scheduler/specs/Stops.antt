@@ -22,6 +22,7 @@ use Rattle.orc_scheduler.specs.declared.scheduler.Turn.TheVariants as turn
 
 -- ---- how far a run is
 
+-- how many groups are open
 abbrev pub open_groups : Records → ℕ
 open_groups s = weight (λ (g : Group). 1) s.groups
 
@@ -52,6 +53,7 @@ IsNearer s n s' n' = Advances s s' ⊎ ((s' ≡ s) × (n' < n))
 abbrev pub HasSpread : Records → ℕ → Records → ℕ → Type 0
 HasSpread s n s' n' = Advances s s' ⊎ ((s' ≡ s) × (n' ≤ n))
 
+-- a turn: the run is nearer its end; where none was left, nothing has changed but that tokens which are gone have no turn
 abbrev pub HasTurned : Records → ℕ → Records → ℕ → Turn → Type 0
 HasTurned s n s' n' turn.Rests = (s' ≡ s) × (n' ≤ n)
 HasTurned s n s' n' _ = IsNearer s n s' n'

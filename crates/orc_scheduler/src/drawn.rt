@@ -1,4 +1,4 @@
-//! Turns in another order: a token's or a call's, as it draws them.
+//! Turns in a run with an order (`--order`): it draws whose turn comes, that of a token or of a call that is due.
 
 ghost use Rattle.std.specs.Prelude.{◌≡◌, ◌≤◌, ◌<◌, true, false, IfOk, IfErr};
 ghost use Rattle.std.specs.VecDeque.{deque_len};
@@ -35,6 +35,7 @@ impl<P: Run> Scheduler<P> {
         ensures stops { IfErr result (λ stop. Stops P.listing self.new.ledger stop) }
     {
         self.settle(inputs);
+        // A call that was drawn may be gone: then another turn is drawn, at most once for each call.
         for _ in 0..self.ready.call_count().saturating_add(1) {
             match self.ready.draw(&self.ledger) {
                 Some(Drawn::Token(handle)) => {
@@ -52,7 +53,7 @@ impl<P: Run> Scheduler<P> {
         Ok(Turn::Rests)
     }
 
-    // Tokens whose next step somebody outside sees wait until they are drawn, as far as they came last.
+    // Settles the tokens that came last, until one's next step is seen by nobody outside, or it is gone: that one goes on without a draw.
     fn settle(&mut self, inputs: &Inputs<'_, P>)
         ensures same { self.new.ledger ≡ self.old.ledger }
         ensures as_many { deque_len self.new.ready.handles ≡ deque_len self.old.ready.handles }
@@ -86,6 +87,7 @@ impl<P: Run> Scheduler<P> {
         let Some(call) = self.ledger.pending(number) else {
             return Ok(false);
         };
+        // What the table found for the call: an answer and its delay, or never.
         let Found::After(answer, _) = call.found else {
             return Ok(false);
         };
@@ -123,6 +125,7 @@ impl<P: Run> Scheduler<P> {
                 Ok(Step::Done)
             }
             Err(fault) => {
+                // A law: where the ledger was full its journal shows that it can have been, as `Stops` asks. Nothing runs.
                 self.ledger.full_is_crowded();
                 Err(Stop::Refused(fault))
             }
@@ -140,6 +143,7 @@ impl<P: Run> Scheduler<P> {
         }
     }
 
+    // The call with this number has a turn.
     fn note_call(&mut self, number: u64) -> Result<(), Stop>
         ensures same { self.new.ledger ≡ self.old.ledger }
         ensures memory { IfErr result (λ stop. stop ≡ Stop.Refused LedgerFault.Memory) }

@@ -92,7 +92,8 @@ impl<P: Run> Scheduler<P> {
         }
     }
 
-    // How a run ends for which one of the engine's limits is reached. The fault is Broken where none can have been.
+    // How a run ends for which one of the engine's limits is reached. The journal tells whether one can have been; the fault is Broken where none
+    // can.
     fn crowded(&mut self, inputs: &Inputs<'_, P>) -> Result<Option<End>, EngineFault>
         ensures ended { IfOk result (λ end. MatchOption end (P.keeps ≡ false) (HasEnded P.listing inputs.now.answers.now self.new.ledger)) }
         ensures range { IfErr result (λ fault. fault ≡ EngineFault.Range → ⊥) }
@@ -120,6 +121,7 @@ impl<P: Run> Scheduler<P> {
         if self.ledger.entries() < self.ledger.limit() {
             return Err(EngineFault::Broken);
         }
+        // A law: it shows the prover what the journal is, for the clause *ended*. Nothing runs.
         self.ledger.is_whole();
         match next {
             Next::Quiet => return Ok(Some(End::Quiet)),

@@ -13,13 +13,13 @@ pub enum EngineFault {
     Range,
     /// Memory was refused before the run began, or for what is told of it.
     Memory,
-    /// Several workers found nothing to do where something was left. No run is known to end so.
+    /// The engine is to blame: its workers found nothing to do where something was left. No run is known to end so.
     Broken,
     /// The sites answered the call with this number otherwise than the table says, or not when it was due.
     Site(u64),
 }
 
-// Its code, and the call if it is of one.
+// Its code, as docs/orc.md (*Faults*) lists them, and the call if it is of one.
 impl fmt::Display for EngineFault {
     ghost output = { λ f. Some (engine_line f) };
 
@@ -36,7 +36,7 @@ impl fmt::Display for EngineFault {
 impl Error for EngineFault {}
 
 impl EngineFault {
-    /// The process's status at this fault.
+    /// The process's status at this fault: 5 where memory was refused, else 7.
     pub fn status(self) -> u8
         ensures { result ≡ engine_status self }
     {

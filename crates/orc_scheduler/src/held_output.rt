@@ -1,4 +1,4 @@
-//! What is held back of a call's run of which the value alone is wanted.
+//! What is held back of a sub-run whose value alone is wanted: it may not publish, since a `>x>` or a side encloses its call.
 
 /// What a run holds back that is made apart, and whether something can come of it.
 #[derive(Clone, Copy)]
@@ -7,6 +7,7 @@ pub(crate) struct Holding {
     is_on: bool,
     // The slot of the token that is held back on a value.
     last: Option<usize>,
+    // Whether the run can't be used any more.
     is_vain: bool,
 }
 

@@ -1,4 +1,5 @@
-//! Where no token has its turn: answers that are due, ticks, and what the ledger finds. Calls are answered by their numbers.
+//! What comes where no token's turn comes: answers that are due, ticks, and what the ledger finds. Calls that are due at once are answered in the
+//! order of their numbers.
 
 ghost use Rattle.std.specs.Prelude.{◌≡◌, ◌≤◌, true, false, IfOk, IfErr};
 ghost use Rattle.std.specs.VecDeque.{deque_len};
@@ -45,6 +46,7 @@ impl<P: Run> Scheduler<P> {
         }
         match self.ledger.empty_group() {
             Some(group) => self.close_from(group),
+            // By the clauses *due* and *work*: no call is due and no token can move, so a group is empty.
             None => unreachable!(),
         }
     }
@@ -59,7 +61,7 @@ impl<P: Run> Scheduler<P> {
         match self.step(inputs, slot, token)? {
             Step::On(next) => self.join_held(next),
             Step::Done => Ok(()),
-            // In a program that the scope check took each call of a definition has its arguments.
+            // In a program that the scope check accepted each call of a definition has its arguments, so a token that doesn't wait moves.
             Step::Waits => Err(Stop::Broken),
         }
     }
@@ -116,6 +118,7 @@ impl<P: Run> Scheduler<P> {
         ensures stops { IfErr result (λ stop. Stops P.listing self.new.ledger stop) }
     {
         let next = self.ledger.next(inputs);
+        // A law: it shows the prover what the journal is, for the clause *stops*. Nothing runs.
         self.ledger.is_whole();
         match next {
             Next::Ticks(time) => match self.ledger.tick(time) {

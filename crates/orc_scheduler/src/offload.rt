@@ -1,4 +1,5 @@
-//! What is shared out of a run: calls of definitions that others run apart, and what comes of them.
+//! What is shared out of a run: calls of definitions that others run apart, and what comes of them. First tokens are *spread*: each goes on to its
+//! next call of a definition. Then those calls are listed as jobs, and what came of each is taken in.
 
 ghost use Rattle.std.specs.Prelude.{◌≡◌, true, false, IfOk, IfErr};
 ghost use Rattle.std.specs.VecDeque.{deque_len};
@@ -21,17 +22,18 @@ const EACH: usize = 40;
 /// The most rounds of turns in which tokens are spread.
 const ROUNDS: usize = 1_000;
 
-/// Tokens aren't spread where so many sides are open: together they open more than one that goes to its end, and there may be `MOST_GROUPS`.
+/// Tokens aren't spread where so many sides are open: tokens that go on together keep more sides open than one that goes to its end, and a run is
+/// full at `MOST_GROUPS`.
 const MOST_SIDES: usize = MOST_GROUPS / 2;
 
-/// Tokens to which so many moves more have led go on in one round with those to which the fewest have.
+/// In a round go on those tokens to which the fewest moves have led, and those with up to so many more.
 const NEAR: u32 = 2;
 
 /// So many more turns, from one call of a definition to the next, have the tokens that come of one.
 const BETWEEN: usize = 4;
 
-/// Jobs are listed by every 16th token: from the oldest one first, then from the 9th oldest, from the 5th, and so on, by `ORDER`. So each stretch of the
-/// list, and the samples are its first ones, mixes tokens that came early, whose runs are mostly the longest, with some that came late.
+/// Jobs are listed by every 16th token: from the oldest one first, then from the 9th oldest, from the 5th, and so on, by `ORDER`. So each stretch of
+/// the list, and the samples are its first ones, mixes tokens that came early, whose runs are mostly the longest, with some that came late.
 const STRIDE: usize = 16;
 
 const ORDER: [usize; STRIDE] = [0, 8, 4, 12, 2, 10, 6, 14, 1, 9, 5, 13, 3, 11, 7, 15];
@@ -42,8 +44,8 @@ impl<P: Run> Scheduler<P> {
         self.ledger.limit().saturating_sub(self.ledger.entries())
     }
 
-    /// Tokens go on to their next calls of definitions, until `wanted` of them stand ready or `EACH` entries were made for each of these. Those go first to
-    /// which the fewest moves have led: of a tree of calls all that stand ready then are about as deep, and have runs much of one length.
+    /// Tokens go on to their next calls of definitions, until `wanted` of them stand ready or `EACH` entries were made for each of these. Those go
+    /// first to which the fewest moves have led: of a tree of calls all that stand ready then are about as deep, and have runs much of one length.
     pub fn spread(&mut self, inputs: &Inputs<'_, P>, wanted: usize) -> Result<(), Stop>
         ensures spread { IfOk result (λ _. HasSpread self.old.ledger (deque_len self.old.ready.handles) self.new.ledger (deque_len self.new.ready.handles)) }
         ensures stops { IfErr result (λ stop. Stops P.listing self.new.ledger stop) }
@@ -57,14 +59,15 @@ impl<P: Run> Scheduler<P> {
             let fewest = self.ready.fewest_moves();
             self.spread_once(inputs, fewest.saturating_add(NEAR))?;
         }
+        // With 0 each token stays that stands at a call, unless no move has led to it: those between two calls go on.
         for _turn in 0..BETWEEN {
             self.spread_once(inputs, 0)?;
         }
         Ok(())
     }
 
-    // Each token to which so many moves have led at most goes on to its next call of a definition, and each that doesn't stand at one, as long as few sides
-    // are open.
+    // Each token to which so many moves have led at most goes on to its next call of a definition, and each that doesn't stand at one, as long as few
+    // sides are open.
     fn spread_once(&mut self, inputs: &Inputs<'_, P>, moves: u32) -> Result<(), Stop>
         ensures spread { IfOk result (λ _. HasSpread self.old.ledger (deque_len self.old.ready.handles) self.new.ledger (deque_len self.new.ready.handles)) }
         ensures stops { IfErr result (λ stop. Stops P.listing self.new.ledger stop) }
@@ -82,7 +85,7 @@ impl<P: Run> Scheduler<P> {
         Ok(())
     }
 
-    // Whether the token that has waited longest stands at a call of a definition, and more than so many moves have led to it.
+    // Whether the token that has waited longest is to stay: it stands at a call of a definition, and more than so many moves have led to it.
     fn is_oldest_settled(&self, graph: &Graph, moves: u32) -> bool {
         let Some(handle) = self.ready.oldest() else {
             return false;
@@ -93,9 +96,9 @@ impl<P: Run> Scheduler<P> {
         }
     }
 
-    /// The calls of definitions with values at which tokens stand whose turn comes, of those that race each other or of the others, `MOST_JOBS` of them at
-    /// most, in a fixed order, in which the first ones are samples of all. Behind these, of those that race that stands first which would have its turn first:
-    /// the others may be in vain. Else tokens that came one after another stand apart. The error is refused memory.
+    /// The calls of definitions with values at which tokens stand whose turn comes, of those that race each other or of the others, `MOST_JOBS` of
+    /// them at most, in a fixed order, in which the first ones are samples of all. Behind these, of those that race that stands first which would
+    /// have its turn first: the others may be in vain. Else tokens that came one after another stand apart. The error is refused memory.
     pub fn jobs(
         &self,
         inputs: &Inputs<'_, P>,
@@ -123,7 +126,8 @@ impl<P: Run> Scheduler<P> {
         Ok(jobs)
     }
 
-    // Adds the call at which the token in that place stands, from the one that has waited longest, if it is one of those that are asked for, and there is room.
+    // Adds the call at which the token in that place stands, from the one that has waited longest, if it is one of those that are asked for, and
+    // there is room.
     fn add_job(
         &self,
         inputs: &Inputs<'_, P>,
@@ -157,8 +161,8 @@ impl<P: Run> Scheduler<P> {
         group == 0 || self.ledger.member_count(group) == 1
     }
 
-    /// Takes in what came of the call at which a token stood, if it stands there still. If that is a value, the turn of the token on it comes; if it is
-    /// nothing, and nobody else is in the token's side, that halts. Whether it was taken in.
+    /// Takes in what came of the call at which a token stood, if it stands there still. If that is a value, the turn of the token on it comes; if it
+    /// is nothing, and nobody else is in the token's side, that halts. Whether it was taken in.
     pub fn append_sub_run(
         &mut self,
         inputs: &Inputs<'_, P>,

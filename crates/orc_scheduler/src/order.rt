@@ -1,4 +1,4 @@
-//! Other orders of turns, one for each number.
+//! Other orders of turns, one for each number: what `--order N` runs.
 
 ghost use Rattle.std.specs.Prelude.{◌<◌};
 
@@ -10,7 +10,7 @@ use std::alloc::{AllocError, Global};
 /// How many more tokens and calls are drawn for a turn where some go before others.
 const RIVALS: u32 = 7;
 
-/// What makes the name of a slot another one than that of a node.
+/// Makes the name of a slot, for a rank, another one than that of a node, which has fewer than 32 bits.
 const ON_VALUE: u64 = 1 << 32;
 
 /// So many turns that nobody outside sees may follow one another before one is drawn.
@@ -18,16 +18,19 @@ const UNSEEN: u32 = 64;
 
 /// An order in which turns come: numbers without a pattern say whose is next.
 ///
-/// Tokens whose next step nobody outside sees go on at once: such steps commute with all others. So a turn is drawn among those that publish, bind or call
-/// a script's site next, and the calls that are due. In an even order all are alike, so that their moves mix. In an odd one each place of the program and
-/// each call has a rank, and of eight that are drawn the one with the highest goes on: so one part may be far ahead of another. One turn in sixteen gives
-/// other ranks.
-/// After Burckhardt, Kothari, Musuvathi and Nagarakatte (2010), who show that few changes of ranks find most of what hangs on an order.
+/// Tokens whose next step nobody outside sees go on at once: such steps commute with all others. So a turn is drawn among those that publish, bind or
+/// call a script's site next, and the calls that are due. In an even order all are alike, so that their moves mix. In an odd one each place of the
+/// program and each call has a rank, and of eight that are drawn the one with the highest goes on: so one part may be far ahead of another. One turn
+/// in sixteen gives other ranks. After Burckhardt, Kothari, Musuvathi and Nagarakatte (2010), who show that few changes of ranks find most of what
+/// hangs on an order.
 #[derive(Drop)]
 pub(crate) struct Order {
     numbers: SplitMix64,
+    // The number that was drawn last.
     last: u64,
+    // What the ranks are made of: other bits give other ranks.
     ranks: u64,
+    // Whether some go before others: in odd orders.
     is_ranked: bool,
     // So many of the first tokens are known to have a step next that somebody outside sees.
     pub(crate) settled: usize,
@@ -51,7 +54,7 @@ impl Order {
         }
     }
 
-    /// Draws a place among so many.
+    /// Draws a place among so many, from 0; 0 where there is none.
     pub(crate) fn draw(&mut self, count: usize) -> usize
         ensures { 0 < count → result < count }
     {
@@ -65,6 +68,7 @@ impl Order {
         if !self.is_ranked {
             return 0;
         }
+        // The one turn in sixteen, by high bits: the low ones have told the place.
         if (self.last >> 32) % 16 == 0 {
             self.ranks = self.last;
         }
@@ -82,16 +86,19 @@ impl Order {
     /// The rank of the call in a place among those that came due.
     pub(crate) fn rank_of_call(&self, place: usize) -> u64 {
         match self.calls.get(place) {
+            // From the other end of the numbers, so that no call has the name of a node or a slot.
             Some(number) => self.rank_of(u64::MAX - *number),
             None => 0,
         }
     }
 
+    // A number without a pattern that the name and `ranks` fix.
     fn rank_of(&self, name: u64) -> u64 {
         SplitMix64::seed_from_u64(self.ranks ^ name).next_u64()
     }
 
-    /// Whether one of so many tokens goes on without a draw. After `UNSEEN` turns one is drawn, so that a token whose steps nobody ever sees starves none.
+    /// Whether one of so many tokens goes on without a draw. After `UNSEEN` turns one is drawn, so that a token whose steps nobody ever sees starves
+    /// none.
     pub(crate) fn goes_unseen(&mut self, count: usize) -> bool {
         if self.settled < count && self.unseen < UNSEEN {
             self.unseen += 1;

@@ -1,4 +1,4 @@
-//! Whether a run is quiet, by the rules alone.
+//! Whether a run is quiet, by the rules alone: the one place where an engine asks the checker.
 
 ghost use Rattle.std.specs.Prelude.{◌≡◌, ◌↔◌, true, IfSome};
 ghost use Rattle.orc_rules.specs.Nodes.{source};
@@ -12,7 +12,8 @@ use orc_rules::answers::Answers;
 use orc_rules::program::Program;
 use std::alloc::Global;
 
-/// Whether a run with this journal is quiet, by the rules alone: each entry is applied to the marked term. None where memory is refused.
+/// Whether a run with this journal is quiet, by the rules alone: each entry is applied to the marked term. None where memory is refused, or an entry,
+/// which no journal of a ledger has.
 pub(crate) fn is_quiet_at(
     alloc: Global,
     program: &Program,

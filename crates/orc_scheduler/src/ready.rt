@@ -1,4 +1,4 @@
-//! The tokens whose turn comes.
+//! The run queue: the tokens whose turn comes.
 
 ghost use Rattle.std.specs.Prelude.{◌≡◌, ◌≤◌, ◌<◌, ◌+◌, MatchOption};
 ghost use Rattle.std.specs.VecDeque.{deque_len};
@@ -9,7 +9,7 @@ use orc_ledger::{Ledger, Run};
 use std::alloc::{AllocError, Global};
 use std::collections::VecDeque;
 
-/// A token by its slot. The serial tells whether the slot still holds it.
+/// A token by its slot in the ledger. The serial, which begins with 1 and is never used again, tells whether the slot still holds it.
 #[derive(Clone, Copy)]
 pub struct Handle {
     pub(crate) slot: usize,
@@ -18,7 +18,7 @@ pub struct Handle {
     pub(crate) moves: u32,
 }
 
-/// Of how many turns one is that of the token which has waited longest.
+/// One turn in so many is that of the token which has waited longest.
 const ROUND: u64 = 64;
 
 /// So often a token goes on in its turn, each time as far as the ledger takes it in one go.
@@ -28,8 +28,11 @@ pub(crate) const MOVES: u32 = 64;
 /// token which has waited longest, so that none is starved. Where an order is set, it says whose turn it is.
 #[derive(Drop)]
 pub struct Ready {
+    /// The one that has waited longest is first. A handle may be of a token that is gone.
     pub handles: VecDeque<Handle>,
+    // How many turns there were.
     turns: u64,
+    // Says whose turn it is in a run with `--order`; none in others.
     order: Option<Order>,
 }
 
@@ -58,6 +61,7 @@ fn rank_at<P: Run>(
 }
 
 impl Ready {
+    /// No token's turn comes, and no order is set.
     pub(crate) fn new(alloc: Global) -> Ready {
         Ready {
             handles: VecDeque::new(alloc),
@@ -73,6 +77,7 @@ impl Ready {
         self.order = Some(order);
     }
 
+    /// How many tokens have a turn that comes.
     pub(crate) fn len(&self) -> usize
         ensures { result ≡ deque_len self.now.handles }
     {
@@ -139,6 +144,7 @@ impl Ready {
     pub(crate) fn take(&mut self, spreads: bool) -> Option<Handle>
         ensures { MatchOption result (deque_len self.new.handles ≤ deque_len self.old.handles) (λ _. deque_len self.new.handles + 1 ≡ deque_len self.old.handles) }
     {
+        // No run has 2^64 turns; the prover isn't told so, and nothing hangs on the number.
         self.turns = self.turns.wrapping_add(1);
         if spreads || self.turns % ROUND == 0 {
             self.handles.pop_front()
@@ -171,7 +177,7 @@ impl Ready {
         }
     }
 
-    /// The token that came last of those of which it isn't known whether somebody outside sees their next step.
+    /// The token that came last, if there is an order and it isn't known yet whether somebody outside sees its next step.
     pub(crate) fn newest_unsettled(&self) -> Option<Handle> {
         let Some(order) = &self.order else {
             return None;
@@ -183,7 +189,7 @@ impl Ready {
         }
     }
 
-    /// Somebody outside sees the next step of the token that came last.
+    /// Notes that somebody outside sees the next step of the token that came last: it goes to the settled ones, which are first.
     pub(crate) fn settle_newest(&mut self)
         ensures { deque_len self.new.handles ≡ deque_len self.old.handles }
     {
@@ -197,7 +203,7 @@ impl Ready {
         }
     }
 
-    /// Whose turn the order draws: that of a token, which is taken, or of a call.
+    /// Whose turn the order draws: that of a token or of a call, which is taken. None where there is no order, or nobody to draw.
     pub(crate) fn draw<P: Run>(&mut self, ledger: &Ledger<P>) -> Option<Drawn>
         ensures { HasDrawn result (deque_len self.old.handles) (deque_len self.new.handles) }
     {
@@ -211,6 +217,7 @@ impl Ready {
                 None => None,
             };
         }
+        // Places count tokens first, then the calls that are due.
         let count = tokens.saturating_add(order.calls.len());
         let mut at = order.draw(count);
         for _ in 0..order.rivals() {
@@ -222,6 +229,8 @@ impl Ready {
         }
         match self.handles.swap_remove_back(at) {
             Some(handle) => {
+                // The last token has taken the drawn one's place. If `UNSEEN` turns have gone by it may not be settled; it waits for a draw all the
+                // same then.
                 order.settled = order.settled.min(self.handles.len());
                 Some(Drawn::Token(handle))
             }

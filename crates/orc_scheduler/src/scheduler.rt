@@ -1,4 +1,5 @@
-//! The records of a run and what is done with them: tokens have their turns, calls are made, groups halt.
+//! The records of a run and what is done with them: tokens have their turns, calls are made, groups halt. Each call that goes on brings the run
+//! nearer its end (`IsNearer`, `Advances`), and each stop has a cause (`Stops`, both in `specs/Stops.antt`).
 
 ghost use Rattle.std.specs.Prelude.{◌≡◌, ◌≤◌, ◌<◌, ◌+◌, ◌^◌, ℕ, true, false, IfOk, IfErr, IfSome, IfNone, OnErr};
 ghost use Rattle.std.specs.VecDeque.{deque_len};
@@ -32,6 +33,7 @@ use std::alloc::Global;
 /// What a turn has come to.
 #[derive(Clone, Copy)]
 pub(crate) enum Turn {
+    /// A token moved or was found gone, or a call was answered.
     Went,
     /// No token is left whose turn comes.
     Rests,
@@ -46,6 +48,7 @@ pub enum Stop {
     Quiet,
     /// An entry was refused, or memory for what is noted of it.
     Refused(LedgerFault),
+    /// Something is left, and nobody found what to do. No run of a program that the scope check accepted stops so on one worker.
     Broken,
     /// The call with this number was answered otherwise than the table says.
     Site(u64),
@@ -79,15 +82,15 @@ pub struct Scheduler<P: Run> {
     pub(crate) keeps: bool,
     pub ready: Ready,
     waiting: Waiting,
-    // Whether a token goes through a `>x>` in one go.
+    // Whether a token enters a `>x>` and goes through it in one go, by `feed_through`. Not so in an order.
     goes_through: bool,
     // Whether a token's turn ends at the next call of a definition, and the one that has waited longest goes first.
     pub(crate) spreads: bool,
     // How many moves have led to the token whose turn it is, one after another.
     moves: u32,
-    // What a part holds back.
+    // What is held back of a sub-run.
     pub(crate) holding: Holding,
-    // Lent to the ledger's calls.
+    // Four lists that the ledger's calls fill. They stay here so that their memory is used again.
     scopes: Vec<StoredScope>,
     cancelled: Vec<u64>,
     cells: Vec<u64>,
@@ -145,8 +148,8 @@ impl<P: Run> Scheduler<P> {
         }
     }
 
-    /// From now on the order with this number says whose turn it is, and each move is an entry: so the moves that the rules leave free come in another
-    /// order.
+    /// From now on the order with this number says whose turn it is, and no token goes through a `>x>` in one go: so the steps that the rules leave
+    /// free come in another order.
     pub fn follow(&mut self, number: u64)
         ensures ledger { self.new.ledger ≡ self.old.ledger }
         ensures ready { self.new.ready.handles ≡ self.old.ready.handles }
@@ -155,6 +158,7 @@ impl<P: Run> Scheduler<P> {
         self.goes_through = false;
     }
 
+    /// The ledger; the rest is dropped.
     pub(crate) fn into_ledger(self) -> Ledger<P>
         ensures { result ≡ self.ledger }
     {
@@ -182,7 +186,7 @@ impl<P: Run> Scheduler<P> {
         ledger
     }
 
-    /// The first token's turn comes.
+    /// The first token's turn comes: it has serial 1, in slot 0. The error is refused memory.
     pub fn begin(&mut self) -> Result<(), Stop>
         ensures same { self.new.ledger ≡ self.old.ledger }
         ensures memory { IfErr result (λ stop. stop ≡ Stop.Refused LedgerFault.Memory) }
@@ -190,6 +194,7 @@ impl<P: Run> Scheduler<P> {
         self.join(0, 1)
     }
 
+    // The turn of the token with this serial comes. The error is refused memory.
     fn join(&mut self, slot: usize, serial: u64) -> Result<(), Stop>
         ensures same { self.new.ledger ≡ self.old.ledger }
         ensures memory { IfErr result (λ stop. stop ≡ Stop.Refused LedgerFault.Memory) }
@@ -204,8 +209,8 @@ impl<P: Run> Scheduler<P> {
         }
     }
 
-    /// A token's turn or, where no token's turn comes, what else comes next. So a run is nearer its end each time: its entries are more, or as many and its
-    /// groups fewer, or as many and the turns that come fewer.
+    /// A token's turn or, where no token's turn comes, what else comes next. So a run is nearer its end each time: its entries are more, or as many
+    /// and its groups fewer, or as many and the turns that come fewer.
     pub fn go(&mut self, inputs: &Inputs<'_, P>) -> Result<(), Stop>
         ensures nearer { IfOk result (λ _. IsNearer self.old.ledger (deque_len self.old.ready.handles) self.new.ledger (deque_len self.new.ready.handles)) }
         ensures within { self.new.ledger.entries ≤ self.new.ledger.limit }
@@ -217,6 +222,7 @@ impl<P: Run> Scheduler<P> {
             Ok(Turn::Rests) => self.rest(inputs),
             Err(stop) => Err(stop),
         };
+        // Both show the prover a clause, *within* and *few*, which hold of any scheduler. Nothing comes of them.
         self.ledger.is_whole();
         let _ready = self.ready.len();
         went
@@ -233,13 +239,14 @@ impl<P: Run> Scheduler<P> {
             Ok(Turn::Rests) => Ok(false),
             Err(stop) => Err(stop),
         };
+        // As in `go`: the clauses *within* and *few*.
         self.ledger.is_whole();
         let _ready = self.ready.len();
         went
     }
 
-    /// The turn of a token: it moves until it is gone, waits, or has made its moves. Between two rounds that of a call which is due: else tokens that move
-    /// on and on would starve it.
+    /// The turn of a token: it moves until it is gone, waits, or has made its moves. Between two rounds of 64 turns that of a call which is due: else
+    /// tokens that move on and on would starve it.
     pub(crate) fn turn(&mut self, inputs: &Inputs<'_, P>) -> Result<Turn, Stop>
         ensures turned { IfOk result (λ turn. HasTurned self.old.ledger (deque_len self.old.ready.handles) self.new.ledger (deque_len self.new.ready.handles) turn) }
         ensures stops { IfErr result (λ stop. Stops P.listing self.new.ledger stop) }
@@ -290,8 +297,8 @@ impl<P: Run> Scheduler<P> {
         self.join(slot, token.serial)
     }
 
-    // Whether a token that has moved goes on in a later turn: where tokens spread at the next call of a definition, and in an order at the next step that
-    // somebody outside sees.
+    // Whether a token that has moved goes on in a later turn: where tokens spread at the next call of a definition, and in an order at the next step
+    // that somebody outside sees.
     #[inline(always)]
     fn is_turn_over(&self, inputs: &Inputs<'_, P>, token: &Token) -> bool {
         if self.spreads {
@@ -327,6 +334,7 @@ impl<P: Run> Scheduler<P> {
     pub(crate) fn token_of(&self, handle: Handle) -> Option<Token>
         ensures { IfSome result (λ token. IsHeld self.now.ledger.slots handle.slot token) }
     {
+        // No token has serial 0, and the ledger isn't to be asked for it.
         if handle.serial < 1 {
             return None;
         }
@@ -393,6 +401,7 @@ impl<P: Run> Scheduler<P> {
         ensures waits { IfOk result (λ step. step ≡ Step.Waits → IsProgram (definitions P.listing) (source P.listing) → is_wait (what_of (code P.listing) (definitions P.listing) self.old.ledger token) ≡ true) }
         ensures stops { IfErr result (λ stop. Stops P.listing self.new.ledger stop) }
     {
+        // A law, for the clause *waits*: in a program that the scope check accepted each call of a definition has its arguments. Nothing runs.
         calls_fit(&self.ledger);
         match self.pass(inputs, slot, token) {
             Ok(Moved::On) => Ok(Step::On(slot)),
@@ -416,15 +425,16 @@ impl<P: Run> Scheduler<P> {
                 Ok(Step::Waits)
             }
             Err(fault) => {
+                // A law, here and below: where the ledger was full its journal shows that it can have been, as `Stops` asks. Nothing runs.
                 self.ledger.full_is_crowded();
                 Err(Stop::Refused(fault))
             }
         }
     }
 
-    // One move of a token at a call, at `f | g`, at `stop` or at `f >x> g`, which it enters and goes through in one go, in place of `pass_on`, which is slower,
-    // since it tells of a move of any kind. None, which changes nothing, where the token stands elsewhere, where it can't move, and at a call of a site or at
-    // `f >x> g` where each move is to be an entry.
+    // One move of a token at a call, at `f | g`, at `stop` or at `f >x> g`, which it enters and goes through in one go, in place of `pass_on`, which
+    // is slower, since it tells of a move of any kind. None, which changes nothing, where the token stands elsewhere, where it can't move, and in an
+    // order at a call of a site or at `f >x> g`.
     #[inline(always)]
     fn step_at(
         &mut self,
@@ -531,7 +541,7 @@ impl<P: Run> Scheduler<P> {
         }
     }
 
-    // A token moves once.
+    // A token moves once, by the ledger; nothing is noted of it here.
     #[inline(always)]
     fn pass(
         &mut self,
@@ -637,6 +647,7 @@ impl<P: Run> Scheduler<P> {
         Ok(())
     }
 
+    // The turns of those that wait for this cell come. The error is refused memory.
     fn wake(&mut self, cell: u64) -> Result<(), Stop>
         ensures same { self.new.ledger ≡ self.old.ledger }
         ensures memory { IfErr result (λ stop. stop ≡ Stop.Refused LedgerFault.Memory) }
@@ -647,7 +658,7 @@ impl<P: Run> Scheduler<P> {
         }
     }
 
-    /// A group that has no members any more ends, and so do those round it.
+    /// A group that has no members any more ends, and so do those that enclose it. The program's own, group 0, is left to the run's end.
     #[inline(always)]
     pub(crate) fn close(&mut self, group: u32) -> Result<(), Stop>
         ensures goes { IfOk result (λ _. Goes self.old.ledger self.new.ledger) }
@@ -659,7 +670,7 @@ impl<P: Run> Scheduler<P> {
         self.close_from(group)
     }
 
-    /// The group ends if it is open and has no members, and then so do those round it.
+    /// The group ends if it is open and has no members, and then so do those that enclose it.
     #[inline(never)]
     pub(crate) fn close_from(&mut self, group: u32) -> Result<(), Stop>
         ensures goes { IfOk result (λ _. Goes self.old.ledger self.new.ledger) }

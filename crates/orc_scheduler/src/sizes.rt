@@ -1,4 +1,5 @@
-//! Whether one of the engine's limits can have ended a run.
+//! Whether one of the engine's limits can have ended a run: its journal is counted, since the ledger has only what is left. A run that is full has
+//! had at least as many such entries as the limit says.
 
 ghost use Rattle.std.specs.Prelude.{◌≡◌, ◌≤◌, ◌↔◌, true};
 ghost use Rattle.orc_journal.specs.Sizes.{brings, feeds, opens, total, IsCrowded};
@@ -15,6 +16,7 @@ struct Sizes {
     fed: usize,
 }
 
+// 1 where the entry brings a token more.
 fn brings(entry: &Entry) -> usize
     ensures brings { result ≡ brings entry.now }
     ensures one { result ≤ 1 }
@@ -25,6 +27,7 @@ fn brings(entry: &Entry) -> usize
     }
 }
 
+// 1 where the entry opens a side.
 fn opens(entry: &Entry) -> usize
     ensures opens { result ≡ opens entry.now }
     ensures one { result ≤ 1 }
@@ -35,6 +38,7 @@ fn opens(entry: &Entry) -> usize
     }
 }
 
+// 1 where the entry enters the left side of a `>x>`.
 fn feeds(entry: &Entry) -> usize
     ensures feeds { result ≡ feeds entry.now }
     ensures one { result ≤ 1 }
@@ -53,6 +57,7 @@ fn sizes_of(journal: &Journal) -> Sizes
     let mut brought = 0;
     let mut opened = 0;
     let mut fed = 0;
+    // Each adds at most 1 for an entry, so none overflows.
     for at in 0..journal.len() {
         if let Some(entry) = journal.get(at) {
             brought += brings(&entry);
@@ -72,5 +77,6 @@ pub(crate) fn is_crowded(journal: &Journal) -> bool
     ensures { result ≡ true ↔ IsCrowded journal.now.entries }
 {
     let sizes = sizes_of(journal);
+    // A run begins with one token, and one of the groups is the program's own.
     sizes.brought >= MOST_TOKENS - 1 || sizes.opened >= MOST_GROUPS - 1 || sizes.fed >= MOST_FRAMES
 }

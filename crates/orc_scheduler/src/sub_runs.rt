@@ -14,14 +14,14 @@ use std::alloc::Global;
 use std::marker::Brand;
 use std::mem;
 
-/// What came of a call's run.
+/// What came of a call's sub-run.
 #[derive(Drop)]
 pub enum Came<P: Run> {
     /// Nothing: nobody has run it, it can't stand for the call, or memory was refused.
     Nothing,
     /// It has more entries than it may have.
     Long,
-    /// It is over, or has come to one value.
+    /// It can stand for the call: it is over, with all that an outermost call publishes, or it has come to one value, or to none.
     Over(SubRun<P>),
 }
 
@@ -30,7 +30,7 @@ pub enum Came<P: Run> {
 pub struct SubRunJob<P: Run> {
     handle: Handle,
     task: SubRunTask,
-    // Whether it races others.
+    // Whether others are in the same side, so that a value which comes first may make the rest vain.
     races: bool,
     came: Came<P>,
 }
@@ -66,12 +66,12 @@ impl<P: Run> SubRunJob<P> {
             }
     }
 
-    /// What came of its run, which the job has no more.
+    /// Takes what came of its run out of the job, which has Nothing then.
     pub fn take(&mut self) -> Came<P> {
         mem::replace(&mut self.came, Came::Nothing)
     }
 
-    /// Runs it apart, with at most so many entries; its journal is kept where that of the run is.
+    /// Runs it apart, with at most `limit` entries (1 to `MOST_ENTRIES`); `keeps` says whether its journal is kept, as that of the run is.
     pub fn run(&mut self, alloc: Global, inputs: &Inputs<'_, P>, keeps: bool, limit: usize)
         requires keeps { keeps ≡ P.keeps }
         requires limit { (1 ≤ limit) × (limit ≤ MOST_ENTRIES) }
@@ -80,7 +80,7 @@ impl<P: Run> SubRunJob<P> {
     }
 }
 
-// What comes of a task's run.
+// What comes of a task's run: its program is the call alone, over the definitions of the run's program.
 fn came_of<P: Run>(
     alloc: Global,
     inputs: &Inputs<'_, P>,
@@ -100,6 +100,7 @@ fn came_of<P: Run>(
     run_apart::<Brand, P>(alloc, &own, inputs.answers, keeps, task, limit)
 }
 
+// Q names the sub-run, whose program is `graph`, and P the run to which it belongs.
 fn run_apart<Q: Run, P: Run>(
     alloc: Global,
     graph: &Graph,
@@ -122,6 +123,7 @@ fn run_apart<Q: Run, P: Run>(
         return Came::Nothing;
     };
     let mut scheduler = Scheduler::new(alloc, ledger, keeps);
+    // What an outermost call publishes, the program publishes. Of another one the value is wanted, so it is held back.
     if !task.is_outermost {
         scheduler.holding.begin();
     }
@@ -146,6 +148,7 @@ fn run_until_cut<Q: Run>(scheduler: &mut Scheduler<Q>, inputs: &Inputs<'_, Q>) -
     }
     loop {
         match scheduler.go_now(inputs) {
+            // Each time round is nearer the end (`IsNearer`), so the loop ends.
             Ok(true) if !scheduler.holding.is_vain() => {}
             Err(Stop::Refused(LedgerFault::Limit)) => return true,
             Ok(_) | Err(_) => return false,

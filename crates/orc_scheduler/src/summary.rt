@@ -45,6 +45,7 @@ pub(crate) fn played<P: Run>(
     ensures kept { IfOk result (λ p. P.keeps ≡ true → is_some p.journal ≡ true) }
 {
     let now = ledger.time();
+    // Two laws: they show the prover what the journal is and that its limit is the run's, for the clause *played*. Nothing runs.
     ledger.is_whole();
     ledger.keeps_limit();
     let entries = ledger.journal_len() as u64;

@@ -1,9 +1,9 @@
-//! The tokens that wait for cells.
+//! The tokens that wait for cells, in a chain of links for each cell.
 
 use crate::ready::{Handle, Ready};
 use std::alloc::{AllocError, Global};
 
-// A token that waits for a cell, and the place of the next one that does, from 1; 0 for none.
+// A token that waits for a cell, and the place of the next one that does. Places count from 1 in `links`; 0 is none.
 #[derive(Clone, Copy)]
 struct Link {
     handle: Handle,
@@ -15,7 +15,7 @@ pub(crate) struct Waiting {
     // The place of the first link of each cell, from 1.
     heads: Vec<u32>,
     links: Vec<Link>,
-    // The place of the first link that is free.
+    // The place of the first link that is free; the free ones are a chain too.
     free: u32,
 }
 
@@ -31,6 +31,7 @@ impl Drop for Waiting {
 }
 
 impl Waiting {
+    /// No token waits.
     pub(crate) fn new(alloc: Global) -> Waiting {
         Waiting {
             heads: Vec::new(alloc),
@@ -39,6 +40,7 @@ impl Waiting {
         }
     }
 
+    // The link with this place.
     fn link_at(&self, place: u32) -> Option<Link> {
         if place == 0 {
             return None;
@@ -46,7 +48,7 @@ impl Waiting {
         self.links.get((place - 1) as usize).copied()
     }
 
-    // Puts a link where one is free, else behind the others. Gives its place.
+    // Puts a link where one is free, else behind the others. Gives its place, or refuses where the next one has no 32 bits.
     fn put(&mut self, link: Link) -> Result<u32, AllocError> {
         let place = self.free;
         if let Some(free) = self.link_at(place) {
@@ -88,6 +90,7 @@ impl Waiting {
             Some(head) => *head,
             None => 0,
         };
+        // No chain is longer than there are links.
         for _ in 0..self.links.len() {
             let Some(link) = self.link_at(place) else {
                 break;
