@@ -20,7 +20,7 @@ use std::alloc::Global;
 use std::marker::Brand;
 
 /// Runs a program: entries that the rules allow, one after another, until nothing can come next or the journal has `limit` of them, cancels not
-/// counted. The cancels of a bind follow it at once. The journal is kept where `keeps`.
+/// counted. The cancels of a bind follow it at once. The answer has the journal if `keeps`; else perhaps.
 ///
 /// What the rules leave free comes in one order where `order` is none, and in another for each number; in the same one each time.
 ///
@@ -46,6 +46,7 @@ pub fn run_alone(
         return Err(EngineFault::Memory);
     };
     let limit = limit as usize;
+    // A run that only counts its entries is faster. `Brand` names the run, whose program and sites are picked at this call.
     if !keeps {
         match run_graph::<Brand>(alloc, program, &graph, answers, order, false, limit) {
             Ok(Some(played)) => return Ok(played),
@@ -56,6 +57,7 @@ pub fn run_alone(
     // How the run ends can't be told without its journal, or the journal is wanted.
     match run_graph::<Brand>(alloc, program, &graph, answers, order, true, limit) {
         Ok(Some(played)) => Ok(played),
+        // By the clause *kept* a run that keeps its journal is always told of.
         Ok(None) => unreachable!(),
         Err(fault) => Err(fault),
     }
@@ -94,7 +96,7 @@ fn run_graph<P: Run>(
     scheduler.finish(program, &inputs, stop)
 }
 
-// Turns until the run stops.
+// Turns until the run stops. Each brings it nearer its end (`IsNearer`), so the loop ends.
 fn play<P: Run>(scheduler: &mut Scheduler<P>, inputs: &Inputs<'_, P>) -> Stop
     ensures stops { Stops P.listing scheduler.new.ledger result }
 {

@@ -13,8 +13,8 @@ pub(crate) struct Dealt<'j, P: Run> {
     pub job: &'j mut SubRunJob<P>,
 }
 
-/// Deals jobs out in turn to the queues of as many workers as there are, or as jobs where there are fewer; each queue begins with its first one. A job for which there
-/// is no room is dealt to nobody. The error is refused memory.
+/// Deals jobs out in turn to the queues of as many workers as there are, or as jobs where there are fewer; each queue begins with its first one. A
+/// job for which there is no room is dealt to nobody: nothing comes of it, and its call is run in its place. The error is refused memory.
 pub(crate) fn deal<'j, P: Run>(
     alloc: Global,
     jobs: &'j mut [SubRunJob<P>],
@@ -22,6 +22,7 @@ pub(crate) fn deal<'j, P: Run>(
 ) -> Result<Vec<WorkerQueue<Dealt<'j, P>>>, AllocError> {
     let count = workers.min(jobs.len()).max(1);
     let mut worker_queues = worker_queues(alloc, count)?;
+    // The last ones first, since a worker takes what was pushed last.
     for (place, job) in jobs.iter_mut().enumerate().rev() {
         if let Some(worker_queue) = worker_queues.get_mut(place % count) {
             let _refused = worker_queue.push(Dealt { place, job });
@@ -37,7 +38,7 @@ pub(crate) struct Won {
 }
 
 impl Won {
-    /// None has won.
+    /// None has won: the greatest number stands for no place.
     pub fn new() -> Won {
         Won {
             place: AtomicUsize::new(usize::MAX),
@@ -49,7 +50,7 @@ impl Won {
         self.place.load(Ordering::Relaxed) < place
     }
 
-    /// The job at this place has won.
+    /// The job at this place has won. Of two that are noted at one time the later place may stand; then more jobs are done in vain.
     pub fn note(&self, place: usize) {
         if !self.is_before(place) {
             self.place.store(place, Ordering::Relaxed);

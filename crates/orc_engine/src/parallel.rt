@@ -1,5 +1,5 @@
-//! One run whose work is shared out: where many tokens stand at calls of definitions, the calls' own runs are made side by side, and taken in one after
-//! another in a fixed order. So the journal doesn't depend on which thread is quicker, nor on how many there are.
+//! One run whose work is shared out: where many tokens stand at calls of definitions, the calls' own runs are made side by side, and taken in one
+//! after another in a fixed order. So the journal doesn't depend on which thread is quicker, nor on how many there are.
 
 ghost use Rattle.std.specs.Prelude.{◌≡◌, ◌≤◌, ◌<◌, ◌^◌, ◌↔◌, Err, is_some, IfOk, IfErr, IfSome, true, MatchOption};
 ghost use Rattle.std.specs.VecDeque.{deque_len};
@@ -25,14 +25,14 @@ use std::marker::Brand;
 use std::thread;
 use std::thread::Threads;
 
-/// So many entries are made by one worker before others help, and so many from one time that they have helped to the next; ten times as many where there
-/// was too little for them to do.
+/// So many entries are made by one worker before others help, and so many from one time that they have helped to the next; ten times as many where
+/// there was too little for them to do.
 const PATIENCE: usize = 5_000;
 
 /// So many tokens are to stand at calls before the calls are run side by side.
 const READY_TOKENS: usize = 128;
 
-/// And so many where the runs of those are too long.
+/// And so many where the runs of those are too long: calls that stand deeper have shorter runs.
 const READY_TOKENS_IF_LONG: usize = 1_000;
 
 /// So many calls show what the others' runs are like.
@@ -47,13 +47,14 @@ const MOST_SAMPLE_ENTRIES: usize = 20_000;
 /// Runs have so many entries on average, or no more of them are made apart: to begin one costs as much as a hundred entries.
 const LEAST_MEAN_ENTRIES: usize = 512;
 
-/// So many calls are run side by side before what came of them is taken in. A thread that begins may wait some milliseconds for a processor, so a batch is
-/// to be worth more than that.
+/// So many calls are run side by side before what came of them is taken in. A thread that begins may wait some milliseconds for a processor, so a
+/// batch is to be worth more than that.
 const BATCH: usize = 256;
 
 /// A run may have so many times as many entries as those before it had on average, but no more than `MOST_RUN_ENTRIES`.
 const TIMES_MEAN: usize = 8;
 
+/// The most entries of any run that is made apart.
 const MOST_RUN_ENTRIES: usize = 1_000_000;
 
 /// What calls of definitions came to that were run side by side.
@@ -78,8 +79,8 @@ struct Plan {
     mean: usize,
 }
 
-// What came of some calls' runs: how many there were, how many are over, how many were too long, the entries of those that are over, and whether one has
-// won a race.
+// What came of some calls' runs: how many there were, how many are over, how many were too long, the entries of those that are over, and whether one
+// has won a race.
 #[derive(Clone, Copy)]
 struct Tally {
     count: usize,
@@ -96,8 +97,8 @@ impl Tally {
     }
 }
 
-/// Runs a program as [`run_alone`](crate::run_alone) does, on the calling thread. Calls of definitions are run apart on `workers` threads, of which the calling
-/// one is one where it has nothing to take in. The table answers all calls of sites. The journal is the same on any number of workers.
+/// Runs a program as [`run_alone`](crate::run_alone) does, on the calling thread. Calls of definitions are run apart on `workers` threads, of which
+/// the calling one is one where it has nothing to take in. The table answers all calls of sites. The journal is the same on any number of workers.
 ///
 /// The fault is Range where there are no workers or over `MOST_WORKERS`, or the limit is 0 or over `MOST_ENTRIES`, and then alone; or Memory as of
 /// `run_alone`. No other comes, if the program is one that the scope check takes.
@@ -162,12 +163,14 @@ pub(crate) fn run_graph<R: Threads + Sync>(
     // How the run ends can't be told without its journal, or the journal is wanted.
     match run_named::<Brand, R>(rt, alloc, program, graph, answers, workers, true, limit) {
         Ok(Some(played)) => Ok(played),
+        // By the clause *kept* a run that keeps its journal is always told of.
         Ok(None) => unreachable!(),
         Err(fault) => Err(fault),
     }
 }
 
-// The same of a run whose journal is kept or isn't. None where it isn't, and how the run ends can't be told without it.
+// Runs a program whose graph is built, with its journal or only its number of entries. None where that isn't enough to tell how the run ends. P names
+// the run, whose program and sites the caller picks.
 fn run_named<P, R>(
     rt: &R,
     alloc: Global,
@@ -216,7 +219,7 @@ struct ParallelRun<'c, P: Run, R> {
     alloc: Global,
     inputs: &'c Inputs<'c, P>,
     workers: usize,
-    // Whether the run's journal is kept, and so those of the parts.
+    // Whether the run's journal is kept, and so those of its sub-runs.
     keeps: bool,
     ghost its_keeping: { keeps ≡ P.keeps },
     ghost has_some: { 1 ≤ workers },
@@ -227,7 +230,7 @@ where
     P: Run + Send + Sync,
     R: Threads + Sync,
 {
-    // Turns until the run stops.
+    // Turns until the run stops. Each brings it nearer its end (`IsNearer`), so the loop ends.
     fn play(&self, scheduler: &mut Scheduler<P>) -> Stop
         ensures stops { Stops P.listing scheduler.new.ledger result }
     {
@@ -260,8 +263,8 @@ where
         }
     }
 
-    // If it is time tokens are spread, and the calls at which they stand are run side by side: first of few tokens, and if their runs are too long, of more.
-    // Tells when it is time again.
+    // If it is time tokens are spread, and the calls at which they stand are run side by side: first of few tokens, and if their runs are too long,
+    // of more. Tells when it is time again.
     #[inline(never)]
     fn share(&self, scheduler: &mut Scheduler<P>, plan: Plan) -> Result<Plan, Stop>
         ensures spread { IfOk result (λ _. HasSpread scheduler.old.ledger (deque_len scheduler.old.ready.handles) scheduler.new.ledger (deque_len scheduler.new.ready.handles)) }
@@ -278,6 +281,7 @@ where
         let (entries, mean) = match trial {
             Trial::Good(mean) => (now.saturating_add(PATIENCE), mean),
             Trial::Few => (now.saturating_add(10 * PATIENCE), plan.mean),
+            // Where sharing doesn't pay it is tried again only once the journal has 16 times as many entries.
             Trial::Long | Trial::Vain => (now.saturating_mul(16), 0),
         };
         Ok(Plan { entries, mean })
@@ -300,13 +304,14 @@ where
         self.run_side_by_side(scheduler, mean)
     }
 
-    // Runs the calls at which tokens stand side by side, and takes in what came of them. Where it isn't known how many entries their runs have on average, a few
-    // show it first, and whether the others are worth it. Calls that race each other are looked at where there are too few others, and a few of them always
-    // have to show it.
+    // Runs the calls at which tokens stand side by side, and takes in what came of them. Where it isn't known how many entries their runs have on
+    // average, a few show it first, and whether the others are worth it. Calls that race each other are looked at where there are too few others, and
+    // a few of them always have to show it.
     fn run_side_by_side(&self, scheduler: &mut Scheduler<P>, mean: usize) -> Result<Trial, Stop>
         ensures spread { IfOk result (λ _. HasSpread scheduler.old.ledger (deque_len scheduler.old.ready.handles) scheduler.new.ledger (deque_len scheduler.new.ready.handles)) }
         ensures stops { IfErr result (λ stop. Stops P.listing scheduler.new.ledger stop) }
     {
+        // First calls that race nobody, then those that do.
         let Ok(mut jobs) = scheduler.jobs(self.inputs, false) else {
             return Ok(Trial::Vain);
         };
@@ -317,13 +322,14 @@ where
             return Ok(Trial::Vain);
         };
         if jobs.len() >= SAMPLES {
+            // A mean of 0 has samples show it.
             return self.run_jobs(scheduler, 0, RACERS, &mut jobs);
         }
         Ok(Trial::Vain)
     }
 
-    // Does the jobs, and takes in what came of them. If it isn't known how many entries they have on average, samples show it, of which so many are done first.
-    // If one of these wins a race, what came of it is taken in and the others are left to the run.
+    // Does the jobs, and takes in what came of them. If it isn't known how many entries they have on average, samples show it, of which so many are
+    // done first. If one of these wins a race, what came of it is taken in and the others are left to the run.
     fn run_jobs(
         &self,
         scheduler: &mut Scheduler<P>,
@@ -367,7 +373,7 @@ where
         tally_of(samples)
     }
 
-    // What calls came to of which this came.
+    // Whether such runs are worth a thread, by what came of some.
     fn trial_of(&self, tally: Tally) -> Trial {
         let mean = tally.mean();
         if tally.long > tally.over {
@@ -382,8 +388,8 @@ where
         }
     }
 
-    // Does the jobs behind the first `done` ones in batches, and takes in what came of those before a batch while it is done: as long as most of a batch comes
-    // to something, none has won a race, and the limit has room for the next. Tells what the last batch came to.
+    // Does the jobs behind the first `done` ones in batches, and takes in what came of those before a batch while it is done: as long as most of a
+    // batch comes to something, none has won a race, and the limit has room for the next. Tells what the last batch came to.
     fn run_batches(
         &self,
         scheduler: &mut Scheduler<P>,
@@ -398,9 +404,11 @@ where
         let mut trial = Trial::Good(mean);
         for from in (done..jobs.len()).step_by(BATCH) {
             let room = scheduler.room();
+            // It is under the length already; the prover isn't told so by `step_by`.
             let from = from.min(jobs.len());
             let (before, behind) = jobs.split_at_mut(from);
             let count = BATCH.min(behind.len());
+            // The limit has to have room for all of the batch, by what its runs have on average.
             if count == 0 || room == 0 || room / count < mean {
                 break;
             }
@@ -442,6 +450,7 @@ where
             self.run_all(limit, batch);
             return Ok(());
         }
+        // The batch in one closure, the scheduler in the other: they share nothing that changes.
         let (_ran, taken) = thread::join_mut(
             self.rt,
             &mut ||
@@ -469,6 +478,7 @@ where
                 requires { (1 ≤ limit) × (limit ≤ MOST_ENTRIES) }
             { self.work(limit, count, &won, worker_queue) },
         );
+        // The queues hold the jobs by reference, so they go first.
         drop(worker_queues);
         forget_losers(jobs);
     }
@@ -477,6 +487,7 @@ where
     fn work(&self, limit: usize, count: usize, won: &Won, worker_queue: &mut WorkerQueue<Dealt<P>>)
         requires limit { (1 ≤ limit) × (limit ≤ MOST_ENTRIES) }
     {
+        // No worker does more jobs than were dealt out.
         for _job in 0..count {
             let Some(dealt) = worker_queue.next() else {
                 return;
