@@ -29,7 +29,7 @@ pub(crate) struct Context<'h, P: Run + Naming, S: Sites, G: Gate> {
 }
 
 impl<P: Run + Naming, S: Sites, G: Gate> Context<'_, P, S, G> {
-    /// One worker more.
+    /// One worker more is at work.
     pub(crate) fn join<R: Wait>(&self, rt: &R) {
         let mut shared = self.shared.lock(rt);
         shared.working = shared.working.saturating_add(1);
@@ -44,14 +44,15 @@ impl<P: Run + Naming, S: Sites, G: Gate> Context<'_, P, S, G> {
 
     /// So many of those that rest have to look again.
     pub(crate) fn wake(&self, shared: &mut Shared<P, S::Call>, count: usize) {
+        // Who looked before compares this number before it sleeps, and looks again. A wrap would need 2^64 offers in between.
         shared.offers = shared.offers.wrapping_add(1);
         for _ in 0..count.min(shared.resting as usize) {
             self.wakeups.notify_one();
         }
     }
 
-    /// So many tokens were put into a queue: as many of those that rest are woken. Who has found nothing before has added itself to `idle` before it looked into
-    /// the queue again, so one of both sees the other.
+    /// So many tokens were put into a queue: as many of those that rest are woken. Who has found nothing before has added itself to `idle` before it
+    /// looked into the queue again, so one of both sees the other.
     pub(crate) fn offer<R: Wait>(&self, rt: &R, count: usize) {
         if self.idle.load(Ordering::SeqCst) > 0 {
             let mut shared = self.shared.lock(rt);
@@ -74,8 +75,8 @@ impl<P: Run + Naming, S: Sites, G: Gate> Context<'_, P, S, G> {
         (work, shared.offers)
     }
 
-    /// Before a worker leaves the lock under which the run may have stopped: those that rest have to know. Others that read of the end without the lock wake
-    /// nobody.
+    /// Before a worker leaves the lock under which the run may have stopped: those that rest have to know. Others that read of the end without the
+    /// lock wake nobody.
     pub(crate) fn tell_end(&self, shared: &Shared<P, S::Call>) {
         if shared.is_over() {
             self.wakeups.notify_all();
@@ -91,7 +92,8 @@ impl<P: Run + Naming, S: Sites, G: Gate> Context<'_, P, S, G> {
         }
     }
 
-    /// Rests until something was offered since `seen`, or the run is over. The last one doesn't rest: where it finds nothing either, nobody has what is left.
+    /// Rests until something was offered since `seen`, or the run is over. The last one doesn't rest: where it finds nothing either, nobody has what
+    /// is left.
     pub(crate) fn rest<R: Wait>(&self, rt: &R, seen: u64) -> OutsideWork<S::Call> {
         let mut shared = self.shared.lock(rt);
         if shared.offers != seen {

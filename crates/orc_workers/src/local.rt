@@ -1,4 +1,4 @@
-//! What a worker has for itself: tokens, and passes for those that will be born.
+//! What a worker has for itself: tokens, and passes for *births*, that is for the tokens and groups that its moves bring.
 
 use orc_book::{Births, Needs, StepOut, Token};
 use orc_word::{Groups, Last, Naming, Pass, Supply};
@@ -7,14 +7,16 @@ use std::alloc::Global;
 /// How many passes to the group in which a worker is are kept for the next forks there.
 const MOST_NEAR: usize = 64;
 
-/// The tokens that are out with a worker and in no queue, the one that moves next last; the passes that it has to leave and the calls of whose cancels it has
-/// to tell the sites; passes for births; and the groups that it was the last to leave.
+/// The tokens that are out with a worker and in no queue, the one that moves next last; the passes that it has to leave and the calls of whose
+/// cancels it has to tell the sites; passes for births; and the groups that it was the last to leave.
 pub(crate) struct Local<P: Naming> {
     pub out: StepOut<P>,
-    // Those to the same group all name this word.
     pub births: Births<P>,
+    // The word of the group in which the worker is, which all passes in `births.same` name; none where it is in none.
     word: Option<u32>,
+    // Idle passes.
     supply: Supply<P>,
+    // The groups that it was the last to leave, and has to close.
     lasts: Vec<Last<P>>,
     // Whether something was lost, since memory for it was refused.
     has_lost: bool,
@@ -75,6 +77,7 @@ impl<P: Naming> Local<P> {
         if self.word == word {
             return;
         }
+        // The prover asks for a bound, here and in `settle`. Each round takes a pass.
         for _ in 0..u64::MAX {
             match self.births.same.pop() {
                 Some(pass) => self.put(pass),
@@ -112,6 +115,7 @@ impl<P: Naming> Local<P> {
         Some(groups.enter(with, idle))
     }
 
+    // Keeps a pass for a birth in the same group, if there is one. Where memory is refused it is to be left.
     fn add_same(&mut self, pass: Option<Pass<P>>) {
         if let Some(pass) = pass
             && let Err(refused) = self.births.same.push(pass)
@@ -121,6 +125,7 @@ impl<P: Naming> Local<P> {
         }
     }
 
+    // Keeps an idle pass for a birth, if there is one. Where memory is refused it is to be left.
     fn add_idle(&mut self, pass: Option<Pass<P>>) {
         if let Some(pass) = pass
             && let Err(refused) = self.births.idle.push(pass)
@@ -140,6 +145,7 @@ impl<P: Naming> Local<P> {
         }
     }
 
+    // Keeps a pass for births, or leaves it.
     fn settle_one(&mut self, groups: &Groups<P>, pass: Pass<P>) {
         if pass.group() != self.word || self.births.same.len() >= MOST_NEAR {
             self.leave(groups, pass);
@@ -148,6 +154,7 @@ impl<P: Naming> Local<P> {
         }
     }
 
+    // Leaves a pass, and takes it back into the supply. A group that it was the last to leave is noted.
     fn leave(&mut self, groups: &Groups<P>, pass: Pass<P>) {
         if pass.group().is_none() {
             self.supply.give(groups, pass);

@@ -33,6 +33,7 @@ impl<P: Run + Naming, C: Drop> Shared<P, C> {
         token: Token<P>,
     ) -> Step {
         let view = self.book.view(setup.inputs, token.slot, token.serial);
+        // A bind has dropped the token's record meanwhile.
         let Some(view) = view else {
             local.put(token.pass);
             return Step::On;
@@ -91,6 +92,7 @@ impl<P: Run + Naming, C: Drop> Shared<P, C> {
         }
     }
 
+    // A publication of the program.
     fn publish(&mut self, setup: &Setup<'_, P>, local: &mut Local<P>, token: Token<P>) -> Step {
         match self.book.publish(setup.inputs, token) {
             Ok(pass) => {
@@ -142,6 +144,7 @@ impl<P: Run + Naming, C: Drop> Shared<P, C> {
         }
     }
 
+    // A call of a site: it is recorded here, and made outside the lock.
     fn call(&mut self, setup: &Setup<'_, P>, local: &mut Local<P>, token: Token<P>) -> Step {
         let args = &mut self.args;
         match self.book.call(setup.inputs, token, args) {
@@ -150,6 +153,7 @@ impl<P: Run + Naming, C: Drop> Shared<P, C> {
         }
     }
 
+    // The book keeps a token that waits for a cell.
     fn wait(&mut self, setup: &Setup<'_, P>, local: &mut Local<P>, token: Token<P>) -> Step {
         match self.book.wait(setup.inputs, token) {
             Ok(()) => Step::On,
@@ -162,6 +166,7 @@ impl<P: Run + Naming, C: Drop> Shared<P, C> {
         match self.book.returned(number, answer) {
             Ok(Answered::Token(token)) => local.hold(token),
             Ok(Answered::Halted(pass)) => local.put(pass),
+            // It was cancelled meanwhile.
             Err(BookFault::Gone) => {}
             Err(BookFault::Wrong) => self.stop(Stop::Site(number)),
             Err(why) => self.stop(stop_of(why)),

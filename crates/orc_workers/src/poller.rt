@@ -45,6 +45,7 @@ impl Poller {
         })
     }
 
+    // Polls a future once: its output, or none where it is pending.
     fn poll<F: Future>(&self, future: &mut F) -> Option<F::Output>
         requires { F.can_poll future.old }
         ensures some { IfSome result (F.gives future.old) }

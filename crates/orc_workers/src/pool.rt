@@ -35,17 +35,18 @@ use std::sync::{Condvar, Mutex, Wait};
 use std::thread;
 use std::thread::{Scope, Threads};
 
-/// The words of groups: as many may be taken by killed ones as there may be open ones.
+/// The words of groups: beside the open ones as many killed ones may have one, until their last passes are left.
 const WORDS: u32 = 2 * MOST_GROUPS as u32;
 
-/// The passes of each worker: more than the entries of a run take.
+/// The passes of each worker: more than the entries of a run take. With those of 16 workers they are fewer than 2^31, as `Unnamed::new` asks.
 const PASSES: u32 = 4 * MOST_ENTRIES as u32;
 
 /// Runs a program on the calling thread and `workers - 1` more, which hold its tokens; one that can't be started is left out. What is run and what it
 /// answers is as of [`run_alone`](orc_engine::run_alone), whatever the workers do when.
 ///
-/// Each call goes through `gate`, is made by `sites` and polled outside every lock; and `sites` is told which ones are cancelled. The journal is kept then.
-/// Where the sites go by the table and the gate is open, nobody is asked, and it is a run of [`run_parallel`](orc_engine::run_parallel).
+/// Each call goes through `gate`, is made by `sites` and polled outside every lock; and `sites` is told which ones are cancelled. The journal is kept
+/// then, whatever `keeps` says. Where the sites go by the table and the gate is open, nobody is asked, and it is a run of
+/// [`run_parallel`](orc_engine::run_parallel).
 ///
 /// The fault is Range where there are no workers or over `MOST_WORKERS`, or the limit is 0 or over `MOST_ENTRIES`, and then alone; Site where the
 /// sites answered a call otherwise than the table says, or not when it was due; Broken where something is left that no worker has; Memory as of
@@ -86,7 +87,7 @@ where
     )
 }
 
-// The same of a program whose graph is built, with workers and a limit in range, where sites or a gate are asked. The journal is kept.
+// Runs a program whose graph is built, with workers and a limit in range, where sites or a gate are asked. The journal is kept.
 fn run_graph<R, S, G>(
     rt: &R,
     alloc: Global,
@@ -110,6 +111,7 @@ where
     ensures kept { IfOk result (λ p. is_some p.journal ≡ true) }
     ensures range { IfErr result (λ fault. fault ≡ EngineFault.Range → ⊥) }
 {
+    // A pass for each, and one for the program's first token.
     let Ok(words) = Unnamed::new(alloc, WORDS, PASSES * workers as u32 + 1) else {
         return Err(EngineFault::Memory);
     };
@@ -118,6 +120,7 @@ where
     )
 }
 
+// P names the run, whose program and sites the caller picks, and the table of words.
 fn run_named<'x, P, R, S, G>(
     rt: &'x R,
     alloc: Global,
@@ -150,6 +153,7 @@ where
 {
     let (groups, mut supply) = words.named::<P>();
     let Some(idle) = supply.take(&groups) else {
+        // Never so: the supply is new, and so is word 0 below. No contract says so.
         return Err(EngineFault::Broken);
     };
     let Ok(pass) = groups.open(idle, 0) else {
@@ -174,15 +178,18 @@ where
         rt, alloc, setup, supply, token, &shared, &why, sites, gate, workers,
     )?;
     let (book, stop) = shared.into_inner().into_book();
+    // The scheduler makes no turn here: it tells how the run ended, by the records.
     let scheduler = Scheduler::new(alloc, book.into_ledger(), true);
     match scheduler.finish(program, &inputs, stop) {
         Ok(Some(played)) => Ok(played),
+        // The journal is kept, so the end can be told.
         Ok(None) => unreachable!(),
         Err(fault) => Err(fault),
     }
 }
 
-// All workers play, until the run has stopped. The fault is Memory, where the workers' queues found none, or Broken where there are not as many passes.
+// All workers play, until the run has stopped. The fault is Memory, where the workers' queues found none, or Broken where there are not as many
+// passes.
 fn play<'x, P, R, S, G>(
     rt: &'x R,
     alloc: Global,
@@ -299,6 +306,7 @@ where
     });
 }
 
+// Starts a thread for a worker. One that can't be started is dropped with its worker, and the others have the work.
 fn start<'s, 'h: 's, E, P, R, S, G>(scope: &Scope<'s, E>, worker: Worker<'h, P, R, S, G>)
 where
     P: Run + Naming + Send + Sync + 's,

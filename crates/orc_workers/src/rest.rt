@@ -1,4 +1,4 @@
-//! What there is for a worker that has no token.
+//! What there is for a worker that has no token: a call that is due, a tick, or nothing.
 
 ghost use Rattle.std.specs.Prelude.{◌≡◌};
 
@@ -10,8 +10,8 @@ use orc_scheduler::Stop;
 use orc_word::Naming;
 
 impl<P: Run + Naming, C: Drop> Shared<P, C> {
-    /// What there is for a worker that has no token, no pass to leave and no group to close: a call that is due, else a tick. Rest where others have all that is
-    /// left.
+    /// What there is for a worker that has no token, no pass to leave and no group to close: a call that is due, else a tick. Rest where others have
+    /// all that is left.
     pub(crate) fn look(&mut self, inputs: &Inputs<'_, P>) -> OutsideWork<C> {
         if self.is_over() {
             return OutsideWork::Over;
@@ -38,6 +38,7 @@ impl<P: Run + Naming, C: Drop> Shared<P, C> {
     pub(crate) fn look_last(&mut self, inputs: &Inputs<'_, P>) -> OutsideWork<C> {
         match self.look(inputs) {
             OutsideWork::Rest => {
+                // Says that nobody has what is left. `Scheduler::finish` finds whether the term has halted, and else answers Broken.
                 self.stop(Stop::Halted);
                 OutsideWork::Over
             }
@@ -55,6 +56,7 @@ impl<P: Run + Naming, C: Drop> Shared<P, C> {
     /// The least number of a call that is due and that no worker has. The book forgets on the way what it has noted of calls that pend no more.
     pub(crate) fn find_due(&mut self) -> Option<u64> {
         let mut number = 0;
+        // The prover asks for a bound; the numbers rise, so there are fewer rounds than calls.
         for _ in 0..u64::MAX {
             number = self.book.due_beyond(number)?;
             if self.pending.contains_key(&number) {

@@ -16,9 +16,10 @@ use std::alloc::Global;
 use std::collections::BTreeMap;
 use std::mem;
 
-/// The most moves under the lock by one worker, if another one is awake, and if none is.
+/// The most moves in a turn under the lock, if another worker is awake.
 const MOVES: u32 = 16;
 
+/// And if all others rest.
 const MOVES_ALONE: u32 = 64;
 
 /// What came of a call outside the lock.
@@ -26,7 +27,7 @@ const MOVES_ALONE: u32 = 64;
 pub(crate) enum CallEvent<C: Drop> {
     None,
     Answered(u64, Answer),
-    /// The call with this number is answered then.
+    /// The call with this number has no answer yet, and says when it is due.
     Waits(u64, Due, Box<C>),
     /// The call with this number was due and didn't answer.
     Late(u64),
@@ -53,6 +54,7 @@ pub(crate) enum OutsideWork<C: Drop> {
 /// The book of a run, the calls that wait until they are due, what ends the run, and where the workers are.
 pub(crate) struct Shared<P: Run + Naming, C: Drop> {
     pub(crate) book: Book<P>,
+    // By their numbers, the calls that wait until they are due. One that a worker asks is with that worker.
     pub(crate) pending: BTreeMap<u64, Box<C>>,
     // Lent to the book: for the arguments of a call, and for the numbers of the calls that a bind has cancelled.
     pub(crate) args: Args,
@@ -60,6 +62,7 @@ pub(crate) struct Shared<P: Run + Naming, C: Drop> {
     stopper: Stopper,
     // How often those that rest had to look again.
     pub(crate) offers: u64,
+    // How many workers have begun. A thread that wasn't started isn't among them.
     pub(crate) working: u32,
     // Of the working: those that rest.
     pub(crate) resting: u32,
@@ -119,6 +122,7 @@ impl<P: Run + Naming, C: Drop> Shared<P, C> {
         (book, stopper.reason().unwrap_or(Stop::Broken))
     }
 
+    /// Whether the run has stopped.
     pub(crate) fn is_over(&self) -> bool {
         self.stopper.reason().is_some()
     }
@@ -138,8 +142,8 @@ impl<P: Run + Naming, C: Drop> Shared<P, C> {
         self.working <= self.resting.saturating_add(1)
     }
 
-    /// A worker's turn: it tells what came of its last call, groups that it was the last to leave are closed, then its tokens move until it has something to do
-    /// outside or has made its moves. Where a round begins, a call that is due goes first.
+    /// A worker's turn: it tells what came of its last call, groups that it was the last to leave are closed, then its tokens move until it has
+    /// something to do outside or has made its moves. Where a round begins, a call that is due goes first.
     pub(crate) fn work(
         &mut self,
         setup: &Setup<'_, P>,
@@ -223,6 +227,7 @@ impl<P: Run + Naming, C: Drop> Shared<P, C> {
     // What the call with this number asks, if it pends.
     fn request(&self, number: u64) -> Option<Request> {
         let asked = self.book.request(number)?;
+        // It counts from 1, as a `Request` asks. The book's contract doesn't say so.
         if asked.nth < 1 {
             return None;
         }
@@ -237,6 +242,7 @@ impl<P: Run + Naming, C: Drop> Shared<P, C> {
 
     /// The groups that a worker was the last to leave are closed.
     pub(crate) fn close_groups(&mut self, local: &mut Local<P>) {
+        // The prover asks for a bound. Each round closes a group.
         for _ in 0..u64::MAX {
             if self.is_over() {
                 return;
@@ -248,6 +254,7 @@ impl<P: Run + Naming, C: Drop> Shared<P, C> {
         }
     }
 
+    // Closes a group that the worker was the last to leave: what comes of that is with the worker.
     fn close(&mut self, local: &mut Local<P>, last: Last<P>) {
         match self.book.halt(last, &mut local.out.leave) {
             Ok(Ended::Run) => self.stop(Stop::Halted),

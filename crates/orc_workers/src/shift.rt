@@ -1,4 +1,4 @@
-//! Workers at work.
+//! Workers at work. A *shift* is a worker's work on one run: turns under the lock, and between them what is done outside it.
 
 ghost use Rattle.std.specs.Prelude.{◌≡◌, false, None};
 ghost use Rattle.orc_cell.specs.Readers.{has_read};
@@ -20,7 +20,8 @@ use std::sync::Wait;
 use std::sync::atomic::Ordering;
 use std::{mem, thread};
 
-/// The turns of a round. Between two rounds that token has its turn which has waited longest in the worker's queue, and a call that is due goes first.
+/// The turns of a round. Between two rounds that token has its turn which has waited longest in the worker's queue, and a call that is due goes
+/// first.
 const ROUND: u32 = 64;
 
 /// After how many turns in a row with tokens enough for others a worker at rest is woken, where no worker may wait for another one.
@@ -36,7 +37,7 @@ pub(crate) struct Shift<'h, P: Run + Naming, R: Wait, S: Sites, G: Gate> {
     // What it has read of why the run stops.
     why: Reader<'h, Stop>,
     queue: WorkerQueue<Token<P>>,
-    // No fewer tokens than there are in its queue.
+    // No fewer than the tokens in its queue: it isn't told of those that others take.
     queued: usize,
     local: Local<P>,
     poller: Poller,
@@ -71,6 +72,7 @@ impl<P: Run + Naming, R: Wait, S: Sites, G: Gate> Drop for Shift<'_, P, R, S, G>
 }
 
 impl<'h, P: Run + Naming, R: Wait, S: Sites, G: Gate> Shift<'h, P, R, S, G> {
+    /// A worker that has done nothing yet.
     pub(crate) fn new(
         rt: &'h R,
         context: &'h Context<'h, P, S, G>,
@@ -173,6 +175,7 @@ impl<'h, P: Run + Naming, R: Wait, S: Sites, G: Gate> Shift<'h, P, R, S, G> {
             }
             OutsideWork::Over => return true,
         }
+        // A run has no more tokens. So others have taken some of these, or some are there no more, which keep their groups' words taken.
         if self.queued > MOST_TOKENS {
             self.make_room();
         }
@@ -214,7 +217,8 @@ impl<'h, P: Run + Naming, R: Wait, S: Sites, G: Gate> Shift<'h, P, R, S, G> {
         self.offer(count);
     }
 
-    // Where no worker may wait for another one, the others are left at rest until there are tokens enough for some time: to wake one takes longer than a few moves.
+    // Where no worker may wait for another one, the others are left at rest until there are tokens enough for some time: to wake one takes longer
+    // than a few moves.
     fn offer(&mut self, count: usize) {
         if self.context.may_wait {
             self.context.offer(self.rt, count);
@@ -258,6 +262,7 @@ impl<'h, P: Run + Naming, R: Wait, S: Sites, G: Gate> Shift<'h, P, R, S, G> {
     // Leaves all its passes, and closes the groups that it is the last to leave.
     fn leave_groups(&mut self) {
         self.local.go_to(None);
+        // The prover asks for a bound, here and below. A group that is closed may have passes to leave again.
         for _ in 0..u64::MAX {
             self.settle();
             if self.local.is_settled() || self.finds_end() {
@@ -270,7 +275,8 @@ impl<'h, P: Run + Naming, R: Wait, S: Sites, G: Gate> Shift<'h, P, R, S, G> {
         }
     }
 
-    // Killed groups' words are taken until the tokens that were in them have left: takes all tokens that it finds, and drops those that are there no more.
+    // Killed groups' words are taken until the tokens that were in them have left: takes all tokens that it finds, and drops those that are there no
+    // more.
     fn make_room(&mut self) {
         for _ in 0..u64::MAX {
             match self.queue.next() {
@@ -282,9 +288,11 @@ impl<'h, P: Run + Naming, R: Wait, S: Sites, G: Gate> Shift<'h, P, R, S, G> {
         self.drop_gone();
         self.leave_groups();
         self.share(0);
+        // Other workers have tokens of killed groups too, and are to drop them.
         thread::yield_now();
     }
 
+    // Drops those of its tokens that are there no more.
     fn drop_gone(&mut self) {
         let context = self.context;
         let mut shared = context.shared.lock(self.rt);

@@ -1,16 +1,17 @@
-//! What ends a run.
+//! What ends a run: the reason why it stops, which is bound once and never changes.
 
 use orc_cell::Cell;
 use orc_scheduler::Stop;
 use std::alloc::{AllocError, Global};
 
-/// Binds the cell of why a run stops. It is under the lock, with the one box that a bind takes, and workers read the cell without the lock. Under the lock
-/// the reason is read here, which takes no exchange.
+/// Binds the cell of why a run stops. It is under the lock, with the one box that a bind takes, and workers read the cell without the lock. Under the
+/// lock the reason is read here, which takes no exchange.
 #[derive(Drop)]
 pub(crate) struct Stopper {
     why: Cell<Stop>,
     reason: Option<Stop>,
-    // Made before the run begins, so that no run goes on for want of memory.
+    // The box that the bind takes; none once it did. It is made before the run begins, so that no run goes on for want of memory. Its value isn't
+    // used.
     unused: Option<Box<Stop>>,
 }
 
@@ -31,6 +32,7 @@ impl Stopper {
         if let Some(mut bound) = self.unused.take() {
             *bound = reason;
             self.reason = Some(reason);
+            // Nobody else binds the cell, so the box doesn't come back.
             self.unused = self.why.bind(bound).err();
         }
     }
