@@ -4,6 +4,7 @@ use Rattle.orc_orders.specs.Survey.{Came}
 use Rattle.orc_orders.specs.declared.seen.Seen.{Seen}
 use Rattle.orc_orders.specs.declared.seen.Outcome.{Outcome}
 
+-- the outcome by which one is found, and the one that was seen, as what a run came to
 abbrev pub came_of : Outcome → Came
 came_of o = record { end = o.end; values = o.values.items }
 

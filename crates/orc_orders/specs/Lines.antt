@@ -7,6 +7,7 @@ use Rattle.orc_outcome.specs.declared.end.End.{End}
 use Rattle.orc_outcome.specs.declared.end.End.TheVariants as ends
 use Rattle.orc_orders.specs.declared.seen.Seen.{Seen}
 
+-- the word for an end
 abbrev pub end_word : End → List ℕ
 end_word ends.Halted = codes "Halted"
 end_word ends.Quiet = codes "Quiet"
@@ -26,6 +27,7 @@ line orders x = head orders x ++ (flat_map value x.values.items ++ codes "\n")
 abbrev pub unseen_head : ℕ → End → List ℕ
 unseen_head orders end = codes "no order (0 of " ++ (decimal orders ++ (codes ") " ++ (end_word end ++ codes ":")))
 
+-- the line of such an outcome
 abbrev pub unseen_line : ℕ → End → List Value → List ℕ
 unseen_line orders end values = unseen_head orders end ++ (flat_map value values ++ codes "\n")
 

@@ -61,6 +61,7 @@ abbrev pub is_running : State → Bool
 is_running states.Running = true
 is_running _ = false
 
+-- whether what claims see is of such a run
 abbrev pub is_cut : Sight → Bool
 is_cut s = is_running s.state
 
@@ -80,7 +81,7 @@ pub record AreTold (source : List ℕ) (sites : List Site) (claims : List Claim)
 abbrev pub texts : List (Vec ℕ) → List (List ℕ)
 texts scripts = map (λ s. s.items) scripts
 
--- the same, of what is tried
+-- what is told of what these trials try, in the ways of these scripts
 abbrev pub Tells : Trials → List (List ℕ) → CaseTold → Type 0
 Tells t scripts c = AreTold t.source.now (sites_of t.sites.now) t.claims.now t.orders t.limit scripts c
 

@@ -51,11 +51,11 @@ CameOf t scripts at way came = (d : Vec ℕ) → MatchResult came
     (IsToldOfWay t.source.now (sites_of t.sites.now) t.claims.now t.orders t.limit way (slice_index_or scripts at d).items)
     (IsFaultOfWay t.source.now (slice_index_or scripts at d).items t.limit)
 
--- the same of a batch
+-- this came of the way at this place of a batch
 abbrev pub IsTriedAt : Batch → ℕ → Tried → Type 0
 IsTriedAt b at place = CameOf b.trials.now b.scripts.now at (b.first + at) place.came
 
--- and at each
+-- at each place of a batch there is what came of its way
 abbrev pub AreTried : Batch → List Tried → Type 0
 AreTried b places = (at : ℕ) (d : Tried) → at < length places → IsTriedAt b at (slice_index_or places at d)
 

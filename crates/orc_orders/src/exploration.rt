@@ -1,4 +1,4 @@
-//! A program's runs in many orders.
+//! A program's runs in many orders, in batches that threads share out among them.
 
 ghost use Rattle.std.specs.Prelude.{◌≡◌, ◌≤◌, ◌<◌, ◌+◌, ◌^◌, ◌↔◌, length, Err, IfOk, IfErr, OnOk};
 ghost use Rattle.std.specs.List.{All};
@@ -22,11 +22,11 @@ use std::thread::Threads;
 /// So many orders are run before what came of them is counted.
 const BATCH: u64 = 1_024;
 
-/// The runs of a batch are shared out among threads where they have so many entries in all, as far as those before them tell. A thread that begins may wait
-/// longer for a processor than a shorter batch takes.
+/// The runs of a batch are shared out among threads where they have so many entries in all, as far as those before them tell. A thread that begins
+/// may wait longer for a processor than a shorter batch takes.
 const WORTH: u64 = 50_000;
 
-/// And they are fewer where they have more entries than so many: what they publish is held until it is counted.
+/// A batch has fewer orders where they would have more entries than so many in all: what they publish is held until it is counted.
 const ROOM: u64 = 4_000_000;
 
 /// What came of the run in an order.
@@ -59,7 +59,7 @@ struct Surveyor<'s, R> {
 }
 
 impl<R: Threads + Sync> Surveyor<'_, R> {
-    // Runs so many orders, from `first` on, on so many threads. The error is refused memory.
+    // Runs so many orders, from `first` on, on so many threads. A run's fault stands in its place. The error is refused memory.
     #[tactic(auto, using(crate::proofs::Lent::filled))]
     fn run(&self, threads: usize, first: u64, number: u64) -> Result<Vec<Trial>, AllocError>
         requires threads { 0 < threads }
@@ -74,6 +74,7 @@ impl<R: Threads + Sync> Surveyor<'_, R> {
             &|at: usize, trial: &mut Trial|
                 ensures { IsTried self.entry.now.program.now self.entry.now.answers.now self.entry.now.limit trial.exit.now }
             {
+                // `go` asks for room, so this never wraps; this function has no such clause.
                 let order = first.wrapping_add(at as u64);
                 trial.came = run_alone(
                     self.alloc,
@@ -136,11 +137,11 @@ impl<R: Threads + Sync> Surveyor<'_, R> {
 }
 
 /// Runs a program in so many orders, from 0 on, and tells each outcome that came up, in the order in which they came up first. Each run has at most
-/// `limit` entries, cancels not counted. The runs are made on `workers` threads, of which the calling one is one; what is told is the same on any number
-/// of them.
+/// `limit` entries, cancels not counted. The runs are made on `workers` threads, of which the calling one is one; what is told is the same on any
+/// number of them. Without orders no outcome is told.
 ///
-/// The fault is Range where there are no workers or over `MOST_WORKERS`, or the limit is 0 or over `MOST_ENTRIES`, and then alone; or Memory where memory
-/// was refused. No other comes, if the program is one that the scope check takes.
+/// The fault is Range where there are no workers or over `MOST_WORKERS`, or the limit is 0 or over `MOST_ENTRIES`, and then alone; or Memory where
+/// memory was refused. No other comes, if the program is one that the scope check takes.
 #[tactic(auto, using(crate::proofs::Counting::none_yet))]
 pub fn survey<R: Threads + Sync>(
     rt: &R,
@@ -174,6 +175,7 @@ pub fn survey<R: Threads + Sync>(
         let number = batch.min(orders - next);
         let mean = surveyor.go(threads, next, number, &mut seen)?;
         next += number;
+        // As many as have room, but enough for each worker.
         batch = (ROOM / mean.max(1)).clamp(workers as u64, BATCH);
         threads = if mean.saturating_mul(batch.min(orders - next)) < WORTH {
             1

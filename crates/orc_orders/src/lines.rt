@@ -1,4 +1,4 @@
-//! The lines that tell of outcomes.
+//! The lines that tell of outcomes, as `orc outcomes` writes them.
 
 ghost use Rattle.std.specs.Prelude.{◌≡◌, ◌++◌, codes, IfOk, OnOk};
 ghost use Rattle.std.specs.List.{flat_map};
@@ -11,6 +11,7 @@ use orc_outcome::End;
 use orc_rules::value::Value;
 use std::alloc::{AllocError, Global};
 
+// The word for an end.
 fn word_of(end: End) -> &'static str
     ensures { result.now ≡ end_word end }
 {
@@ -23,7 +24,7 @@ fn word_of(end: End) -> &'static str
     }
 }
 
-// What stands before the values.
+// What stands before the values of an outcome of so many orders: `order 3 (43 of 100) Halted:`.
 fn head_of(alloc: Global, orders: u64, seen: &Seen) -> Result<Vec<u8>, AllocError>
     ensures { IfOk result (λ t. t.items ≡ head orders seen.now) }
 {
@@ -34,7 +35,7 @@ fn head_of(alloc: Global, orders: u64, seen: &Seen) -> Result<Vec<u8>, AllocErro
     Ok(head.into_bytes())
 }
 
-// The same of an outcome that none of so many orders came to.
+// What stands before the values of an outcome that none of so many orders came to: `no order (0 of 100) Halted:`.
 fn unseen_head_of(alloc: Global, orders: u64, end: End) -> Result<Vec<u8>, AllocError>
     ensures { IfOk result (λ t. t.items ≡ unseen_head orders end) }
 {
@@ -43,6 +44,7 @@ fn unseen_head_of(alloc: Global, orders: u64, end: End) -> Result<Vec<u8>, Alloc
     Ok(head.into_bytes())
 }
 
+// Adds each value, after a space.
 fn write_values(out: &mut Vec<u8>, published: &[Value]) -> Result<(), AllocError>
     ensures { OnOk result (out.new.items ≡ out.old.items ++ flat_map value published.now) }
 {
@@ -53,7 +55,7 @@ fn write_values(out: &mut Vec<u8>, published: &[Value]) -> Result<(), AllocError
     Ok(())
 }
 
-// A line: what stands before the values, and these.
+// Adds a line: what stands before the values, these, and LF. Where memory is refused a part of it may be there.
 fn write_line(out: &mut Vec<u8>, head: &[u8], published: &[Value]) -> Result<(), AllocError>
     ensures { OnOk result (out.new.items ≡ out.old.items ++ (head.now ++ (flat_map value published.now ++ codes "\n"))) }
 {
@@ -63,7 +65,7 @@ fn write_line(out: &mut Vec<u8>, head: &[u8], published: &[Value]) -> Result<(),
     Ok(())
 }
 
-/// A line for each outcome of so many orders: `order 3 (43 of 100) Halted: 41`. The error is refused memory.
+/// A text with a line for each outcome of so many orders, in their order here: `order 3 (43 of 100) Halted: 41`. The error is refused memory.
 pub fn lines_of(alloc: Global, orders: u64, seen: &[Seen]) -> Result<Vec<u8>, AllocError>
     ensures { IfOk result (λ t. t.items ≡ lines orders seen.now) }
 {
@@ -75,7 +77,8 @@ pub fn lines_of(alloc: Global, orders: u64, seen: &[Seen]) -> Result<Vec<u8>, Al
     Ok(text)
 }
 
-/// The line of an outcome that none of so many orders came to, behind a text: `no order (0 of 100) Halted: 43`. The error is refused memory.
+/// Adds to a text the line of an outcome that none of so many orders came to: `no order (0 of 100) Halted: 43`. The error is refused memory; a part
+/// of the line may be there then.
 pub fn write_unseen(
     alloc: Global,
     out: &mut Vec<u8>,

@@ -1,4 +1,4 @@
-//! The outcomes that came up.
+//! The outcomes that came up. An outcome is how a run ended together with what it published, in order.
 
 ghost use Rattle.std.specs.Prelude.{◌≡◌, ◌<◌, ◌↔◌, [], true, length, slice_index_or, MatchOption, OnErr, OnOk};
 ghost use Rattle.std.specs.List.{All};
@@ -20,7 +20,7 @@ pub struct Seen {
     pub end: End,
     /// What was published, in order.
     pub values: Vec<Value>,
-    /// The first order that came to it.
+    /// The first order that came to it, from 0.
     pub first: u64,
     /// How many orders came to it.
     pub times: u64,
@@ -59,7 +59,7 @@ impl Seen {
     }
 }
 
-/// The place of an outcome among those that came up, if it is one of them.
+/// The place from 0 of an outcome among those that came up, if it is one of them. It compares with one after another.
 pub fn place_of(seen: &[Seen], end: End, values: &[Value]) -> Option<usize>
     ensures { MatchOption result (All (λ y. IsOf (record { end = end; values = values.now }) y → ⊥) seen.now) (λ at. (at < length seen.now) × ((d : Seen) → IsOf (record { end = end; values = values.now }) (slice_index_or seen.now at d))) }
 {
@@ -71,7 +71,7 @@ pub fn place_of(seen: &[Seen], end: End, values: &[Value]) -> Option<usize>
     None
 }
 
-// An outcome as a hash finds it.
+// An outcome by which a hash set finds its place.
 #[derive(PartialEq, Eq, Drop)]
 struct Outcome {
     end: End,
@@ -101,6 +101,7 @@ pub(crate) struct Outcomes {
     known: IndexSet<Outcome>,
 }
 
+// Written out, so that a caller's proof sees one call and not the drop of each field.
 impl Drop for Outcomes {
     fn drop(self) {
         let Outcomes { seen: _, known: _ } = self;
@@ -178,6 +179,7 @@ impl Outcomes {
         };
         self.seen.try_reserve(1)?;
         self.known.insert(outcome)?;
+        // Room was made before, so that both lists grow or neither does.
         let pushed = self.seen.push(seen);
         prove!(pushed.is_ok());
         Ok(())

@@ -12,6 +12,7 @@ use std::alloc::{AllocError, Global};
 /// The number of a site that the table doesn't have. No site has it, since a table has fewer.
 const NOWHERE: u32 = u32::MAX;
 
+// A site that claims name, by its number in the table, or `NOWHERE`.
 fn claim_site(answers: &Answers, site: &SiteName<'_>) -> ClaimSite
     ensures { result ≡ claim_site answers.now (site_of site.now) }
 {
@@ -25,8 +26,8 @@ fn claim_site(answers: &Answers, site: &SiteName<'_>) -> ClaimSite
     }
 }
 
-/// The sites that claims name, by their numbers in the table, in the same order. One whose name the table doesn't have gets 2^32 - 1, which is the number
-/// of none. The error is refused memory.
+/// The sites that claims name, by their numbers in the table, in the same order. One whose name the table doesn't have gets 2^32 - 1, which is the
+/// number of none. The error is refused memory.
 pub fn claim_sites(
     alloc: Global,
     answers: &Answers,

@@ -1,4 +1,5 @@
-//! The trials of a way: its runs in many orders, and what is told of claims in them.
+//! The trials of a way: its runs in many orders, and what is told of claims in them. A claim of a test is judged on what an observer sees of a run
+//! from outside, its *happenings*.
 
 ghost use Rattle.std.specs.Prelude.{◌≡◌, ◌≤◌, ◌<◌, ◌+◌, ◌^◌, ℕ, List, cond, IfOk, IfErr};
 ghost use Rattle.orc_rules.specs.Nodes.{definitions, source};
@@ -24,6 +25,7 @@ use std::alloc::{AllocError, Global};
 /// What is tried in each way.
 #[derive(Clone, Copy)]
 pub struct Trials<'t, 'a> {
+    /// The program, as it is written.
     pub source: &'t [u8],
     /// The sites that the claims name, in the order of their numbers there.
     pub sites: &'t [SiteName<'a>],
@@ -113,6 +115,7 @@ struct Way<'w, 'a> {
     sites: Vec<ClaimSite>,
 }
 
+// Written out, so that a caller's proof sees one call and not the drop of each field.
 impl Drop for Way<'_, '_> {
     fn drop(self) {
         let Way {
@@ -125,7 +128,7 @@ impl Drop for Way<'_, '_> {
 }
 
 impl<'w, 'a> Way<'w, 'a> {
-    // The way of a script.
+    // Loads the program with the script of a way.
     fn load(
         alloc: Global,
         trials: &'w Trials<'w, 'a>,
@@ -172,12 +175,13 @@ impl<'w, 'a> Way<'w, 'a> {
         }
         let happenings = match &played.journal {
             Some(journal) => happenings_of(self.alloc, self.sites.as_slice(), journal)?,
+            // The run was asked to keep its journal.
             None => unreachable!(),
         };
         Ok(Run { played, happenings })
     }
 
-    // What is told of the way of this number with the trial in one order more.
+    // Makes the trial in this order, and gives what is told of the way with it.
     fn note(&self, way: u64, order: u64, told: &WayTold) -> Result<WayTold, TrialFault>
         requires program { IsProgram (definitions self.now.loaded.program) (source self.now.loaded.program) }
         requires few { told.now.cut + 1 < 2 ^ 64 }
@@ -234,7 +238,8 @@ pub(crate) fn try_way(
 
 /// Makes a trial again: the run of this order in the way of this script, with its journal.
 ///
-/// The fault is that of the source with the script; or the engine's: Range where the limit is 0 or over `MOST_ENTRIES`, and Memory where memory was refused.
+/// The fault is that of the source with the script; or the engine's: Range where the limit is 0 or over `MOST_ENTRIES`, and Memory where memory was
+/// refused.
 pub fn try_again(
     alloc: Global,
     trials: &Trials<'_, '_>,

@@ -1,4 +1,4 @@
-//! The ways of a case, each with its trials.
+//! The ways of a case, each with its trials. A way is one of the ways in which a test lets services behave; a trial is its run in one order.
 
 ghost use Rattle.std.specs.Prelude.{◌≡◌, ◌<◌, ◌+◌, ◌^◌, ◌↔◌, ℕ, List, [], Err, length, IfOk, IfErr, OnOk};
 ghost use Rattle.orc_engine.specs.Ranges.{IsInRange};
@@ -19,11 +19,11 @@ use std::thread::Threads;
 /// So many ways are tried before what is told of them is joined.
 const BATCH: usize = 64;
 
-/// The ways of a batch are shared out among threads where their runs have so many entries in all, as far as those before them tell. A thread that begins
-/// may wait longer for a processor than a shorter batch takes.
+/// The ways of a batch are shared out among threads where their runs have so many entries in all, as far as those before them tell. A thread that
+/// begins may wait longer for a processor than a shorter batch takes.
 const WORTH: u64 = 20_000;
 
-/// What is told of a case's claims in the ways that were tried so far.
+/// What is told of a case's claims in the ways that were tried so far: in how many of them each fails, and where first (`orc_tally`).
 #[derive(Drop)]
 pub struct CaseTold {
     /// So many ways were tried, from 0 on.
@@ -47,7 +47,7 @@ impl CaseTold {
         })
     }
 
-    // One way more. The error is refused memory.
+    // Adds what is told of one way more. Where memory is refused nothing changes.
     fn join(&mut self, alloc: Global, way: &WayTold) -> Result<(), AllocError>
         requires { self.old.ways + 1 < 2 ^ 64 }
         ensures { OnOk result (IsJoined self.old way.now self.new) }
@@ -145,11 +145,11 @@ impl Batch<'_, '_, '_> {
     }
 }
 
-/// Tries the next ways of a case, whose scripts these are, and adds what is told of them. The runs are made on `workers` threads, of which the calling one
-/// is one; what is told is the same on any number of them.
+/// Tries the next ways of a case, whose scripts these are, and adds what is told of them. The runs are made on `workers` threads, of which the
+/// calling one is one; what is told is the same on any number of them.
 ///
-/// The fault is Range where there are no workers or over `MOST_WORKERS`, or the limit is 0 or over `MOST_ENTRIES`, and then alone; `Load` with the fault of
-/// the first way with whose script the source is no program; or Memory where memory was refused. After a fault some of the ways are told of.
+/// The fault is Range where there are no workers or over `MOST_WORKERS`, or the limit is 0 or over `MOST_ENTRIES`, and then alone; `Load` with the
+/// fault of the first way with whose script the source is no program; or Memory where memory was refused. After a fault some of the ways are told of.
 #[tactic(auto, using(crate::proofs::Adding::none_added, crate::proofs::Adding::all_added))]
 pub fn try_ways<'t, 'a, R: Threads + Sync>(
     rt: &R,
