@@ -111,6 +111,7 @@ impl<P: Run + Naming> Book<P> {
                 Ok(Answered::Token(self.born(slot, pass)))
             }
             Ok(None) => {
+                // The call pended, so the book holds its pass.
                 let Some(pass) = take_at(&mut self.posts, group) else {
                     unreachable!()
                 };

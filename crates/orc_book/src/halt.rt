@@ -72,6 +72,7 @@ impl<P: Run + Naming> Book<P> {
                 }
                 Ok(Ended::Group)
             }
+            // The program's own group keeps its word: the run ends.
             Kind::Open(0) => {
                 if self.ledger.has_halted() {
                     Ok(Ended::Run)
@@ -126,6 +127,7 @@ impl<P: Run + Naming> Book<P> {
             }
             Ok(Halted::Closed(parent)) => {
                 self.words.close(word);
+                // As above: the group was a member of the one that encloses it.
                 let Some(pass) = take_at(&mut self.posts, parent) else {
                     unreachable!()
                 };

@@ -81,6 +81,7 @@ impl Keeping {
         let place = self.free;
         if let Some(free) = self.link_at(place) {
             self.free = free.next;
+            // A place with a link is over 0, so this is the link's index. The prover isn't told so.
             if let Some(there) = self.links.get_mut(place.saturating_sub(1) as usize) {
                 *there = link;
             }

@@ -3,6 +3,9 @@
 //! A *group* is what runs in one right side of a `<x<` or in one left side of a `;`, or the program as a whole. Its members are its tokens, its
 //! pending calls and the groups right inside it. The group's *word*, an atomic counter of `orc_word`, counts *passes*: one for each member. Of a
 //! token that is *out* a worker holds the pass; of every other record the book does. Who leaves the last pass of a group closes it (`halt`).
+//!
+//! In clauses `stands` lists what each word stands for, and `marks` the tokens that are kept, by slots. The function `stands` of `orc_ledger` is
+//! another thing: a law about the journal.
 #![tactic(auto)]
 
 mod bind;

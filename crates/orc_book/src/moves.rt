@@ -63,6 +63,7 @@ impl<P: Run + Naming> Book<P> {
         ensures refused { IfErr result (λ r. (self.new ≡ self.old) × (r.back ≡ token)) }
         ensures why { IfErr result (λ r. IsRefusedMove P.listing self.old token is_end (IsHindered P.listing self.old.ledger) r.why) }
     {
+        // A law, here and in `fork_found`: it shows the prover that the journal leads to a place that the records spell. Nothing runs.
         stands(&self.ledger);
         match self.ledger.advance(
             inputs,
@@ -172,6 +173,7 @@ impl<P: Run + Naming> Book<P> {
                 let two = self.born(other, same);
                 Ok((one, two))
             }
+            // A token at `f | g` forks, by the ledger's clause.
             Ok(_) => unreachable!(),
             Err(fault) => Err(Refused {
                 why: fault_of(fault),

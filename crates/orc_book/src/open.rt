@@ -137,6 +137,7 @@ impl<P: Run + Naming> Book<P> {
                 });
             }
         };
+        // A law, here and in `other_found`: it shows the prover that the journal leads to a place that the records spell. Nothing runs.
         stands(&self.ledger);
         match self.ledger.advance(
             inputs,
@@ -146,6 +147,7 @@ impl<P: Run + Naming> Book<P> {
             &mut self.cancelled,
         ) {
             Ok(Moved::Forked(other)) => {
+                // The right side's token is in the new group.
                 let Some(inner) = self.ledger.held(other) else {
                     unreachable!()
                 };
@@ -160,6 +162,7 @@ impl<P: Run + Naming> Book<P> {
             }
             Ok(_) => unreachable!(),
             Err(fault) => {
+                // The word is free in the book still: nothing is to be closed, and `left.last` is dropped.
                 let left = groups.leave(opened.pass);
                 Err(Refused {
                     why: fault_of(fault),
@@ -256,6 +259,7 @@ impl<P: Run + Naming> Book<P> {
             &mut self.cancelled,
         ) {
             Ok(Moved::On) => {
+                // The left side's token is in the new group.
                 let Some(inner) = self.ledger.held(token.slot) else {
                     unreachable!()
                 };

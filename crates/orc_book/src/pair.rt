@@ -57,6 +57,7 @@ fn bind_one<P: Run + Naming, R: Wait>(
     // The passes of `more` are dropped here, so enclosing groups count them for good. A worker that goes on would leave them too.
     let mut more = Vec::new(alloc);
     while let Some(pass) = leave.pop() {
+        // Whether a group was closed doesn't matter here.
         let _closed = leave_one(rt, groups, book, pass, &mut more);
     }
     bound

@@ -151,6 +151,7 @@ impl<J: Naming> Post<J> {
             self.kept = 0;
             self.out = 0;
         }
+        // By the clause *out* no more tokens are out than there are members.
         let wanted = members - self.out;
         self.give_up(wanted, leave);
     }
@@ -352,6 +353,7 @@ pub(crate) fn wake_at<J: Naming>(
 ) -> Option<Pass<J>>
     ensures { MatchOption result (posts.new.items ≡ posts.old.items) (λ pass. (group_of pass ≡ Some (word_at posts.old.items number)) × Changes posts.old.items number posts.new.items (λ p q. (length q.passes + 1 ≡ length p.passes) × (q.kept ≡ kept) × (q.out ≡ out) × (p.passes ≡ q.passes ++ pass ∷ []))) }
 {
+    // So both arms below find what they ask for, and nothing changes without a pass.
     if held_in(posts, number) < 1 {
         return None;
     }

@@ -46,6 +46,7 @@ impl<P: Run + Naming> Book<P> {
             Ok(found) => found,
             Err(why) => return Err(Refused { why, back: token }),
         };
+        // Room for what comes of any move, before anything changes.
         let Ok(()) = out.reserve() else {
             let why = BookFault::Memory;
             return Err(Refused { why, back: token });
