@@ -36,6 +36,7 @@ const BETWEEN: usize = 4;
 /// the list, and the samples are its first ones, mixes tokens that came early, whose runs are mostly the longest, with some that came late.
 const STRIDE: usize = 16;
 
+/// The remainders by `STRIDE` in the order in which `jobs` takes them: bits reversed, so that each next one halves a gap.
 const ORDER: [usize; STRIDE] = [0, 8, 4, 12, 2, 10, 6, 14, 1, 9, 5, 13, 3, 11, 7, 15];
 
 impl<P: Run> Scheduler<P> {

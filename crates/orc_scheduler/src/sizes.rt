@@ -49,6 +49,7 @@ fn feeds(entry: &Entry) -> usize
     }
 }
 
+// Counts a journal's entries.
 fn sizes_of(journal: &Journal) -> Sizes
     ensures brought { result.brought ≡ total brings journal.now.entries }
     ensures opened { result.opened ≡ total opens journal.now.entries }
