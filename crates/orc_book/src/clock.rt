@@ -24,7 +24,7 @@ pub enum Next {
 }
 
 impl<P: Run + Naming> Book<P> {
-    /// What comes next, tokens that are out and kept alike. Where that is a tick it is made. The faults are Limit, where the
+    /// What comes next of the run, be its tokens out or kept. Where that is a tick it is made. The faults are Limit, where the
     /// journal has as many entries as the limit, and Memory, both of a tick alone.
     pub fn next(&mut self, inputs: &Inputs<'_, P>) -> Result<Next, BookFault>
         ensures says { IfOk result (λ n. SaysNext P.listing P.sites self.old.ledger n self.new.ledger) }

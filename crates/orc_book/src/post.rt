@@ -1,5 +1,6 @@
 //! Posts: a post is what a book has of one group, namely its passes and how many of its tokens are kept and are out. The functions behind the type do
 //! to the post of the group with a number what its methods do. One without a post has no passes and no tokens.
+//! Where a clause asks that the post is there the arm without one never runs.
 ghost use Rattle.std.specs.Prelude.{◌≡◌, ◌+◌, ◌-◌, ◌<◌, ◌≤◌, ◌^◌, ◌∷◌, ◌++◌, [], Some, None, true, false, length, vec_len, vec_capacity, All, IfOk, OnOk, MatchOption, MatchResult};
 ghost use Rattle.orc_indexes.specs.Same.{weight};
 ghost use Rattle.orc_word.specs.Views.{group_of};
