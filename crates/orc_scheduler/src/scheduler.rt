@@ -77,9 +77,11 @@ pub(crate) enum Step {
 /// A run: its ledger, the tokens whose turn comes, and those that wait.
 pub struct Scheduler<P: Run> {
     pub(crate) alloc: Global,
+    /// The run's records and its journal. Contracts of callers speak of it.
     pub ledger: Ledger<P>,
     // Whether the ledger keeps its journal.
     pub(crate) keeps: bool,
+    /// The tokens whose turn comes.
     pub ready: Ready,
     waiting: Waiting,
     // Whether a token enters a `>x>` and goes through it in one go, by `feed_through`. Not so in an order.
