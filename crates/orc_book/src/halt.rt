@@ -110,6 +110,7 @@ impl<P: Run + Naming> Book<P> {
         ensures refused { OnErr result (self.new ≡ self.old) }
         ensures why { IfErr result (λ why. IsRefusedGroup self.old.ledger number why) }
     {
+        // Room for the group's pass to the one that encloses it, before anything changes.
         if leave.try_reserve(1).is_err() {
             return Err(BookFault::Memory);
         }

@@ -153,7 +153,8 @@ impl<'w, 'a> Way<'w, 'a> {
         })
     }
 
-    // Makes the run in an order. One for which memory is refused tells nothing of the program.
+    // Makes the run in an order. One for which memory is refused tells nothing of the program. The fault is the engine's and no LoadFault, so its
+    // clause holds for any source and script.
     fn run(&self, order: u64) -> Result<Run, TrialFault>
         requires program { IsProgram (definitions self.now.loaded.program) (source self.now.loaded.program) }
         ensures made { IfOk result (IsMade self.now.loaded.program self.now.loaded.answers self.now.sites.items self.now.trials.now.limit) }
@@ -181,7 +182,7 @@ impl<'w, 'a> Way<'w, 'a> {
         Ok(Run { played, happenings })
     }
 
-    // Makes the trial in this order, and gives what is told of the way with it.
+    // Makes the trial in this order, and gives what is told of the way with it. A fault is as of `run`.
     fn note(&self, way: u64, order: u64, told: &WayTold) -> Result<WayTold, TrialFault>
         requires program { IsProgram (definitions self.now.loaded.program) (source self.now.loaded.program) }
         requires few { told.now.cut + 1 < 2 ^ 64 }

@@ -5,11 +5,11 @@
 //! of another pass, and [`Groups::leave`] makes it idle again and says who was last. Threads share the words without a lock: each call makes one
 //! exchange on one word, or two, and none waits.
 //!
-//! Of the words nothing is known but a rule, which holds between any two exchanges: a word's count is the number of passes that name its group,
-//! what a pass has seen of the bits is set, each set bit was won by one pass at most, and idle, naming and supplied passes together are those
-//! that were made. And each pass has *deeds*, which nothing undoes: the groups that it opened, those that it was the last to leave, the marks that it won.
-//! The words are in balance with the deeds of all, so that a call that was last, or that won, can't say that it wasn't. [`laws`] has
-//! what follows over all lists of such calls.
+//! Of the words nothing is known but a rule, which holds between any two exchanges: a word's count is the number of passes that name its group, what
+//! a pass has seen of the bits is set, each set bit was won by one pass at most, and idle, naming and supplied passes together are those that were
+//! made. And each pass has *deeds*, which nothing undoes: the groups that it opened, those that it was the last to leave, the marks that it won. The
+//! words are in balance with the deeds of all, so that a call that was last, or that won, can't say that it wasn't. [`laws`] has what follows over
+//! all lists of such calls.
 //!
 //! A pass that is dropped, and not left, counts for good.
 #![tactic(auto)]

@@ -34,6 +34,7 @@ pub(crate) enum Polled {
 /// Polls calls by hand, and waits for nothing.
 #[derive(Drop)]
 pub(crate) struct Poller {
+    // One task, with which each call is polled in turn. Nobody waits for it to be woken: `due` tells when a call is polled again.
     solo: Solo,
 }
 

@@ -204,6 +204,7 @@ impl<P: Run + Naming, C: Drop> Shared<P, C> {
             return;
         };
         let found = answers.find(request.site, &request.args, request.nth);
+        // The call says itself when it is due, and that has to be what the table says.
         if due != due_after(request.made_at, found) {
             self.stop(Stop::Site(number));
             return;
