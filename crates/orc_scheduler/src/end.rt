@@ -19,6 +19,9 @@ use orc_rules::program::Program;
 
 impl<P: Run> Scheduler<P> {
     /// What is told of the run, which stops so. None where that can't be told without its journal, which isn't kept.
+    ///
+    /// The fault is Memory where memory was refused for what is told; Broken where the records show that the run can't end so; Site as the stop says.
+    /// Of a stop with which `go` has answered only Memory comes, if the program is one that the scope check accepted.
     pub fn finish(
         mut self,
         program: &Program,

@@ -47,6 +47,7 @@ impl<P: Run> Scheduler<P> {
 
     /// Tokens go on to their next calls of definitions, until `wanted` of them stand ready or `EACH` entries were made for each of these. Those go
     /// first to which the fewest moves have led: of a tree of calls all that stand ready then are about as deep, and have runs much of one length.
+    /// The error is why the run stops.
     pub fn spread(&mut self, inputs: &Inputs<'_, P>, wanted: usize) -> Result<(), Stop>
         ensures spread { IfOk result (λ _. HasSpread self.old.ledger (deque_len self.old.ready.handles) self.new.ledger (deque_len self.new.ready.handles)) }
         ensures stops { IfErr result (λ stop. Stops P.listing self.new.ledger stop) }
@@ -163,7 +164,8 @@ impl<P: Run> Scheduler<P> {
     }
 
     /// Takes in what came of the call at which a token stood, if it stands there still. If that is a value, the turn of the token on it comes; if it
-    /// is nothing, and nobody else is in the token's side, that halts. Whether it was taken in.
+    /// is nothing, and nobody else is in the token's side, that halts. Whether it was taken in; where it wasn't nothing changes. The error
+    /// is why the run stops.
     pub fn append_sub_run(
         &mut self,
         inputs: &Inputs<'_, P>,

@@ -212,7 +212,7 @@ impl<P: Run> Scheduler<P> {
     }
 
     /// A token's turn or, where no token's turn comes, what else comes next. So a run is nearer its end each time: its entries are more, or as many
-    /// and its groups fewer, or as many and the turns that come fewer.
+    /// and its groups fewer, or as many and the turns that come fewer. The error is why the run stops.
     pub fn go(&mut self, inputs: &Inputs<'_, P>) -> Result<(), Stop>
         ensures nearer { IfOk result (λ _. IsNearer self.old.ledger (deque_len self.old.ready.handles) self.new.ledger (deque_len self.new.ready.handles)) }
         ensures within { self.new.ledger.entries ≤ self.new.ledger.limit }
