@@ -1,4 +1,4 @@
-//! A batch of jobs, dealt out to the threads of a crew: each has a queue of them, and takes from those of the others when its own is empty.
+//! A batch of jobs, dealt out to several threads: each has a queue of them, and takes from those of the others when its own is empty.
 
 use orc_ledger::Run;
 use orc_pool::{WorkerQueue, worker_queues};
