@@ -1,16 +1,17 @@
--- How commands name a test, and how they are written that show a failure.
+-- What the printed commands that show a failure repeat of the command line.
 use Rattle.std.specs.Prelude.{ℕ, List, [], ◌++◌, Option, Some, None, cond, codes, decimal, nat_eq, option_map}
 use Rattle.orc_rules.specs.declared.limits.TheConstants.{DEFAULT_ENTRIES}
 use Rattle.orc_cli.specs.declared.arguments.TheConstants.{DEFAULT_STATES, DEFAULT_TRIALS, DEFAULT_WAYS}
 use Rattle.orc_cli.specs.declared.job.TestOptions.{TestOptions}
 use Rattle.orc_run.specs.declared.call.Names.{Names}
 
--- the names of a test's files
+-- the names that a command line has for a test's files
 pub record Named : Type 0 where
   pub source : List ℕ
   pub test : List ℕ
   pub script : Option (List ℕ)
 
+-- the same from the code's names
 abbrev pub named_of : Names → Named
 named_of n = record { source = n.source.now; test = n.test.now; script = option_map (λ p. p.now) n.script }
 
@@ -19,7 +20,7 @@ abbrev pub script_text : Option (List ℕ) → List ℕ
 script_text (Some name) = codes " --script " ++ name
 script_text None = []
 
--- an option with its number, unless that is the usual one
+-- an option with its number, empty if that is the default
 abbrev pub option_text : List ℕ → ℕ → ℕ → List ℕ
 option_text word usual n = cond (nat_eq n usual) [] (word ++ decimal n)
 

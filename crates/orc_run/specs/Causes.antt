@@ -25,21 +25,21 @@ use Rattle.orc_run.specs.declared.tests.Untested.TheVariants as untested
 
 -- ---- with what the files hold
 
--- this is so of the file's bytes and of the script's,
+-- P holds of the bytes of the file and of the script,
 abbrev pub OfTwo : (List ℕ → Option (List ℕ)) → List ℕ → Option (List ℕ) → (List ℕ → List ℕ → Type 0) → Type 0
 OfTwo holds file script P = (source read : List ℕ) × IsHeld (holds file) source × IsRead holds script read × P source read
 
--- of those of a further file between them,
+-- of the bytes of a further file between them,
 abbrev pub OfThree : (List ℕ → Option (List ℕ)) → List ℕ → List ℕ → Option (List ℕ) → (List ℕ → List ℕ → List ℕ → Type 0) → Type 0
 OfThree holds file other script P = (source text read : List ℕ) × IsHeld (holds file) source × IsHeld (holds other) text × IsRead holds script read × P source text read
 
--- and of those of a journal and a test
+-- and of the bytes of the file, a journal, a test and the script
 abbrev pub OfFour : (List ℕ → Option (List ℕ)) → List ℕ → List ℕ → List ℕ → Option (List ℕ) → (List ℕ → List ℕ → List ℕ → List ℕ → Type 0) → Type 0
 OfFour holds file journal test script P = (source lines text read : List ℕ) × IsHeld (holds file) source × IsHeld (holds journal) lines × IsHeld (holds test) text × IsRead holds script read × P source lines text read
 
--- ---- a job each: a file couldn't be read, or a fault has its cause
+-- ---- why a job of each kind isn't done: a file couldn't be read, or the failure has its cause in what the files hold
 
--- a run, or many
+-- a run, or runs in many orders
 abbrev pub IsRunUndone : (List ℕ → Option (List ℕ)) → List ℕ → Option (List ℕ) → Failure → Type 0
 IsRunUndone holds file script (failure.Unread path f) = Unit {0}
 IsRunUndone holds file script (failure.Fault f) = OfTwo holds file script (λ source read. IsFaultOf source read f)
@@ -62,13 +62,13 @@ IsCheckUndone holds file journal script (failure.Unread path f) = Unit {0}
 IsCheckUndone holds file journal script (failure.Fault f) = OfThree holds file journal script (λ source lines read. IsCheckFault source read lines f)
 IsCheckUndone holds file journal script _ = ⊥
 
--- claims of a journal
+-- the claims of a test on a journal
 abbrev pub IsClaimUndone : (List ℕ → Option (List ℕ)) → List ℕ → List ℕ → Option (List ℕ) → List ℕ → Failure → Type 0
 IsClaimUndone holds file journal script test (failure.Unread path f) = Unit {0}
 IsClaimUndone holds file journal script test (failure.Fault f) = OfFour holds file journal test script (λ source lines text read. IsUnclaimedFor source text read lines f)
 IsClaimUndone holds file journal script test _ = ⊥
 
--- a picture of a journal,
+-- a picture of a journal
 abbrev pub HasDrawCause : (List ℕ → Option (List ℕ)) → List ℕ → List ℕ → Option (List ℕ) → Undrawn → Type 0
 HasDrawCause holds file journal script u = OfThree holds file journal script (λ source lines read. IsUndrawnFor source read lines u)
 
@@ -78,7 +78,7 @@ IsDrawUndone holds file journal script (failure.Fault f) = HasDrawCause holds fi
 IsDrawUndone holds file journal script failure.Rows = HasDrawCause holds file journal script undrawn.Rows
 IsDrawUndone holds file journal script _ = ⊥
 
--- and of a run
+-- a picture of a run
 abbrev pub HasDrawRunCause : (List ℕ → Option (List ℕ)) → List ℕ → Option (List ℕ) → Options → Undrawn → Type 0
 HasDrawRunCause holds file script run u = OfTwo holds file script (λ source read. IsRunUndrawnFor source read run u)
 
@@ -107,7 +107,7 @@ IsTestUndone holds file test script o _ = ⊥
 
 -- ---- any job
 
--- a job isn't done for this; `holds` says what is known of the files
+-- this failure is why a job isn't done; `holds` says what is known of the files
 abbrev pub IsUndone : (List ℕ → Option (List ℕ)) → Job → Failure → Type 0
 IsUndone holds (job.Run file script options) f = IsRunUndone holds file.now (option_map (λ p. p.now) script) f
 IsUndone holds (job.Outcomes file script options) f = IsRunUndone holds file.now (option_map (λ p. p.now) script) f
@@ -120,7 +120,7 @@ IsUndone holds (job.DrawRun file script run options) f = IsDrawRunUndone holds f
 IsUndone holds (job.Print file) f = IsPrintUndone holds file.now f
 IsUndone holds (job.Test file test script options) f = IsTestUndone holds file.now test.now (option_map (λ p. p.now) script) options f
 
--- a job comes to this status: it was done, and what was written and the status say what came of it; or it wasn't, and the status is that of the failure
+-- a job gives this status: it was done, and what was written and the status say what came of it; or it wasn't, and the status is that of the failure
 abbrev pub ComesTo : (List ℕ → Option (List ℕ)) → Job → Option (List ℕ) → Option (List ℕ) → ℕ → Type 0
 ComesTo holds j old new status = IsDone holds j old new status ⊎ ((f : Failure) × IsUndone holds j f × LeavesUndone f old new × (status ≡ failure_status f))
 

@@ -31,11 +31,12 @@ use Rattle.orc_run.specs.declared.judge.Unchecked.{Unchecked}
 use Rattle.orc_run.specs.declared.judge.Unchecked.TheVariants as unchecked
 use Rattle.orc_run.specs.declared.faults.RunFault.TheVariants as fault
 
--- the line of a yes: how many entries there are, and where the run stands
+-- the line on an accepted journal: how many entries it has, and the state of the run behind them
 abbrev pub verdict_line : ℕ → State → List ℕ
 verdict_line n state = codes "ok " ++ (decimal n ++ (codes " " ++ (state_word state ++ codes "\n")))
 
--- the text is that of a journal, which is a run of the source's program with the script's sites, this table, that stands so at this time
+-- the text is that of a journal, which is one of a run of the source's program with the script's sites, this table; behind it the run has this state
+-- and this time
 abbrev pub IsJudgedAt : List ℕ → List ℕ → List ℕ → Table → Written → State → ℕ → Type 0
 IsJudgedAt text script journal t j state now = (l : Listing) × Says script t × IsProgramOf text t l × IsJournal t.names journal j
     × IsVerdict (context l t (records_cancels j.version)) (source l) j.entries state now
@@ -52,7 +53,8 @@ Judges text script journal old new = (j : Written) × (state : State) × IsJudge
 abbrev pub LeavesUnjudged : List ℕ → List ℕ → List ℕ → Option (List ℕ) → Option (List ℕ) → RunFault → Type 0
 LeavesUnjudged text script journal old new = KeepsOr ((j : Written) × (state : State) × IsJudged text script journal j state × AppendsPrefix old new (verdict_line (length j.entries) state)) old new
 
--- why no verdict is given: a fault of the source or the script, of the journal's text, or of the journal: its first entry that is refused, with the first reason, refused memory aside
+-- why no verdict is given: a fault of the source or the script, of the journal's text, or of the journal: its first entry that is refused, with the
+-- first reason, refused memory aside
 abbrev pub IsRefusal : List ℕ → List ℕ → List ℕ → RunFault → Type 0
 IsRefusal text script journal (fault.Journal f) = (l : Listing) × (t : Table) × Says script t × IsProgramOf text t l × IsBadText t.names journal f
 IsRefusal text script journal (fault.Check f) = (l : Listing) × (t : Table) × (j : Written) × Says script t × IsProgramOf text t l × IsJournal t.names journal j
@@ -60,7 +62,7 @@ IsRefusal text script journal (fault.Check f) = (l : Listing) × (t : Table) × 
     × (f.why ≡ reason.Memory → IsCutShort (context l t (records_cancels j.version)) (source l) j.entries f.at)
 IsRefusal text script journal f = IsUnloaded text script f
 
--- the fault of a check: such a one, or one of the output
+-- the fault of a check: one of these, or one of the output
 abbrev pub IsCheckFault : List ℕ → List ℕ → List ℕ → RunFault → Type 0
 IsCheckFault text script journal (fault.Write w) = Unit {0}
 IsCheckFault text script journal f = IsRefusal text script journal f
@@ -71,12 +73,12 @@ IsCheckFault text script journal f = IsRefusal text script journal f
 abbrev pub IsLoaded : List ℕ → List ℕ → Type 0
 IsLoaded text script = (l : Listing) × (t : Table) × Says script t × IsProgramOf text t l
 
--- why no verdict is given on it: such a refusal, or it couldn't be read; it is read only where there is a program
+-- why no verdict is given on it: one of these faults, or it couldn't be read; it is read only where there is a program
 abbrev pub IsUnjudged : List ℕ → List ℕ → List ℕ → Unchecked → Type 0
 IsUnjudged text script journal (unchecked.Fault f) = IsRefusal text script journal f
 IsUnjudged text script journal unchecked.Unread = IsLoaded text script
 
--- the fault of its check: such a one, or one of the output
+-- the fault of its check: one of these, or one of the output
 abbrev pub IsUnchecked : List ℕ → List ℕ → List ℕ → Unchecked → Type 0
 IsUnchecked text script journal (unchecked.Fault f) = IsCheckFault text script journal f
 IsUnchecked text script journal unchecked.Unread = IsLoaded text script
@@ -88,21 +90,21 @@ LeavesUnchecked text script journal old new unchecked.Unread = Keeps old new
 
 -- ---- the journal of a run
 
--- a text that a run of the source with the script wrote as its journal, of which the summary tells
+-- a text that a run of the source with the script, with this summary, wrote as its journal
 abbrev pub IsOfRun : List ℕ → List ℕ → List ℕ → Summary → Type 0
 IsOfRun text script journal s = (options : Options) × (options.wanted ≡ wanted.Journal) × Runs text script options s journal
 
--- how a run that ended so stands
+-- the state of a run that ended so; of one that was cut it may be any
 abbrev pub StandsSo : End → State → Type 0
 StandsSo ends.Halted s = s ≡ state.Halted
 StandsSo ends.Quiet s = s ≡ state.Quiet
 StandsSo _ s = Unit {0}
 
--- the yes to it: the run's number of entries, and how it stands
+-- the line that accepts it was written: the run's number of entries, and its state
 abbrev pub Accepts : Summary → Option (List ℕ) → Option (List ℕ) → Type 0
 Accepts s old new = (stands : State) × StandsSo s.end stands × Appends old new (verdict_line s.entries stands)
 
--- what else may be said of it: the journal is beyond a limit, memory was refused, or the output failed
+-- why it may not be accepted all the same: the journal is beyond a limit, memory was refused, or the output failed
 abbrev pub IsBeyond : RunFault → Type 0
 IsBeyond (fault.Syntax f) = f ≡ syntax.Memory
 IsBeyond (fault.Scope f) = f.kind ≡ scope.Memory
@@ -112,7 +114,7 @@ IsBeyond (fault.Check f) = (f.why ≡ reason.Deep) ⊎ (f.why ≡ reason.Memory)
 IsBeyond (fault.Write w) = Unit {0}
 IsBeyond _ = ⊥
 
--- of one that is read piece by piece also that it couldn't be read
+-- for a journal that is read piece by piece also that it couldn't be read
 abbrev pub MayFail : Unchecked → Type 0
 MayFail (unchecked.Fault f) = IsBeyond f
 MayFail unchecked.Unread = ⊤

@@ -1,4 +1,4 @@
--- What holding the claims of a test against a journal does.
+-- What judging the claims of a test on a journal does.
 use Rattle.std.specs.Prelude.{◌≡◌, ◌++◌, ℕ, List, length}
 use Rattle.std.specs.declared.option.Option.{Option}
 use Rattle.std.specs.Io.KnownBytes.{Appends}
@@ -21,11 +21,12 @@ use Rattle.orc_run.specs.Running.{IsUnloaded, KeepsOr}
 use Rattle.orc_run.specs.declared.faults.RunFault.{RunFault}
 use Rattle.orc_run.specs.declared.faults.RunFault.TheVariants as fault
 
--- what the claims of a test see of a journal with these sites, whose run stands so at this time
+-- what the claims of a test see of a journal with these sites, whose run has this state and this time at its end
 abbrev pub sight_at : Test → Table → Written → State → ℕ → Sight
 sight_at test t j state now = sight (claim_sites t (sites_of test.sites.items)) j.entries state now
 
--- This is told of a journal: the check accepts it, its line comes first, and behind it what the claims of the text's test say; so many of them fail.
+-- `told` is the text on a journal that the check accepts: the line of the check, and then what the claims of the text's test say. `number` claims
+-- fail.
 pub record IsClaimed (source text script journal told : List ℕ) (number : ℕ) : Type 0 where
   pub others : Table
   pub says : Says script others
@@ -39,11 +40,11 @@ pub record IsClaimed (source text script journal told : List ℕ) (number : ℕ)
   pub lines : told ≡ verdict_line (length written.entries) state ++ findings_text test (sight_at test table written state now)
   pub failing : number ≡ failing test (sight_at test table written state now)
 
--- so many claims fail, and what was written tells it
+-- such a text was written, and so many claims fail
 abbrev pub HasClaimed : List ℕ → List ℕ → List ℕ → List ℕ → Option (List ℕ) → Option (List ℕ) → ℕ → Type 0
 HasClaimed source text script journal old new number = (told : List ℕ) × IsClaimed source text script journal told number × Appends old new told
 
--- at a fault nothing was written, or at a write fault a prefix of what is told
+-- at a fault nothing was written, or at a write fault a prefix of such a text
 abbrev pub LeavesUnclaimed : List ℕ → List ℕ → List ℕ → List ℕ → Option (List ℕ) → Option (List ℕ) → RunFault → Type 0
 LeavesUnclaimed source text script journal old new = KeepsOr ((told : List ℕ) × (number : ℕ) × IsClaimed source text script journal told number × AppendsPrefix old new told) old new
 
@@ -58,8 +59,8 @@ IsUnreadTest source text script _ = ⊥
 abbrev pub IsTest : List ℕ → List ℕ → Type 0
 IsTest text script = (others : Table) × (test : Test) × Says script others × SaysTest text others (test_of test)
 
--- why nothing is told: such a fault; or, where the text is a test, one of the source's names, of the journal's text or of one of its entries; or one of the
--- output
+-- why no text is written: the test isn't read; or, where the text is a test, one of the source's names, of the journal's text or of one of its
+-- entries; or one of the output
 abbrev pub IsUnclaimedFor : List ℕ → List ℕ → List ℕ → List ℕ → RunFault → Type 0
 IsUnclaimedFor source text script journal (fault.Test f) = IsUnreadTest source text script (fault.Test f)
 IsUnclaimedFor source text script journal (fault.Scope f) = IsTest text script × IsCheckFault source script journal (fault.Scope f)

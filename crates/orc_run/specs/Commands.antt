@@ -25,7 +25,8 @@ use Rattle.orc_run.specs.declared.faults.RunFault.TheVariants as fault
 use Rattle.orc_cli.specs.declared.job.Options.{Options}
 use Rattle.orc_cli.specs.declared.job.TestOptions.{TestOptions}
 
--- what was written is the whole text of a run of the file's program with the script's sites, and the status says how it ended; `holds` says what is known of the files
+-- what was written is the whole text of a run of the file's program with the script's sites, and the status says how it ended; `holds` says what is
+-- known of the files
 abbrev pub HasRun : (List ℕ → Option (List ℕ)) → List ℕ → Option (List ℕ) → Options → Option (List ℕ) → Option (List ℕ) → ℕ → Type 0
 HasRun holds file script options old new status = (source read : List ℕ) × (s : Summary) × IsHeld (holds file) source × IsRead holds script read × Ran source read options old new s × (status ≡ end_status_of s.end)
 
@@ -33,7 +34,8 @@ HasRun holds file script options old new status = (source read : List ℕ) × (s
 abbrev pub HasTold : (List ℕ → Option (List ℕ)) → List ℕ → Option (List ℕ) → ℕ → ℕ → Option (List ℕ) → Option (List ℕ) → ℕ → Type 0
 HasTold holds file script orders limit old new status = (source read : List ℕ) × IsHeld (holds file) source × IsRead holds script read × HasSurveyed source read orders limit old new × (status ≡ 0)
 
--- the same with what a search through all its schedules found, of so many states at most, and the status is 0 exactly if it says that this is all
+-- what was written are those outcomes, and what a search through all the program's schedules found, of so many states at most; the status is 0
+-- exactly if the text says that this is all
 abbrev pub HasToldAll : (List ℕ → Option (List ℕ)) → List ℕ → Option (List ℕ) → ℕ → ℕ → ℕ → Option (List ℕ) → Option (List ℕ) → ℕ → Type 0
 HasToldAll holds file script orders limit states old new status = (source read : List ℕ) × (all : Bool) × IsHeld (holds file) source × IsRead holds script read × HasSearched source read orders limit states old new all × (status ≡ cond all 0 4)
 
@@ -61,7 +63,7 @@ HasDrawnRun holds file script run old new status = (source read : List ℕ) × I
 abbrev pub HasPrinted : (List ℕ → Option (List ℕ)) → List ℕ → Option (List ℕ) → Option (List ℕ) → ℕ → Type 0
 HasPrinted holds file old new status = (source : List ℕ) × IsHeld (holds file) source × Prints source old new × (status ≡ 0)
 
--- what was written tells of the file's program held against a test, and the status is 0 exactly if no claim fails
+-- what was written reports a test of the file's program, and the status is 0 exactly if no claim fails
 abbrev pub HasTested : (List ℕ → Option (List ℕ)) → List ℕ → List ℕ → Option (List ℕ) → TestOptions → Option (List ℕ) → Option (List ℕ) → ℕ → Type 0
 HasTested holds file test script options old new status = (source text read : List ℕ) × (explains : Bool) × (failing : ℕ) × IsHeld (holds file) source × IsHeld (holds test) text × IsRead holds script read × HasFailing source text read (record { source = file; test = test; script = script }) options explains old new failing × (status ≡ cond (nat_eq failing 0) 0 1)
 
@@ -82,15 +84,15 @@ IsDone holds (job.Test file test script options) old new status = HasTested hold
 abbrev pub HasEnded : End → Option (List ℕ) → Option (List ℕ) → Type 0
 HasEnded end old new = (options : Options) × (source script : List ℕ) × (s : Summary) × Ran source script options old new s × (s.end ≡ end)
 
--- the same of one that was cut by its limit, or by one of the engine's
+-- what was written is the whole text of a run that was cut by its limit, or by one of the engine's
 abbrev pub WasCut : Option (List ℕ) → Option (List ℕ) → Type 0
 WasCut old new = HasEnded ends.Limit old new ⊎ HasEnded ends.Full old new
 
--- what was written tells of a search that didn't find all
+-- what was written is the text of a search that says that it didn't find all
 abbrev pub TellsNotAll : Option (List ℕ) → Option (List ℕ) → Type 0
 TellsNotAll old new = (source script : List ℕ) × (orders limit states : ℕ) × HasSearched source script orders limit states old new false
 
--- what was written tells of a test some claim of which fails, of a program or of a journal
+-- what was written reports a test, of a program or of a journal, in which some claim fails
 abbrev pub TellsOfFailures : Option (List ℕ) → Option (List ℕ) → Type 0
 TellsOfFailures old new = ((options : TestOptions) × (source text script : List ℕ) × (names : Named) × (explains : Bool) × (failing : ℕ) × HasFailing source text script names options explains old new failing × (0 < failing))
     ⊎ ((source text script journal : List ℕ) × (failing : ℕ) × HasClaimed source text script journal old new failing × (0 < failing))

@@ -29,6 +29,7 @@ use Rattle.orc_run.specs.declared.searched.Sighted.{Sighted}
 
 -- ---- the way
 
+-- the unusual lines of this way of a case; none where there is no such case
 abbrev pub unusual_in : Option CaseWays → ℕ → List ℕ
 unusual_in (Some c) way = unusual c way
 unusual_in None way = []
@@ -52,7 +53,8 @@ pub record FailsAt (t : Trials) (script : List ℕ) (claim : ℕ) (v : Verdict) 
 abbrev pub failing_in : Trials → Run → Failure → List ℕ
 failing_in t r f = failing_text t.sites.now r.happenings.happened r.played.summary.end r.played.summary.now f.verdict f.order
 
--- below the lines of the way the line of where the claim fails in such a run, at the place of the failure; and more only where an explanation is asked for
+-- the lines of the way, and below them the line on where the claim fails in such a run, at the place of the failure; `more` only where an explanation
+-- is asked for
 pub record IsTrialDetail (t : Trials) (explains : Bool) (script lines : List ℕ) (number claim : ℕ) (f : Failure) (text : List ℕ) : Type 0 where
   pub run : Run
   pub fails : FailsAt t script claim f.verdict run
@@ -62,7 +64,8 @@ pub record IsTrialDetail (t : Trials) (explains : Bool) (script lines : List ℕ
 
 -- ---- a failure that a schedule shows
 
--- a search saw this of a run of the source's program with this script, which breaks the claim, and told times apart up to the latest that the claim asks for
+-- a search saw this of a run of the source's program with this script, which breaks the claim; it told times apart up to the latest that the claim
+-- asks for
 pub record IsSighted (t : Trials) (script : List ℕ) (claim : ℕ) (s : Sighted) : Type 0 where
   pub its : Claim
   pub is_its : slice_get t.claims.now claim ≡ Some its
@@ -73,14 +76,16 @@ pub record IsSighted (t : Trials) (script : List ℕ) (claim : ℕ) (s : Sighted
   pub fails : FailsInOne listing table (claim_sites table (sites_of t.sites.now)) its s.seen
   pub latest : s.latest ≡ latest_of its
 
+-- the line on what a search saw
 abbrev pub sighted_text : Trials → Sighted → List ℕ
 sighted_text t s = seen_text t.sites.now s.latest s.seen.happened.items s.seen.end s.seen.now
 
+-- the same, empty where it saw nothing
 abbrev pub sighted_or_none : Trials → Option Sighted → List ℕ
 sighted_or_none t (Some s) = sighted_text t s
 sighted_or_none t None = []
 
--- below the lines of the way the line of what a search sees there; nothing where it comes to no such run
+-- the lines of the way, and below them the line on what a search sees there; no line where it finds no such run
 pub record IsScheduleDetail (t : Trials) (script lines : List ℕ) (number claim : ℕ) (text : List ℕ) : Type 0 where
   pub found : Option Sighted
   pub sighted : IfSome found (IsSighted t script claim)

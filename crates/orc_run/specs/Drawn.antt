@@ -36,7 +36,7 @@ IsUndrawnFor text script journal undrawn.Rows = IsAccepted text script journal
 
 -- ---- the journal of a run
 
--- the same run, of which the journal is wanted
+-- the options of a run, with its journal as what is wanted of it
 abbrev pub with_journal : RunOptions → RunOptions
 with_journal o = record o { wanted = wanted.Journal }
 

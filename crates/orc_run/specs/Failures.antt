@@ -1,4 +1,4 @@
--- What is told of a job that was not done.
+-- The line and the status of a job that was not done, and what explains it.
 use Rattle.std.specs.Prelude.{ℕ, List, [], ◌++◌, Bool, true, false, codes, decimal, string_bytes}
 use Rattle.orc_rules.specs.declared.limits.TheConstants.{MOST_ROWS}
 use Rattle.orc_run.specs.Faults.{line, status}
@@ -9,6 +9,7 @@ use Rattle.orc_run.specs.declared.failures.Failure.{Failure}
 use Rattle.orc_run.specs.declared.failures.Failure.TheVariants as failure
 use Rattle.orc_run.specs.declared.inputs.ReadFault.TheVariants as read
 
+-- the process's status
 abbrev pub failure_status : Failure → ℕ
 failure_status (failure.Unread path f) = read_status_of f
 failure_status (failure.Fault f) = status f
@@ -35,7 +36,7 @@ is_asked explained.Unasked = false
 is_asked explained.Nothing = true
 is_asked (explained.Text text) = true
 
--- what follows it: nothing unless it is asked for
+-- the text that explains it: empty unless an explanation is asked for
 abbrev pub told : Explained → List ℕ
 told explained.Unasked = []
 told explained.Nothing = []

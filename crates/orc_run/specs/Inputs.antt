@@ -8,7 +8,7 @@ abbrev pub IsHeld : Option (List ℕ) → List ℕ → Type 0
 IsHeld None bytes = ⊤
 IsHeld (Some held) bytes = bytes ≡ held
 
--- no bytes where no file is named, else those of the file
+-- no bytes where no file is named, otherwise those of the file, where they are known
 abbrev pub IsRead : (List ℕ → Option (List ℕ)) → Option (List ℕ) → List ℕ → Type 0
 IsRead holds None bytes = bytes ≡ []
 IsRead holds (Some path) bytes = IsHeld (holds path) bytes

@@ -39,7 +39,8 @@ pub record Shows (w : Wanted) (values : List Value) (journal : Option Written) (
   pub is_its : IfSome journal (λ j. j ≡ record { version = Two; entries = es })
   pub kept : keeps_journal w ≡ true → is_some journal ≡ true
 
--- a run of the program with these sites, of which the summary tells and the text shows what is wanted; each entry of a journal that is written has a line
+-- the summary is that of a run of the program with these sites, and the text is what is wanted of that run; each entry of a journal that is written
+-- has a line
 pub record IsTold (l : Listing) (t : Table) (options : Options) (s : Summary) (text : List ℕ) : Type 0 where
   pub outcome : Outcome
   pub is_run : IsRun l t options.limit outcome
@@ -47,11 +48,11 @@ pub record IsTold (l : Listing) (t : Table) (options : Options) (s : Summary) (t
   pub shows : text ≡ written options.wanted t.names outcome.journal
   pub fits : options.wanted ≡ wanted.Journal → AreOf t.names Two outcome.journal
 
--- the source's program runs so with the sites that the script says
+-- this is the summary and the text of a run of the source's program with the sites that the script says
 abbrev pub Runs : List ℕ → List ℕ → Options → Summary → List ℕ → Type 0
 Runs source script options s text = (l : Listing) × (t : Table) × Says script t × IsProgramOf source t l × IsTold l t options s text
 
--- what was written is the whole text of a run, of which the summary tells
+-- what was written is the whole text of a run with this summary
 abbrev pub Ran : List ℕ → List ℕ → Options → Option (List ℕ) → Option (List ℕ) → Summary → Type 0
 Ran source script options old new s = (text : List ℕ) × Runs source script options s text × Appends old new text
 
@@ -59,7 +60,7 @@ Ran source script options old new s = (text : List ℕ) × Runs source script op
 abbrev pub LeavesPart : List ℕ → List ℕ → Options → Option (List ℕ) → Option (List ℕ) → Type 0
 LeavesPart source script options old new = (l : Listing) × (t : Table) × (outcome : Outcome) × Says script t × IsProgramOf source t l × IsRun l t options.limit outcome × AppendsPrefix old new (written options.wanted t.names outcome.journal)
 
--- at a fault nothing was written, but at one of the output: then what was cut off is so
+-- at a fault nothing was written; only at one of the output `cut` holds in its place, which says of which text a prefix was written
 abbrev pub KeepsOr : Type 0 → Option (List ℕ) → Option (List ℕ) → RunFault → Type 0
 KeepsOr cut old new (fault.Write w) = cut
 KeepsOr cut old new _ = Keeps old new
@@ -68,13 +69,13 @@ KeepsOr cut old new _ = Keeps old new
 abbrev pub LeavesAtFault : List ℕ → List ℕ → Options → Option (List ℕ) → Option (List ℕ) → RunFault → Type 0
 LeavesAtFault source script options old new = KeepsOr (LeavesPart source script options old new) old new
 
--- a fault of the source or of its script, as a run's
+-- a fault of loading as a fault of a run
 abbrev pub of_load : LoadFault → RunFault
 of_load (load.Syntax f) = fault.Syntax f
 of_load (load.Script f) = fault.Script f
 of_load (load.Scope f) = fault.Scope f
 
--- no program is loaded for this fault
+-- this fault is the cause why no program is loaded
 abbrev pub IsUnloaded : List ℕ → List ℕ → RunFault → Type 0
 IsUnloaded source script (fault.Syntax f) = IsLoadFault source script (load.Syntax f)
 IsUnloaded source script (fault.Script f) = IsLoadFault source script (load.Script f)

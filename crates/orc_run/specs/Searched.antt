@@ -46,18 +46,23 @@ pub record AreMore (seen : List Seen) (found more : List Ended) : Type 0 where
 
 -- ---- the text
 
+-- a line for each outcome that no order came to
 abbrev pub unseen_lines : ℕ → List Ended → List ℕ
 unseen_lines orders more = flat_map (λ e. unseen_line orders e.end e.values.items) more
 
+-- the last line where all outcomes were found, in so many states,
 abbrev pub all_line : ℕ → List ℕ
 all_line states = codes "all: every run that ends by itself has one of these outcomes (" ++ (decimal states ++ codes " states)\n")
 
+-- where there is none,
 abbrev pub none_line : ℕ → List ℕ
 none_line states = codes "all: no run ends by itself (" ++ (decimal states ++ codes " states)\n")
 
+-- where there are more states than a search may look at,
 abbrev pub many_line : ℕ → List ℕ
 many_line most = codes "not all: there are over " ++ (decimal most ++ codes " states\n")
 
+-- and where times may be over 64 bits
 abbrev pub long_line : List ℕ
 long_line = codes "not all: delays may add up to 2^64 or more\n"
 
@@ -68,7 +73,7 @@ pub data Closes (l : Listing) (t : Table) (limit most : ℕ) (es : List Ended) :
   many : Closes l t limit most es (many_line most) false
   long : Closes l t limit most es long_line false
 
--- The text tells of so many orders of the source's program, with the sites that the script says, and of a search through all its schedules, of so many
+-- The text reports so many orders of the source's program, with the sites that the script says, and a search through all its schedules, of so many
 -- states at most: a line for each outcome that came up, one for each other one that the search found, with which a run ends too, and the last line.
 pub record TellsAll (source script : List ℕ) (orders limit most : ℕ) (text : List ℕ) (all : Bool) : Type 0 where
   pub listing : Listing
@@ -94,11 +99,13 @@ LeavesUnsearched source script orders limit most old new = KeepsOr ((text : List
 
 -- ---- what a search answers
 
+-- the outcomes that a search found; none where it gave up
 abbrev pub found_of : Schedules → List Ended
 found_of (schedules.All es states) = es.items
 found_of schedules.TooMany = []
 found_of schedules.TooLong = []
 
+-- whether a search found all outcomes
 abbrev pub says_all : Schedules → Bool
 says_all (schedules.All es states) = true
 says_all schedules.TooMany = false
@@ -109,6 +116,7 @@ abbrev pub line_of_all : List Ended → ℕ → List ℕ
 line_of_all [] states = none_line states
 line_of_all (e ∷ es) states = all_line states
 
+-- the last line, where a search may look at so many states
 abbrev pub last_line : ℕ → Schedules → List ℕ
 last_line most (schedules.All es states) = line_of_all es.items states
 last_line most schedules.TooMany = many_line most

@@ -1,4 +1,4 @@
--- What shows an outcome of a source's program.
+-- What writing the journal of a run that has a certain outcome does.
 use Rattle.std.specs.Prelude.{◌≡◌, ◌≤◌, ◌-◌, ◌⊎◌, ℕ, List, Some, length, map, slice_get}
 use Rattle.std.specs.declared.option.Option.{Option}
 use Rattle.std.specs.Io.KnownBytes.{Keeps, Appends}
@@ -34,12 +34,12 @@ pub record IsJournalOf (l : Listing) (t : Table) (end : End) (values : List Valu
   pub shows : published outcome.journal ≡ values
   pub lines : text ≡ journal_text t.names (record { version = Two; entries = outcome.journal })
 
--- of the outcomes that came up this is the one with the number, from 1; or there are fewer, and none of them is it
+-- among the outcomes that came up this is the one with the number, from 1; or there are fewer, and this is none of them
 abbrev pub IsNumbered : List Seen → ℕ → Ended → Type 0
 IsNumbered seen number e = (slice_get (map ended_of seen) (number - 1) ≡ Some e) ⊎ ((length seen ≤ number - 1) × IsUnseen seen e)
 
--- The text is the journal of a run of the source's program, with the sites that the script says, which has the outcome with this number: of those that came
--- up in so many orders, or another one.
+-- The text is the journal of a run of the source's program, with the sites that the script says, which has the outcome with this number: of those
+-- that came up in so many orders, or another one.
 pub record ShowsOutcome (source script : List ℕ) (orders limit number : ℕ) (text : List ℕ) : Type 0 where
   pub listing : Listing
   pub table : Table
@@ -77,30 +77,32 @@ IsOwnUnshown _ = ⊥
 
 -- ---- as it is written
 
--- of a run that was played this was written, if it has the outcome
+-- the journal of a run that was played was written, and that run has the outcome
 abbrev pub HasWritten : Listing → Table → Played → End → List Value → Option (List ℕ) → Option (List ℕ) → Type 0
 HasWritten l t p end values old new = (limit : ℕ) → IsPlayed l t limit p.summary p.published.items p.journal → (text : List ℕ) × IsJournalOf l t end values text × Appends old new text
 
--- and this where it wasn't written whole
+-- of that journal nothing was written, or at a write fault a prefix
 abbrev pub LeavesUnwritten : Listing → Table → Played → End → List Value → Option (List ℕ) → Option (List ℕ) → Unshown → Type 0
 LeavesUnwritten l t p end values old new (unshown.Fault f) = KeepsOr ((limit : ℕ) → IsPlayed l t limit p.summary p.published.items p.journal → (text : List ℕ) × IsJournalOf l t end values text × AppendsPrefix old new text) old new f
 LeavesUnwritten l t p end values old new _ = Keeps old new
 
--- the same of some outcome to which no order came
+-- the journal of a run was written that has some outcome to which no order came
 abbrev pub WritesUnseen : Listing → Table → List Seen → Option (List ℕ) → Option (List ℕ) → Type 0
 WritesUnseen l t seen old new = (e : Ended) × IsUnseen seen e × ((text : List ℕ) × IsJournalOf l t e.end e.values.items text × Appends old new text)
 
+-- of that journal nothing was written, or at a write fault a prefix
 abbrev pub LeavesUnseen : Listing → Table → List Seen → Option (List ℕ) → Option (List ℕ) → Unshown → Type 0
 LeavesUnseen l t seen old new (unshown.Fault f) = KeepsOr ((e : Ended) × IsUnseen seen e × ((text : List ℕ) × IsJournalOf l t e.end e.values.items text × AppendsPrefix old new text)) old new f
 LeavesUnseen l t seen old new _ = Keeps old new
 
--- of a run that was played: it hasn't the outcome, or the output is at fault
+-- why the journal of a run that was played isn't written: the run doesn't have the outcome, or the output is at fault
 abbrev pub IsUnwrittenBy : ℕ → Unshown → Type 0
 IsUnwrittenBy number (unshown.NoRun n) = n ≡ number
 IsUnwrittenBy number (unshown.Fault (fault.Write w)) = Unit {0}
 IsUnwrittenBy number _ = ⊥
 
--- once the program is loaded, of outcomes to which no order came: there is none with the number, or no run that has it was found, or memory was refused, or the output is at fault
+-- why none is shown of the outcomes to which no order came: there is none with the number, or no run that has it was found, or memory was refused, or
+-- the output is at fault
 abbrev pub IsUnshownBy : ℕ → Unshown → Type 0
 IsUnshownBy number (unshown.NoOutcome n) = n ≡ number
 IsUnshownBy number (unshown.NoRun n) = n ≡ number

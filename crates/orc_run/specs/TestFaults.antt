@@ -1,4 +1,4 @@
--- Why nothing is told of a test.
+-- Why nothing is written of a test.
 use Rattle.std.specs.Prelude.{◌≡◌, ◌⊎◌, ◌++◌, ℕ, List, [], ◌∷◌, Some, None, length, map, slice_get}
 use Rattle.std.specs.List.{All, AllZip, flat_map}
 use Rattle.orc_rules.specs.Sites.{Table}
@@ -61,15 +61,16 @@ pub record IsCounted (source text script : List ℕ) (ways : List CaseWays) : Ty
   pub cases : AreWays test 0 ways
   pub every : length ways ≡ length test.cases
 
--- the scripts of the first ways of each case, so many at most, with these lines behind each
+-- the scripts of the first ways of each case, so many of a case at most, with these lines behind each
 abbrev pub all_scripts : ℕ → List ℕ → List CaseWays → List (List ℕ)
 all_scripts most behind ways = flat_map (λ c. scripts c most behind) ways
 
--- of the ways that are to be tried no program is loaded with the first one's script with which none is, for this fault
+-- of the ways that are to be tried there is a first one with whose script no program is loaded, for this fault
 abbrev pub IsUntriable : List ℕ → List ℕ → List ℕ → TestOptions → LoadFault → Type 0
 IsUntriable source text script o f = (ways : List CaseWays) × IsCounted source text script ways × IsFirstUnloaded source (all_scripts o.ways script ways) f
 
--- the engine's fault where so many workers make runs within this limit: one of both is out of range, or memory was refused; it is never to blame itself
+-- the engine's fault where so many workers make runs within this limit: one of both is out of range, or memory was refused; it is never to blame
+-- itself
 abbrev pub IsEngineCause : ℕ → ℕ → EngineFault → Type 0
 IsEngineCause workers limit engine.Range = IsInRange workers limit → ⊥
 IsEngineCause workers limit engine.Memory = Unit {0}
@@ -91,8 +92,8 @@ abbrev pub IsTestCause : List ℕ → List ℕ → List ℕ → TestFault → Ty
 IsTestCause source text script (unread.Ways line) = (t : DraftedTest) × IsKnown source text script t × IsFirstMany t line
 IsTestCause source text script f = IsUnreadTest source text script (fault.Test f)
 
--- Why nothing is told of a test. The faults of the source's text come first, then those of the script, then those of the test, and then those of the first
--- way with which no program is loaded. Before anything is written all ways were tried.
+-- Why nothing is told of a test. The faults of the source's text come first, then those of the script, then those of the test, and then those of the
+-- first way with which no program is loaded. Before anything is written all ways were tried.
 abbrev pub IsTestFaultOf : List ℕ → List ℕ → List ℕ → TestOptions → RunFault → Type 0
 IsTestFaultOf source text script o (fault.Syntax f) = IsUnreadTest source text script (fault.Syntax f)
 IsTestFaultOf source text script o (fault.Script f) = IsUnreadTest source text script (fault.Script f) ⊎ IsUntriable source text script o (load.Script f)
@@ -107,7 +108,7 @@ IsTestFaultOf source text script o (fault.Check f) = ⊥
 abbrev pub IsOfSchedule : List Row → ℕ → Type 0
 IsOfSchedule rs n = (b : Broken) × (failure_at n rs ≡ Some (counterexample.Schedule b))
 
--- the same; or the test was tried, and fewer failures are reported than the number of the one that is to be shown, or
+-- why nothing is written: for such a fault; or the test was tried, and fewer failures are reported than the number of the one that is to be shown, or
 -- that one is of a schedule that no order showed, and its journal is wanted
 abbrev pub IsUntestedFor : List ℕ → List ℕ → List ℕ → TestOptions → Untested → Type 0
 IsUntestedFor source text script o (untested.Fault f) = IsTestFaultOf source text script o f
@@ -126,7 +127,7 @@ abbrev pub IsNoText : Untested → Type 0
 IsNoText (untested.Fault (fault.Write w)) = Unit {0}
 IsNoText _ = ⊥
 
--- the script is none
+-- the script's text is no script, for this fault
 abbrev pub IsNoScript : List ℕ → Untested → Type 0
 IsNoScript script (untested.Fault (fault.Script f)) = IsScriptFault script f
 IsNoScript script _ = ⊥
@@ -146,7 +147,7 @@ IsUncounted t _ = ⊥
 abbrev pub all_texts : List CaseScripts → List (List ℕ)
 all_texts ss = flat_map (λ s. texts s.scripts.items) ss
 
--- not all of these scripts are tried by so many workers: with the first one with which no program is loaded none is for this fault, or one of the engine
+-- why so many workers don't try all of these scripts: with the first one with which no program is loaded this is why; or the engine is at fault
 abbrev pub AreUntried : List ℕ → ℕ → ℕ → List (List ℕ) → Untested → Type 0
 AreUntried source workers limit scripts (untested.Fault (fault.Syntax f)) = IsFirstUnloaded source scripts (load.Syntax f)
 AreUntried source workers limit scripts (untested.Fault (fault.Script f)) = IsFirstUnloaded source scripts (load.Script f)
@@ -164,7 +165,7 @@ pub record IsAmong (scripts : List (List ℕ)) (script : List ℕ) : Type 0 wher
 abbrev pub HasUnloaded : List ℕ → List (List ℕ) → LoadFault → Type 0
 HasUnloaded source scripts f = (script : List ℕ) × IsAmong scripts script × IsLoadFault source script f
 
--- with this script so many workers don't make a run again, or what it shows isn't written
+-- why so many workers don't make a run with this script again, or what it shows isn't written
 abbrev pub IsUnshown : List ℕ → ℕ → ℕ → List ℕ → Untested → Type 0
 IsUnshown source workers limit script (untested.Fault (fault.Syntax f)) = IsLoadFault source script (load.Syntax f)
 IsUnshown source workers limit script (untested.Fault (fault.Script f)) = IsLoadFault source script (load.Script f)
@@ -173,12 +174,12 @@ IsUnshown source workers limit script (untested.Fault (fault.Engine f)) = IsEngi
 IsUnshown source workers limit script (untested.Fault (fault.Write w)) = Unit {0}
 IsUnshown source workers limit script _ = ⊥
 
--- the same; or no run of the failure with this number was found
+-- one of these causes; or no run of the failure with this number was found
 abbrev pub IsUnfound : List ℕ → ℕ → List ℕ → ℕ → Untested → Type 0
 IsUnfound source limit script number (untested.NoJournal n) = n ≡ number
 IsUnfound source limit script number f = IsUnshown source 1 limit script f
 
--- the same, of one of these scripts
+-- one of these causes, with one of these scripts
 abbrev pub AreUnshown : List ℕ → ℕ → List (List ℕ) → Untested → Type 0
 AreUnshown source limit scripts (untested.Fault (fault.Syntax f)) = HasUnloaded source scripts (load.Syntax f)
 AreUnshown source limit scripts (untested.Fault (fault.Script f)) = HasUnloaded source scripts (load.Script f)
@@ -187,7 +188,7 @@ AreUnshown source limit scripts (untested.Fault (fault.Engine f)) = IsEngineCaus
 AreUnshown source limit scripts (untested.Fault (fault.Write w)) = Unit {0}
 AreUnshown source limit scripts _ = ⊥
 
--- the same, of what is wanted; or the failure that is to be shown isn't among these rows
+-- one of these causes; or the failure that is to be shown isn't among these rows, or is one that no order showed
 abbrev pub AreUnwritten : List ℕ → ℕ → List (List ℕ) → Shown → List Row → Untested → Type 0
 AreUnwritten source limit scripts s rs (untested.NoFailure n) = IsToShow s n × (failure_at n rs ≡ None)
 AreUnwritten source limit scripts s rs (untested.NoJournal n) = IsToShow s n × IsOfSchedule rs n
@@ -200,7 +201,7 @@ pub record AreReported (t : Trials) (test : Test) (orders : ℕ) (cases : List C
   pub each : r.orders ≡ orders
   pub schedules : AreSaid t r.test.now.claim_lines.items cases r.cases.now r.searched.now
 
--- the cases are not all tried; or they are, and what is wanted isn't written
+-- why nothing is written: not all cases were tried; or they were, and what is wanted isn't written
 abbrev pub AreUntold : Trials → Test → TestOptions → List CaseScripts → Untested → Type 0
 AreUntold t test o cases (untested.Fault (fault.Write w)) = (r : Report) × AreReported t test o.orders cases r
 AreUntold t test o cases (untested.NoFailure n) = IsToShow o.shown n × ((r : Report) × AreReported t test o.orders cases r × (failure_at n (rows r) ≡ None))

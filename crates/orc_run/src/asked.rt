@@ -1,4 +1,6 @@
 //! Which services of a test no run has asked: a line that nobody calls may be mistyped.
+//!
+//! The test's runs are made again with one claim for each service, which is put to the test exactly where a run asks that service.
 
 use crate::scripts::CaseScripts;
 use orc_claims::claim::{Claim, Event, Plain, Simple, Slot, Wanted};
@@ -9,10 +11,10 @@ use orc_ways::test::{Service, ServiceLine, SiteName, Test};
 use std::alloc::{AllocError, Global};
 use std::thread::Threads;
 
-/// So many ways are tried before it is seen whether a service is left that wasn't asked.
+/// How many ways are run between two looks at whether a service is still unasked. If none is, the other ways aren't run.
 const SOME: usize = 64;
 
-// The place of a service's site among those of its test.
+// The place of a service's site among those of its test, which have it: a test's sites are all that its lines name.
 fn site_of(sites: &[SiteName<'_>], service: &Service<'_>) -> u32 {
     let mut place: u32 = 0;
     for site in sites {
@@ -24,7 +26,8 @@ fn site_of(sites: &[SiteName<'_>], service: &Service<'_>) -> u32 {
     place
 }
 
-// The claim that is put to the test where a run makes a call that the service's patterns match: that there are any number of such calls.
+// The claim that is put to the test where a run makes a call that the service's patterns match: that there are any number of such calls. It always
+// holds; 0 is its least count, and the two None are that it has no greatest count and no time.
 fn claim_of(
     alloc: Global,
     sites: &[SiteName<'_>],
@@ -41,7 +44,7 @@ fn claim_of(
     })
 }
 
-// That claim of each service.
+// That claim for each service, in the order of the services.
 fn claims_of(alloc: Global, test: &Test<'_>) -> Result<Vec<Claim>, AllocError> {
     let mut claims = Vec::new(alloc);
     for line in &test.services {
@@ -50,7 +53,7 @@ fn claims_of(alloc: Global, test: &Test<'_>) -> Result<Vec<Claim>, AllocError> {
     Ok(claims)
 }
 
-/// Whether a service is one of the case at this place. One of `given` is one of each.
+/// Whether a service belongs to the case at this place. One below `given` belongs to every case.
 pub(crate) fn is_of(line: &ServiceLine<'_>, case: usize) -> bool {
     match line.case {
         Some(own) => own == case,
@@ -66,7 +69,7 @@ struct Services<'s, 'a> {
 }
 
 impl<'s, 'a> Services<'s, 'a> {
-    // Before the first run.
+    // Before the first run: none was asked.
     fn new(alloc: Global, lines: &'s [ServiceLine<'a>]) -> Result<Services<'s, 'a>, AllocError> {
         let mut asked = Vec::new(alloc);
         for _line in lines {
@@ -75,6 +78,7 @@ impl<'s, 'a> Services<'s, 'a> {
         Ok(Services { lines, asked })
     }
 
+    // A place without a service counts as asked, so that nothing is said of it.
     fn is_asked(&self, place: usize) -> bool {
         self.asked.get(place).copied().unwrap_or(true)
     }
@@ -89,7 +93,7 @@ impl<'s, 'a> Services<'s, 'a> {
         false
     }
 
-    // Some runs of a case were made, of which this is told of each service's claim.
+    // Notes which services the runs of a case have asked. `told` has the counts of each service's claim, in the order of the services.
     fn note(&mut self, case: usize, told: &[Told]) {
         for (place, line) in self.lines.iter().enumerate() {
             let is_tested = match told.get(place) {
@@ -104,7 +108,7 @@ impl<'s, 'a> Services<'s, 'a> {
         }
     }
 
-    // Makes runs of a case until each of its services was asked, or none is left.
+    // Makes runs of a case until each of its services was asked, or no run is left. The error is refused memory.
     fn try_case<'t, 'c, R: Threads + Sync>(
         &mut self,
         rt: &R,
@@ -119,7 +123,7 @@ impl<'s, 'a> Services<'s, 'a> {
             if !self.has_unasked(case) {
                 return Ok(());
             }
-            // All of these runs were made before: only memory can be refused.
+            // All of these runs were made before, without a fault: only memory can be refused.
             if try_ways(rt, alloc, trials, workers, some, &mut told).is_err() {
                 return Err(AllocError);
             }
@@ -128,7 +132,7 @@ impl<'s, 'a> Services<'s, 'a> {
         Ok(())
     }
 
-    // A line for each that wasn't asked.
+    // A head, and a line for each service that wasn't asked; empty if each was.
     fn text(&self, alloc: Global, test: &Test<'_>) -> Result<String, AllocError> {
         let mut page = Page::new(alloc);
         for (place, line) in self.lines.iter().enumerate() {
@@ -143,7 +147,7 @@ impl<'s, 'a> Services<'s, 'a> {
     }
 }
 
-// `Pay(_, 2)`
+// Writes a service as a call of its patterns, in backquotes: `Pay(_, 2)`.
 fn say_call(page: &mut Page, service: &Service<'_>) {
     page.say_word("`", service.name, "(");
     for (place, pattern) in service.patterns.iter().enumerate() {
@@ -158,6 +162,7 @@ fn say_call(page: &mut Page, service: &Service<'_>) {
     page.say(")`");
 }
 
+// Writes the line of a service that wasn't asked, with its case if it belongs to one.
 fn say_service(page: &mut Page, test: &Test<'_>, line: &ServiceLine<'_>) {
     page.note("no run ");
     if let Some(case) = line.case {
@@ -170,8 +175,8 @@ fn say_service(page: &mut Page, test: &Test<'_>, line: &ServiceLine<'_>) {
     page.say("\n");
 }
 
-/// The text that tells which services of a test no run asks, of the ways that were tried in their orders; empty where each is asked. A service of a case
-/// is asked by the runs of its case, and one of `given` by those of any. The error is refused memory.
+/// The text that names the services of a test that no run asks; empty where each is asked. `cases` has the ways that were tried, whose runs in all
+/// orders are made again. The runs of its case ask a service of a case, and those of any case one of `given`. The error is refused memory.
 pub fn services_never_asked<R: Threads + Sync>(
     rt: &R,
     alloc: Global,

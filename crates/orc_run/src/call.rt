@@ -1,4 +1,4 @@
-//! The commands that show a failure.
+//! What the printed commands that show a failure repeat of the command line: the names of its files, and the options on which failures depend.
 
 ghost use Rattle.std.specs.Prelude.{◌≡◌, ◌++◌, IfOk, OnOk, option_map};
 ghost use Rattle.orc_run.specs.Called.{option_text, options_text, script_text};
@@ -7,7 +7,7 @@ use orc_cli::{DEFAULT_STATES, DEFAULT_TRIALS, DEFAULT_WAYS, TestOptions};
 use orc_rules::limits::DEFAULT_ENTRIES;
 use std::alloc::{AllocError, Global};
 
-/// How a command line names the files of a test.
+/// The names that a command line has for the files of a test, which the table's title and commands repeat.
 #[derive(Clone, Copy)]
 pub struct Names<'n> {
     pub source: &'n str,
@@ -28,7 +28,7 @@ fn write_script(script: Option<&str>, text: &mut Vec<u8>) -> Result<(), AllocErr
     }
 }
 
-// Writes an option with its number, unless it is the usual one. The error is refused memory.
+// Writes an option with its number, unless that is the option's default. The error is refused memory.
 fn write_option(
     alloc: Global,
     word: &str,
@@ -46,7 +46,8 @@ fn write_option(
     text.extend_from_slice(digits.as_bytes())
 }
 
-/// The options of a command line on which the failures of a test depend, where they aren't the usual ones. The error is refused memory.
+/// The options of a command line on which the failures of a test depend, a blank before each: `--script` if there is one, and those of `--ways`,
+/// `--orders`, `--states` and `--limit` that aren't the default. The error is refused memory.
 pub fn options_text(
     alloc: Global,
     script: Option<&str>,

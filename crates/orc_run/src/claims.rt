@@ -32,6 +32,7 @@ fn test_beside<'a>(
     ensures says { IfOk result (λ t. (others : Table) × Says script.now others × SaysTest test.now others (test_of t)) }
     ensures cause { IfErr result (IsUnreadTest source.now test.now script.now) }
 {
+    // The tree isn't used. It is made because a fault of the source's text comes before one of the script or the test.
     let _ast = match parse(alloc, source) {
         Ok(ast) => ast,
         Err(fault) => return Err(RunFault::Syntax(fault)),
@@ -46,7 +47,7 @@ fn test_beside<'a>(
     }
 }
 
-// What the claims say of a journal that was checked. The error is refused memory.
+// What the claims below `always` say of a journal that was checked, and how many of them fail. The error is refused memory.
 fn findings_of(alloc: Global, test: &Test<'_>, judged: &Judged) -> Result<Findings, AllocError>
     ensures text { IfOk result (λ f. f.text.items ≡ findings_text test.now (sight_at test.now judged.now.answers judged.now.journal judged.now.state judged.now.time)) }
     ensures failing { IfOk result (λ f. f.failing ≡ failing test.now (sight_at test.now judged.now.answers judged.now.journal judged.now.state judged.now.time)) }
@@ -70,8 +71,8 @@ fn text_of(alloc: Global, judged: &Judged, findings: &Findings) -> Result<Vec<u8
     Ok(text)
 }
 
-/// Checks a journal's text as [`check_text`](crate::check_text) does, and holds the claims of a test that stand below `always` against its run.
-/// Writes the line of the check, a line for each claim, below each that fails where it does, and a last one that tells how many fail. Answers how
+/// Checks a journal's text as [`check_text`](crate::check_text) does, and judges the claims of a test that stand below `always` on its run.
+/// Writes the line of the check, a line for each claim, below each that fails where it does, and a last one that says how many fail. Answers how
 /// many fail.
 ///
 /// A fault is answered where the source's text, the script, the test, the source's names, the journal's text or one of its entries is at fault, in

@@ -32,16 +32,18 @@ use std::path::Path;
 use std::sync::Wait;
 use std::thread::Threads;
 
-/// Reports a command line that asks for help or for the version, or was refused: the status.
+/// Reports a command line that asks for help or for the version, or was refused, and gives the status. `clap` hands over both as an error.
 fn refuse<W: Write, V: Write>(error: &clap::Error, out: &mut W, err: &mut V) -> u8
     ensures status { result < 8 × result ≢ 1 × result ≢ 3 × result ≢ 4 × result ≢ 7 }
     ensures refused { result ≡ 2 → Keeps (W.contents out.old) (W.contents out.new) }
 {
     if error.kind() == ErrorKind::OutOfMemory {
+        // The line of refused memory names no path.
         let memory = Failure::Unread("", ReadFault::Memory);
         let _ = writeln!(err, "{memory}");
         return 5;
     }
+    // A refused command line. Help and the version go to standard output.
     if error.use_stderr() {
         let _ = write!(err, "{error}");
         return 2;
@@ -56,6 +58,7 @@ fn refuse<W: Write, V: Write>(error: &clap::Error, out: &mut W, err: &mut V) -> 
     }
 }
 
+// All bytes of the file at a path.
 fn read<'a, F: Files>(path: &'a str, files: &mut F) -> Result<Vec<u8>, Failure<'a>>
     ensures held { IfOk result (λ bytes. IsHeld (F.holds files.old path.now) bytes.items) }
     ensures unread { IfErr result IsUnread }
@@ -82,7 +85,7 @@ fn read_script_text<'a, F: Files>(
     }
 }
 
-// Runs the program of a file: the status says how the run ended.
+// `orc run`: runs the program of a file. The status says how the run ended. Its journal is kept if an explanation is asked for, which reads it.
 #[tactic(auto, using(crate::proofs::Statuses::unread, crate::proofs::Causing::unread_run, crate::proofs::Statuses::cut_or_kept))]
 fn run_file<'a, R: Threads + Wait + Sync, F: Files, W: Write>(
     rt: &R,
@@ -122,7 +125,7 @@ fn run_file<'a, R: Threads + Wait + Sync, F: Files, W: Write>(
     }
 }
 
-// Runs the program of a file in many orders.
+// `orc outcomes`: runs the program of a file in many orders, and writes each outcome that came up.
 #[tactic(auto, using(crate::proofs::Statuses::unread, crate::proofs::Causing::unread_run, crate::proofs::Statuses::cut_or_kept))]
 fn survey_file<'a, R: Threads + Sync, F: Files, W: Write>(
     rt: &R,
@@ -157,14 +160,15 @@ fn survey_file<'a, R: Threads + Sync, F: Files, W: Write>(
     }
 }
 
-// The status of a search, which told all outcomes or not.
+// The status of a search that found all outcomes, or didn't.
 fn search_status(all: bool) -> u8
     ensures { result ≡ cond all 0 4 }
 {
     if all { 0 } else { 4 }
 }
 
-// Runs the program of a file in many orders, and searches all its schedules, through so many states at most: the status says whether all is told.
+// `orc outcomes --all`: does the same, and searches all the program's schedules, through so many states at most. The status says whether the search
+// found all outcomes.
 #[tactic(auto, using(crate::proofs::Statuses::unread, crate::proofs::Causing::unread_run, crate::proofs::Statuses::cut_or_kept))]
 fn search_file<'a, R: Threads + Sync, F: Files, W: Write>(
     rt: &R,
@@ -201,7 +205,8 @@ fn search_file<'a, R: Threads + Sync, F: Files, W: Write>(
     }
 }
 
-// Shows an outcome of the program of a file, the one with this number: the journal of a run that has it.
+// `orc outcomes --show`: writes the journal of a run that has the outcome with this number, from 1. Without `states` only outcomes that came up in an
+// order have one.
 #[tactic(auto, using(crate::proofs::Statuses::unread, crate::proofs::Causing::unread_show, crate::proofs::Statuses::cut_or_kept))]
 fn show_file<'a, R: Threads + Sync, F: Files, W: Write>(
     rt: &R,
@@ -242,8 +247,8 @@ fn show_file<'a, R: Threads + Sync, F: Files, W: Write>(
     }
 }
 
-// Checks the journal of a file. It is read piece by piece, but where an explanation is asked for: then its text is kept, so that a fault can be
-// shown in it.
+// `orc check`: checks the journal of a file. It is read piece by piece, but where an explanation is asked for: then its text is kept, so that a fault
+// can be shown in it.
 #[tactic(auto, using(crate::proofs::Statuses::unread, crate::proofs::Causing::unread_check, crate::proofs::Statuses::cut_or_kept))]
 fn check_file<'a, F: Files, W: Write>(
     alloc: Global,
@@ -274,7 +279,7 @@ fn check_file<'a, F: Files, W: Write>(
         ) {
             Ok(()) => Ok(0),
             Err(Unchecked::Fault(fault)) => Err(Failure::Fault(fault)),
-            // No explanation is asked for, and nothing else tells the cause.
+            // A reader's error doesn't say its cause; only an explanation would name it, and none is asked for.
             Err(Unchecked::Unread) => {
                 Err(Failure::Unread(journal, ReadFault::Failed(Unread::Other)))
             }
@@ -306,14 +311,14 @@ fn check_file<'a, F: Files, W: Write>(
     }
 }
 
-// The status of a test or of a journal of which so many claims fail.
+// The status if so many claims of a test fail, in a program's runs or on a journal.
 fn claims_status(failing: usize) -> u8
     ensures { result ≡ cond (nat_eq failing 0) 0 1 }
 {
     if failing == 0 { 0 } else { 1 }
 }
 
-// Checks the journal of a file and holds the claims of a test against it: the status says whether all hold.
+// `orc check --claims`: checks the journal of a file and judges the claims of a test on it. The status says whether all hold.
 #[tactic(auto, using(crate::proofs::Statuses::unread, crate::proofs::Causing::unread_claim, crate::proofs::Statuses::cut_or_kept))]
 fn claims_file<'a, F: Files, W: Write>(
     alloc: Global,
@@ -366,13 +371,13 @@ fn claims_file<'a, F: Files, W: Write>(
     }
 }
 
-// What a picture of this file's program is called.
+// The title of a picture of a file's program: the file's name without its folders.
 fn name_of(path: &str) -> &str {
     let title = title_of(path);
     Path::new(title).file_name().unwrap_or(title)
 }
 
-// Draws the journal of a file.
+// `orc draw` with a JOURNAL: draws the journal of a file, once the check accepts it.
 #[tactic(auto, using(crate::proofs::Statuses::unread, crate::proofs::Causing::unread_draw, crate::proofs::Statuses::cut_or_kept, crate::proofs::Statuses::undrawn_rows))]
 fn draw_file<'a, F: Files, W: Write>(
     alloc: Global,
@@ -418,7 +423,7 @@ fn draw_file<'a, F: Files, W: Write>(
     }
 }
 
-// Draws the journal of a run of a file's program.
+// `orc draw` without one: runs a file's program, and draws that run's journal.
 #[tactic(auto, using(crate::proofs::Statuses::unread, crate::proofs::Causing::unread_draw_run, crate::proofs::Statuses::cut_or_kept))]
 fn draw_run_of<'a, R: Threads + Wait + Sync, F: Files, W: Write>(
     rt: &R,
@@ -457,7 +462,7 @@ fn draw_run_of<'a, R: Threads + Wait + Sync, F: Files, W: Write>(
     }
 }
 
-// Prints the program of a file.
+// `orc print`: prints the program of a file.
 #[tactic(auto, using(crate::proofs::Statuses::unread, crate::proofs::Causing::unread_print, crate::proofs::Statuses::cut_or_kept))]
 fn print_file<'a, F: Files, W: Write>(
     alloc: Global,
@@ -481,7 +486,7 @@ fn print_file<'a, F: Files, W: Write>(
     }
 }
 
-// Holds the claims of a test against the program of a file: the status says whether all hold.
+// `orc test`: judges the claims of a test on runs of a file's program. The status says whether all hold.
 #[tactic(auto, using(crate::proofs::Statuses::unread, crate::proofs::Causing::unread_test, crate::proofs::Statuses::cut_or_kept))]
 fn test_file<'a, R: Threads + Sync, F: Files, W: Write>(
     rt: &R,
@@ -536,7 +541,7 @@ fn test_file<'a, R: Threads + Sync, F: Files, W: Write>(
     }
 }
 
-// Does what a command line asks for: the status.
+// Does what a command line asks for, and gives the process's status.
 fn do_job<'a, R: Threads + Wait + Sync, F: Files, W: Write>(
     rt: &R,
     alloc: Global,
@@ -618,8 +623,8 @@ fn do_job<'a, R: Threads + Wait + Sync, F: Files, W: Write>(
 ///
 /// FILE, JOURNAL, TEST and the script are read in this order, before anything else; but where no explanation is asked for, a JOURNAL that is to be
 /// checked is only opened then, and read while it is checked. Standard output is `out`, standard error `err`; what standard error doesn't
-/// take changes no status. Either the job was done, and both what was written and the status say what came of it; or it wasn't, and the status is that of
-/// the failure. Then nothing was written to standard output, unless that was at fault itself.
+/// take changes no status. Either the job was done, and both what was written and the status say what came of it; or it wasn't, and the status is
+/// that of the failure. Then nothing was written to standard output, unless that was at fault itself.
 pub fn perform<R, F, W, V>(
     rt: &R,
     alloc: Global,
@@ -650,12 +655,13 @@ where
     }
 }
 
-/// Does one command line, whose first word is the program's name, and gives the process's status.
+/// Does one command line, whose first word is the program's name, as [`perform`] does it, and gives the process's status, 0 to 7.
 ///
-/// What a command line asks for is done as [`perform`] does it. Where the status says that a file's text, the command line or the engine was at
-/// fault, nothing was written to standard output. Where it says that a run ended quiet, or was cut by its limit or one of the
-/// engine's, the whole text of a run that ended so was; but that of a cut run is also the status of a search that doesn't say all, whose whole text
-/// was written then.
+/// - 1: the job wasn't done, since a file's text is at fault, or what is to be shown isn't there or has too many rows, and nothing was written to
+///   standard output; or what was written reports claims that fail.
+/// - 2, 7: the command line was refused, or the engine is at fault. Nothing was written to standard output.
+/// - 3: the whole text of a run that ended quiet was written.
+/// - 4: the whole text of a run that was cut, by its limit or one of the engine's, was written; or that of a search that didn't find all outcomes.
 #[tactic(auto, using(crate::proofs::Coming::below_eight, crate::proofs::Coming::kept_at_two, crate::proofs::Coming::kept_at_seven, crate::proofs::Coming::failed_or_kept, crate::proofs::Coming::ended_quiet, crate::proofs::Coming::ended_cut))]
 pub fn command<R, S, F, W, V>(
     rt: &R,
@@ -678,6 +684,7 @@ where
     ensures quiet { result ≡ 3 → HasEnded ends.Quiet (W.contents out.old) (W.contents out.new) }
     ensures cut { result ≡ 4 → WasCut (W.contents out.old) (W.contents out.new) ⊎ TellsNotAll (W.contents out.old) (W.contents out.new) }
 {
+    // `clap` borrows the numbers that options allow, so they are held here while the words are read.
     let ranges = match Ranges::new(alloc) {
         Err(error) => return refuse(&clap::Error::from(error), out, err),
         Ok(ranges) => ranges,

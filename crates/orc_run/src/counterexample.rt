@@ -1,4 +1,4 @@
-//! What shows that a claim fails.
+//! The text below a claim of a test that fails: the lines of the way in which it does, where it fails in a run of that way, and the run's picture.
 
 ghost use Rattle.std.specs.Prelude.{◌≡◌, ◌++◌, IfOk, OnOk};
 ghost use Rattle.orc_findings.specs.Below.{way_text};
@@ -17,7 +17,8 @@ use std::alloc::{AllocError, Global};
 /// About how many columns wide the picture of a run is.
 const WIDTH: u64 = 80;
 
-/// The lines of a way, and where a claim fails in a run of it. The error is refused memory.
+/// What stands below a claim that fails in a run: the failure's number, from 1, the unusual lines of the way, and where the claim fails in `run`,
+/// which is that of `failure`'s order. The error is refused memory.
 pub fn trial_text(
     alloc: Global,
     trials: &Trials<'_, '_>,
@@ -45,7 +46,7 @@ pub fn trial_text(
     Ok(text)
 }
 
-// What a claim saw of a run, and how that ended. The error is refused memory.
+// Writes what a claim saw of a run, and how that ended. The error is refused memory.
 fn write_sighted(
     alloc: Global,
     trials: &Trials<'_, '_>,
@@ -62,7 +63,8 @@ fn write_sighted(
     ended.write_seen(alloc, trials.sites, sighted.latest, text)
 }
 
-/// The lines of a way, and what a claim saw of a run of it, if that was found. The error is refused memory.
+/// What stands below a claim that only the search through all schedules found to fail: the failure's number, from 1, the unusual lines of the way,
+/// and what the claim saw of a run of it, if a search still finds one. The error is refused memory.
 pub fn schedule_text(
     alloc: Global,
     trials: &Trials<'_, '_>,
@@ -81,8 +83,8 @@ pub fn schedule_text(
     Ok(text)
 }
 
-/// Writes the rows of the picture of a run that shows a failure, of the program that a source spells with the way's script; or that they are too many. The
-/// error is refused memory.
+/// Writes the rows of the picture of a run that shows a failure, nine blanks before each; or that they are too many. `run` is one of the program that
+/// `source` spells with the way's script, with its journal. The error is refused memory.
 pub fn write_picture(
     alloc: Global,
     source: &[u8],

@@ -1,4 +1,7 @@
 //! What stands below each failure of a test.
+//!
+//! A run in an order shows a failure (`Trial`), or only the search through all schedules found it (`Schedule`). What is shown is made again from the
+//! failure's script and order: the runs of the trials aren't kept.
 
 ghost use Rattle.std.specs.Prelude.{◌≡◌, [], IfErr, IfOk, false};
 ghost use Rattle.orc_orders.specs.Trials.{IsMadeAgain, texts};
@@ -34,7 +37,8 @@ impl<R: Threads + Sync> Tester<'_, '_, R> {
         }
     }
 
-    // Those lines of the way that shows a failure that have a range, with the numbers with which the claim fails in a way. Nothing where it isn't explained.
+    // Of the way that shows a failure the lines that have a range, with the numbers of the range with which the claim fails. Empty if failures aren't
+    // explained.
     fn ranges_of(
         &self,
         cases: &[CaseScripts],
@@ -58,7 +62,8 @@ impl<R: Threads + Sync> Tester<'_, '_, R> {
         }
     }
 
-    // The same of a case.
+    // Those lines of a way of this case: every way that was tried is run again with this claim alone, to see in which ones it fails. Empty if no line
+    // of the way has a range.
     fn failing_ranges(
         &self,
         case: &CaseScripts,
@@ -69,6 +74,7 @@ impl<R: Threads + Sync> Tester<'_, '_, R> {
         if !ways.has_range(way) {
             return Ok(Vec::new(self.alloc));
         }
+        // This claim alone, as a list.
         let claims = self
             .trials
             .claims
@@ -86,7 +92,7 @@ impl<R: Threads + Sync> Tester<'_, '_, R> {
         ways.failing_ranges(self.alloc, way, fails.as_slice())
     }
 
-    // What explains a failure: these lines, and the picture of the run that shows it. Nothing where it isn't explained.
+    // What explains a failure: these lines of ranges, and the picture of the run that shows it. Empty if failures aren't explained.
     fn explanation(&self, script: &[u8], ranges: &[u8], run: Run) -> Result<Vec<u8>, Untested>
         ensures unasked { IfOk result (λ text. self.now.explains ≡ false → text.items ≡ []) }
         ensures cause { IfErr result IsNoText }
@@ -105,8 +111,8 @@ impl<R: Threads + Sync> Tester<'_, '_, R> {
         }
     }
 
-    // Makes the run again that shows that a claim fails, and sees that it fails there where it did. The run of an order is the same each time, so the
-    // error is that of the run, or refused memory.
+    // Makes the run again that shows that a claim fails, and judges the claim on it. The run of an order is the same each time, so the claim fails
+    // where it did; if it didn't, that would be answered as refused memory. The error is that of the run, or refused memory.
     fn fail_again(&self, script: &[u8], claim: usize, shown: Failing) -> Result<Run, Untested>
         ensures fails { IfOk result (FailsAt self.now.trials.now script.now claim shown.failure.verdict) }
         ensures cause { IfErr result (IsUnshown self.now.trials.now.source.now 1 self.now.trials.now.limit script.now) }
@@ -168,6 +174,7 @@ impl<R: Threads + Sync> Tester<'_, '_, R> {
         ensures cause { IfErr result (IsUnshown self.now.trials.now.source.now 1 self.now.trials.now.limit script.now) }
         ensures sound { IfErr result (λ f. IsOwnFault f → ⊥) }
     {
+        // `see` searches one way for one claim, without the cases and the reports.
         let searcher = Searcher {
             alloc: self.alloc,
             trials: self.trials,
@@ -185,7 +192,7 @@ impl<R: Threads + Sync> Tester<'_, '_, R> {
         }
     }
 
-    // The details of the failure with this number.
+    // What stands below the failure with this number, from 1.
     #[tactic(auto, using(crate::proofs::Untold::of_script, crate::proofs::Untold::memory_unshown, crate::proofs::Untold::texts_unshown))]
     fn details_of(
         &self,
@@ -223,7 +230,8 @@ impl<R: Threads + Sync> Tester<'_, '_, R> {
         }
     }
 
-    /// The details of each failure, in the order of the rows.
+    /// What stands below each failure, in the order of the rows: one text for each row that fails. The error is a fault of a run that is made again,
+    /// or refused memory.
     #[tactic(auto, using(crate::proofs::Untold::texts_unshown))]
     pub(crate) fn all_details(
         &self,
@@ -237,6 +245,7 @@ impl<R: Threads + Sync> Tester<'_, '_, R> {
         ensures sound { IfErr result (λ f. IsOwnFault f → ⊥) }
     {
         let mut all = Vec::new(self.alloc);
+        // Not a `for`: the loop's invariant speaks of the rest of the list.
         let mut rest = rows;
         loop {
             match rest {

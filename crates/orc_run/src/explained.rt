@@ -31,18 +31,20 @@ pub enum Explained {
     Unasked,
     /// There is nothing to tell, or memory for it was refused.
     Nothing,
+    /// What is written to standard error, below the failure's line if there is one.
     Text(String),
 }
 
-// What is explained of a fault of texts or of a run; nothing of others, or where its line says all.
+// What `orc_explain_fault` explains of a fault; None where another explanation is made, or where the fault's line says all.
 fn fault_of(fault: RunFault) -> Option<Fault> {
     match fault {
         RunFault::Syntax(fault) => Some(Fault::Syntax(fault)),
         RunFault::Scope(fault) => Some(Fault::Scope(fault)),
         RunFault::Script(fault) => Some(Fault::Script(fault)),
-        // It is explained beside the test's text.
+        // `Explained::test` explains it, which has the test's text.
         RunFault::Test(_) => None,
         RunFault::Journal(fault) => Some(Fault::Journal(fault)),
+        // `refusal` explains it.
         RunFault::Check(_) => None,
         RunFault::Engine(EngineFault::Range) => Some(Fault::Range),
         RunFault::Engine(EngineFault::Memory) => Some(Fault::Begin),
@@ -54,7 +56,7 @@ fn fault_of(fault: RunFault) -> Option<Fault> {
 }
 
 impl Explained {
-    /// Nothing yet.
+    /// Before anything is explained: `is_asked` says whether the command line asks for explanations.
     pub fn new(is_asked: bool) -> Explained
         ensures { result ≡ (if is_asked then Nothing else Unasked) }
     {
@@ -65,7 +67,7 @@ impl Explained {
         }
     }
 
-    /// The text, empty where nothing is told.
+    /// The text; empty where there is none.
     pub fn as_str(&self) -> &str
         ensures { result.now ≡ told self.now }
     {
@@ -86,14 +88,14 @@ impl Explained {
         }
     }
 
-    // What is told, where memory for it was not refused.
+    // Keeps a text. If memory for it was refused, what was kept before stays.
     fn tell(&mut self, text: Result<String, AllocError>) {
         if let Ok(text) = text {
             *self = Explained::Text(text);
         }
     }
 
-    /// Explains a fault that was found in these files. Where none of that is asked for, and where memory is refused, nothing is told.
+    /// Explains a fault that was found in these files. If no explanation is asked for, or memory for it is refused, it adds nothing.
     pub fn fault(&mut self, alloc: Global, subject: &Subject, fault: RunFault)
         ensures { self.old ≡ Unasked → self.new ≡ Unasked }
     {
@@ -108,7 +110,8 @@ impl Explained {
         }
     }
 
-    /// Explains in the same way a fault of a test, with which the lines of this script were read.
+    /// Explains a fault of a test's text that was read beside this script. If no explanation is asked for, or memory for it is refused, it adds
+    /// nothing.
     pub fn test(&mut self, alloc: Global, test: &Document, script: &[u8], fault: TestFault)
         ensures { self.old ≡ Unasked → self.new ≡ Unasked }
     {
@@ -120,7 +123,7 @@ impl Explained {
         }
     }
 
-    /// Explains in the same way how a run of these files ended.
+    /// Explains how a run of these files ended, whose journal is kept. If no explanation is asked for, or memory for it is refused, it adds nothing.
     pub fn ended(&mut self, alloc: Global, subject: &Subject, loaded: &Loaded, played: &Played)
         ensures { self.old ≡ Unasked → self.new ≡ Unasked }
     {
@@ -129,7 +132,7 @@ impl Explained {
         }
     }
 
-    /// Tells in the same way of what looks like a mistake in a test.
+    /// Keeps a text on what looks like a mistake in a test. If no explanation is asked for, or memory for it was refused, it adds nothing.
     pub fn remarks(&mut self, text: Result<String, AllocError>)
         ensures { self.old ≡ Unasked → self.new ≡ Unasked }
     {
@@ -139,7 +142,7 @@ impl Explained {
         self.tell(text);
     }
 
-    /// Writes what is told where no failure has a line. At a fault of the stream some of it may be missing at the end.
+    /// Writes the explanation alone, as below a job that was done. At a fault of the stream some of it may be missing at the end.
     pub fn write<V: Write>(&self, err: &mut V) -> Result<(), WriteFault>
         ensures { OnOk result (Appends (V.contents err.old) (V.contents err.new) (told self.now)) }
     {
@@ -155,8 +158,8 @@ impl Explained {
         }
     }
 
-    /// Explains in the same way why a file was not read, and what helps where a picture would have too many rows. Faults are explained where
-    /// they are found.
+    /// Explains why a file was not read, or what helps where a picture would have too many rows. Faults of texts and runs are explained where they
+    /// are found, by `fault` and `test`. If no explanation is asked for, or memory for it is refused, it adds nothing.
     pub fn failure(&mut self, alloc: Global, failure: &Failure<'_>)
         ensures { self.old ≡ Unasked → self.new ≡ Unasked }
     {
@@ -178,7 +181,7 @@ impl Explained {
     }
 }
 
-/// The files of a command line without a journal, as they are named and read.
+/// The files of a command line without a journal, with their titles and their bytes. `answers` is the script's text; it isn't used without a script.
 pub fn subject_of<'a>(
     file: &'a str,
     source: &'a [u8],
@@ -195,7 +198,7 @@ pub fn subject_of<'a>(
     subject
 }
 
-/// The same of a command line that names a journal.
+/// The files of a command line that names a journal, with their titles and their bytes. `answers` is the script's text, and `text` the journal's.
 pub fn subject_with_journal<'a>(
     file: &'a str,
     source: &'a [u8],

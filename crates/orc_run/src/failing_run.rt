@@ -28,7 +28,7 @@ use orc_tally::happenings_of;
 use std::alloc::{AllocError, Global};
 use std::io::Write;
 
-// Whether this says that a claim fails.
+// Whether a claim fails. None is the verdict of a claim that isn't there.
 fn is_failing(verdict: Option<Verdict>) -> bool
     ensures { result ≡ true → (v : AVerdict) × (verdict ≡ Some v) × (says_so v ≡ false) }
 {
@@ -63,7 +63,8 @@ fn fails_in(
     Ok(is_failing(verdict))
 }
 
-// Writes the journal of a run of the way of this script, if the claim at this place fails in it: whether it does. Nothing is written where it doesn't.
+// Writes the journal of a run of the way of this script, if the claim at this place fails in it: whether it does. Nothing is written where it
+// doesn't.
 fn write_failing<W: Write>(
     alloc: Global,
     trials: &Trials<'_, '_>,
@@ -97,8 +98,8 @@ fn write_failing<W: Write>(
     }
 }
 
-/// Writes the journal of the run in this order in which the claim at this place fails, in the way of this script. That run was made before, and is the same
-/// each time, so the fault is refused memory, or one of the output.
+/// Writes the journal of the run in this order in which the claim at this place fails, in the way of this script. That run was made before, and is
+/// the same each time, so the fault is refused memory, or one of the output.
 pub(crate) fn write_in_order<W: Write>(
     alloc: Global,
     trials: &Trials<'_, '_>,
@@ -135,7 +136,8 @@ pub(crate) fn write_in_order<W: Write>(
     }
 }
 
-// A run of which a claim sees what a search sees of one that breaks it, in a way. None where none is found. The error is refused memory.
+// A run that breaks a claim: the search through the way's schedules says what the claim sees of such a run, and then a run is looked for of which it
+// sees just that. None where none is found. The error is refused memory.
 fn witness_in(
     alloc: Global,
     way: &Way<'_>,
@@ -148,6 +150,7 @@ fn witness_in(
     let ClaimSearched::Fails(seen) = way.search(alloc, claim, most, limit)? else {
         return Ok(None);
     };
+    // None: a search can't watch for this claim, so that it found nothing above either.
     let Some(watch) = Watch::of_claim(alloc, claim)? else {
         return Ok(None);
     };
@@ -160,8 +163,8 @@ fn witness_in(
     witness(alloc, &way.loaded, &sighting, places, limit)
 }
 
-/// Writes the journal of a run in which the claim at this place fails, in the way of this script: whether one was found. It searches through so many states at
-/// most. Where none was found, nothing is written.
+/// Writes the journal of a run in which the claim at this place fails, in the way of this script: whether one was found. It searches through so many
+/// states at most. Where none was found, nothing is written.
 pub(crate) fn write_witness<W: Write>(
     alloc: Global,
     trials: &Trials<'_, '_>,

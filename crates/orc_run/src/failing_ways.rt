@@ -1,14 +1,15 @@
-//! In which ways of a case a claim fails.
+//! In which ways of a case a claim fails. Each way is a script, and fails if the run in one of its orders does.
 
 use orc_claims::claim::Claim;
 use orc_orders::{CaseTold, Trials, try_ways};
 use std::alloc::{AllocError, Global};
 use std::thread::Threads;
 
-/// So many ways are tried at once. Where a claim fails in some of them and not in others, each is tried alone.
+/// So many ways are tried at once. Only the number of those in which the claim fails is known then: if it is neither none nor all, each is tried
+/// alone.
 const SOME: usize = 64;
 
-/// A claim that is held against the ways of a case.
+/// How a claim is judged on the ways of a case; `trials` has this one claim alone.
 #[derive(Drop)]
 struct Held<'s, 'a, R> {
     rt: &'s R,
@@ -38,7 +39,9 @@ impl<R: Threads + Sync> Held<'_, '_, R> {
     // Notes of each of these ways whether the claim fails in it.
     fn add(&self, scripts: &[Vec<u8>], fails: &mut Vec<bool>) -> Result<(), AllocError> {
         let failing = self.count(scripts)?;
+        // Whether the ways agree.
         let is_one = failing == 0 || failing == scripts.len() as u64;
+        // A list of one way each, as `count` takes it.
         for way in scripts.chunks(1) {
             let does_fail = if is_one {
                 failing > 0
@@ -51,7 +54,8 @@ impl<R: Threads + Sync> Held<'_, '_, R> {
     }
 }
 
-/// Whether a claim fails in each of the ways of a case that were tried, whose scripts these are. The error is refused memory.
+/// For each of the ways of a case that were tried, whose scripts these are, whether the claim fails in it. `claim` has this one claim; with none of
+/// them the error is the same as with refused memory. What else is tried is as in `tried`.
 pub fn failing_ways<R: Threads + Sync>(
     rt: &R,
     alloc: Global,

@@ -1,4 +1,4 @@
-//! Why a job was not done, and how that is told.
+//! Why a job was not done, its line on standard error, and its status.
 
 ghost use Rattle.std.specs.Prelude.{◌≡◌, ◌++◌, OnOk, Some, codes};
 ghost use Rattle.std.specs.Io.KnownBytes.{Appends};
@@ -17,6 +17,7 @@ use std::io::Write;
 pub enum Failure<'a> {
     /// The file at this path could not be read.
     Unread(&'a str, ReadFault),
+    /// A file's text, an entry of a journal, the engine or the output is at fault.
     Fault(RunFault),
     /// A picture would have too many rows.
     Rows,
@@ -68,7 +69,8 @@ impl Failure<'_> {
     }
 }
 
-/// Tells of a job that was not done: its line, and behind it what explains it. At a fault of the stream some of that may be missing at the end.
+/// Reports a job that was not done: writes the failure's line, and below it what explains it, if that was asked for. At a fault of the stream some of
+/// that may be missing at the end.
 pub fn report<V: Write>(
     err: &mut V,
     failure: &Failure<'_>,

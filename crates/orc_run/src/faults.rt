@@ -1,4 +1,4 @@
-//! Why a program is not run: the line and the status are those of the cause.
+//! Why a program is not run, or a journal or a test not accepted: the line and the status are those of the cause.
 
 ghost use Rattle.std.specs.Prelude.{◌≡◌, Some};
 ghost use Rattle.orc_run.specs.Faults.{line, status};
@@ -23,11 +23,11 @@ pub enum RunFault {
     Syntax(SyntaxFault),
     /// A name of the source means nothing that fits.
     Scope(ScopeFault),
-    /// The script is none.
+    /// The script's text is no script.
     Script(ScriptFault),
-    /// The test is none.
+    /// The test's text is no test.
     Test(TestFault),
-    /// The text is that of no journal.
+    /// The journal's text is no journal.
     Journal(JournalFault),
     /// An entry of the journal is refused.
     Check(CheckFault),

@@ -11,7 +11,7 @@ use orc_cli::STANDARD_INPUT;
 use orc_explain_fault::Unread;
 use std::io::Read;
 
-/// What a file is called where something is told of it.
+/// What explanations and pictures call the file at a path: the path, or `standard input` for `-`.
 pub(crate) fn title_of(path: &str) -> &str {
     if path == STANDARD_INPUT {
         "standard input"
@@ -31,18 +31,18 @@ pub enum ReadFault {
 
 /// Where a command line's files are read from.
 pub trait Files {
-    /// What the file at a path holds, where that is known. Nothing is known of the system's files.
+    /// What the file at a path holds, where that is known, as of files in memory. Nothing is known of the system's files.
     ghost holds: { Self → List ℕ → Option (List ℕ) } = { λ _ _. None };
 
     /// A file that is read piece by piece.
     type Reader: Read + Drop;
 
-    /// All bytes of the file at this path.
+    /// All bytes of the file at this path. The fault is refused memory, or the reason why the file can't be read.
     fn read(&mut self, path: &str) -> Result<Vec<u8>, ReadFault>
         ensures held { IfOk result (λ bytes. IsHeld (holds self.old path.now) bytes.items) }
         ensures same { (at : List ℕ) → holds self.new at ≡ holds self.old at };
 
-    /// The file at this path, of which nothing is read yet.
+    /// The file at this path, of which nothing is read yet. The fault is the reason why it can't be opened, or refused memory.
     fn open(&mut self, path: &str) -> Result<Self::Reader, ReadFault>
         ensures held { IfOk result (λ file. Keeps (holds self.old path.now) (Self.Reader.remaining file)) }
         ensures same { (at : List ℕ) → holds self.new at ≡ holds self.old at };

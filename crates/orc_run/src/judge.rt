@@ -19,7 +19,7 @@ use orc_verdict::{TextFault, check_journal, check_lines};
 use std::alloc::{AllocError, Global};
 use std::io::{Read, Write};
 
-/// The line of a yes. The error is refused memory.
+/// The line that a check writes of an accepted journal: `ok N STATE`. The error is refused memory.
 pub(crate) fn line_of(alloc: Global, entries: usize, state: State) -> Result<Vec<u8>, AllocError>
     ensures { IfOk result (λ t. t.items ≡ verdict_line entries state) }
 {
@@ -28,7 +28,7 @@ pub(crate) fn line_of(alloc: Global, entries: usize, state: State) -> Result<Vec
     Ok(line.into_bytes())
 }
 
-/// A journal that was checked, the sites that answered its calls, where it has brought the run, and the time there.
+/// A journal that was checked, the table that answered its calls, and the state and the logical time of the run behind its last entry.
 #[derive(Drop)]
 pub struct Judged {
     pub answers: Answers,
@@ -52,6 +52,7 @@ pub fn judge(
     ensures beyond { (s : RunSummary) → IsOfRun source.now script.now journal.now s → IfErr result IsBeyond }
 {
     let loaded = load(alloc, source, script)?;
+    // Shows the prover that the table's names differ, as reading a journal needs. At run time it does nothing.
     loaded.answers.are_apart();
     let journal = match read_journal(alloc, journal, &loaded.answers) {
         Ok(journal) => journal,
@@ -68,7 +69,7 @@ pub fn judge(
     }
 }
 
-// How many entries a checked journal has, and where it has brought the run.
+// How many entries a checked journal has, and the state of the run behind the last of them.
 #[derive(Clone, Copy)]
 struct Brought {
     entries: usize,
@@ -92,7 +93,8 @@ impl From<LoadFault> for Unchecked {
     }
 }
 
-// The same of a journal that is read piece by piece, and of which nothing is kept.
+// The verdict of `judge` on a journal that is read piece by piece, of which nothing is kept. The fault is one of those of `judge`, or that the
+// journal couldn't be read to its end.
 fn judge_lines<R: Read + Drop>(
     alloc: Global,
     source: &[u8],
@@ -105,6 +107,7 @@ fn judge_lines<R: Read + Drop>(
     ensures beyond { (text : List ℕ) (s : RunSummary) → R.remaining journal ≡ Some text → IsOfRun source.now script.now text s → IfErr result MayFail }
 {
     let loaded = load(alloc, source, script)?;
+    // For the prover, as in `judge`.
     loaded.answers.are_apart();
     match check_lines(alloc, &loaded.program, &loaded.answers, journal) {
         Ok(checked) => Ok(Brought {
@@ -147,7 +150,12 @@ pub fn check_read<R: Read + Drop, W: Write>(
     }
 }
 
-/// The same of a journal in memory, which can always be read.
+/// Checks a journal's text in memory against the program that a source spells, with the built-in sites and those of a script, and writes `ok N STATE`
+/// with the number of entries and where the run stands.
+///
+/// A fault is answered where the source's text, the script, the source's names, the journal's text or one of its entries is at fault, in
+/// this order; and where the output isn't taken whole or memory for the line is refused. Nothing is written then, but at a fault of the output a
+/// prefix of the line.
 pub fn check_text<W: Write>(
     alloc: Global,
     source: &[u8],
@@ -165,6 +173,7 @@ pub fn check_text<W: Write>(
     match check_read(alloc, source, script, journal, out) {
         Ok(()) => Ok(()),
         Err(Unchecked::Fault(fault)) => Err(fault),
+        // Bytes in memory can always be read to their end.
         Err(Unchecked::Unread) => Err(RunFault::Journal(JournalFault::Memory)),
     }
 }

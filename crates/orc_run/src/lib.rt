@@ -1,4 +1,21 @@
 //! The program `orc` as a library: its commands, its statuses and its texts.
+//!
+//! `commands` reads files and calls the function of a command, whose name mostly ends with `_text`: it takes texts and writes to a stream. A clause
+//! has the same name throughout. On success one like `ran`, `tested` or `done` says what was answered and written. At a fault `fault`, `err` or
+//! `undone` says what was written all the same, `cause` why this fault comes, `range` that a number is out of range if the fault says so, and `sound`
+//! that the fault isn't one of the engine's own. `W.contents out.old` and `W.contents out.new` are what a stream holds before and after, where that
+//! is known.
+//!
+//! A fault is often handed on by a `match` where `map_err` would do: a closure is proved as functions of its own.
+//!
+//! - Every command: `commands`, `inputs`, `failures`, `faults`, `explained`.
+//! - `orc run`: `runner`, `unordered`, `times`, `run_end`.
+//! - `orc outcomes`: `outcomes`; with `--show` `shown`.
+//! - `orc check`: `judge`; with `--claims` `claims`. `orc draw`: `picture`. `orc print`: `printer`.
+//! - `orc test`: `tests` over `scripts`, which has the ways, and `searched`, which searches all schedules. Below a failure: `details`,
+//!   `counterexample`, `call`. The journal of a failure: `failing_run`, `witness`. Explanations alone: `failing_ways`, `asked`, `unanswered`.
+//!
+//! Files whose functions have no clauses (`asked`, `unanswered`, `failing_ways`, most of `explained`) make explanations, on which no promise rests.
 #![tactic(auto)]
 
 mod asked;

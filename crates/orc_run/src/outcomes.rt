@@ -22,7 +22,8 @@ use std::alloc::{AllocError, Global};
 use std::io::Write;
 use std::thread::Threads;
 
-// The program that a source spells, with the built-in sites and those of a script, and what came up in its orders.
+// Loads the program that a source spells, with the built-in sites and those of a script, and runs it in all orders that the options ask for: the
+// program, and each outcome once, by the least of its orders' numbers.
 pub(crate) fn surveyed<R: Threads + Sync>(
     rt: &R,
     alloc: Global,
@@ -56,9 +57,9 @@ pub(crate) fn surveyed<R: Threads + Sync>(
 /// Runs the program that a source spells in many orders, with the built-in sites and those of a script, and writes each outcome that came up, a line
 /// each: `order 3 (43 of 100) Halted: 41` tells the first order that came to it, how many did, how they ended, and what they published.
 ///
-/// The faults are those of a run: of the source's text, of the script and of the source's names, in this order; `Engine` where the number of workers or
-/// the limit is out of range, or memory is refused in one of the runs; and `Write` where memory for the text is refused or the output isn't taken whole.
-/// Nothing is written then, but at a fault of the output a prefix of the text.
+/// The faults are those of a run: of the source's text, of the script and of the source's names, in this order; `Engine` where the number of workers
+/// or the limit is out of range, or memory is refused in one of the runs; and `Write` where memory for the text is refused or the output isn't taken
+/// whole. Nothing is written then, but at a fault of the output a prefix of the text.
 #[tactic(auto, using(crate::proofs::Searching::unsurveyed_before))]
 pub fn survey_text<R: Threads + Sync, W: Write>(
     rt: &R,
@@ -84,7 +85,7 @@ pub fn survey_text<R: Threads + Sync, W: Write>(
     }
 }
 
-/// The outcomes that a search found; none where it didn't find all.
+/// The outcomes that a search found; none where it gave up, since it keeps none then.
 pub(crate) fn found_of(found: &Schedules) -> &[Ended]
     ensures { result.now ≡ found_of found.now }
 {
@@ -94,6 +95,7 @@ pub(crate) fn found_of(found: &Schedules) -> &[Ended]
     }
 }
 
+// Whether a search found all outcomes.
 fn says_all(found: &Schedules) -> bool
     ensures { result ≡ says_all found.now }
 {
@@ -103,7 +105,7 @@ fn says_all(found: &Schedules) -> bool
     }
 }
 
-// A line for each outcome that a search found and no order came to. The error is refused memory.
+// Adds a line for each outcome that a search found and that came up in no order. The error is refused memory.
 fn write_more(
     alloc: Global,
     text: &mut Vec<u8>,
@@ -122,7 +124,8 @@ fn write_more(
     Ok(())
 }
 
-// What is said where all outcomes were found, in so many states. The error is refused memory.
+// The last line where a search found all outcomes, in so many states. A program may have none: each of its runs goes on for ever. The error is
+// refused memory.
 fn line_of_all(alloc: Global, found: &[Ended], states: usize) -> Result<Vec<u8>, AllocError>
     ensures { IfOk result (λ t. t.items ≡ line_of_all found.now states) }
 {
@@ -153,7 +156,8 @@ fn last_line(alloc: Global, most: u64, found: &Schedules) -> Result<Vec<u8>, All
     }
 }
 
-// What came up in so many orders, and what a search of so many states at most found. The error is refused memory.
+// The whole text: what came up in so many orders, the other outcomes that a search through `most` states at most found, and the last line. The error
+// is refused memory.
 fn text_of(
     alloc: Global,
     orders: u64,
@@ -170,11 +174,11 @@ fn text_of(
     Ok(text)
 }
 
-/// Does as [`survey_text`], and searches all schedules of the program too, through `states` states at most. Behind the outcomes that came up it writes a
-/// line for each other one that the search found, `no order (0 of 100) Halted: 43`, and a last line. That says that each run that ends by itself has one
-/// of these outcomes, be it halted or quiet; or why it isn't known: there are more states, as where a loop goes on publishing, or delays within the
-/// limit of entries may add up to a time of over 64 bits. Runs that are cut by their limit are told as they came up, and nothing is said of
-/// others. Answers whether all is told.
+/// Does as [`survey_text`], and searches all schedules of the program too, through `states` states at most. Behind the outcomes that came up it
+/// writes a line for each other one that the search found, `no order (0 of 100) Halted: 43`, and a last line. That says that each run that ends by
+/// itself has one of these outcomes, be it halted or quiet; or why it isn't known: there are more states, as where a loop goes on publishing, or
+/// delays within the limit of entries may add up to a time of over 64 bits. A run that its limit cut has a line if it came up in an order; nothing is
+/// said of other such runs. Answers whether the search found all outcomes.
 ///
 /// The faults are those of [`survey_text`]; `Engine` comes also where memory is refused to the search.
 #[tactic(auto, using(crate::proofs::Searching::unsearched_before))]

@@ -28,7 +28,7 @@ pub enum Undrawn {
     Rows,
 }
 
-// The picture of a journal that was checked. Refused memory is a fault of the output: it was for a text that was to be written.
+// The picture of a journal that was checked. Refused memory is a fault of the output, as it is of each text that was to be written.
 fn picture_of<'a>(
     alloc: Global,
     name: &'a str,
@@ -81,7 +81,7 @@ pub fn draw_text<W: Write>(
         Ok(judged) => judged,
         Err(fault) => return Err(Undrawn::Fault(fault)),
     };
-    // The check has kept no tree.
+    // The check parsed the source too, but kept no tree. So the fault here is refused memory.
     let ast = match parse(alloc, source) {
         Ok(ast) => ast,
         Err(fault) => return Err(Undrawn::Fault(RunFault::Syntax(fault))),
@@ -93,7 +93,7 @@ pub fn draw_text<W: Write>(
     }
 }
 
-// The same run, of which the journal is wanted.
+// The options of a run, with its journal as what is wanted of it.
 fn with_journal(options: &RunOptions) -> RunOptions
     ensures { result ≡ with_journal options.now }
 {
@@ -105,7 +105,7 @@ fn with_journal(options: &RunOptions) -> RunOptions
     }
 }
 
-// The journal's text of a run.
+// The text of a run's journal. A run for which memory was refused once it had begun is a fault here, so that no part of a run is drawn as the whole.
 fn journal_of<R: Threads + Wait + Sync>(
     rt: &R,
     alloc: Global,

@@ -1,4 +1,4 @@
-//! From a source text to the text that its program is printed as.
+//! From a source text to the text of `orc print`.
 
 ghost use Rattle.std.specs.Prelude.{◌≡◌, IfOk, IfErr, OnOk};
 ghost use Rattle.orc_syntax.specs.Tree.{Source};
@@ -21,7 +21,7 @@ fn text_of(alloc: Global, ast: &Ast) -> Result<Vec<u8>, AllocError>
     Ok(text)
 }
 
-/// Writes the program that a source spells as it is printed.
+/// Writes the program that a source spells in the form of `orc print`: one line for each definition, and one for the main expression.
 ///
 /// A fault is answered where the source spells no program, where memory for the text is refused, and where the output isn't taken whole.
 /// Nothing is written then, but at a fault of the output a prefix of the text.

@@ -6,8 +6,8 @@ use orc_outcome::{End, Played};
 use orc_report::Subject;
 use std::alloc::{AllocError, Global};
 
-/// The text that explains how a run of these files ended, whose journal is kept; where it halted what looks like a mistake, empty where nothing does. The
-/// error is refused memory, or that the journal isn't kept.
+/// The text that explains how a run of these files ended, whose journal is kept. Of a run that halted it says what looks like a mistake, and is empty
+/// if nothing does. The error is refused memory, or that the journal isn't kept.
 pub fn explain_run(
     alloc: Global,
     subject: &Subject,
@@ -15,6 +15,7 @@ pub fn explain_run(
     played: &Played,
 ) -> Result<String, AllocError> {
     if played.summary.end == End::Memory {
+        // What was refused is memory; of refused entries `orc_explain_refusal` has a function of this name.
         return explain_refusal(alloc, played.summary);
     }
     let Some(journal) = &played.journal else {

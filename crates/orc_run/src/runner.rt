@@ -30,7 +30,8 @@ use std::io::Write;
 use std::sync::Wait;
 use std::thread::Threads;
 
-// Runs a program. The journal is kept where what is wanted of the run asks for it, and where it is to be kept anyway.
+// Runs a program. The journal is kept where what is wanted of the run asks for it, or where `keeps` does. An order's number is for one worker; the
+// command line asks for no other.
 fn play<R: Threads + Wait + Sync>(
     rt: &R,
     alloc: Global,
@@ -63,7 +64,7 @@ fn play<R: Threads + Wait + Sync>(
     run_parallel(rt, alloc, program, answers, workers, keeps, limit)
 }
 
-// The same, with a run's fault.
+// Runs a program as `play` does; a fault of the engine becomes one of the run.
 fn run_program<R: Threads + Wait + Sync>(
     rt: &R,
     alloc: Global,
@@ -80,7 +81,8 @@ fn run_program<R: Threads + Wait + Sync>(
     play(rt, alloc, loaded, options, keeps).map_err(RunFault::Engine)
 }
 
-/// Writes what is wanted of a run. Without a journal that is what it published.
+/// Writes what is wanted of a run: its values, its values with their times, or its journal. If the run kept no journal, it writes the values,
+/// whatever is wanted. The error is refused memory for the text, or the output's; a prefix was written then.
 pub(crate) fn write_run<W: Write>(
     alloc: Global,
     answers: &Answers,
@@ -130,9 +132,10 @@ pub(crate) fn run_source<R: Threads + Wait + Sync, W: Write>(
 /// whichever way it ends: what it published, a line each, with the time of each or without it, or its journal.
 ///
 /// A fault is answered where the source's text, the script or the source's names are at fault, in this order; then
-/// `Engine` where the engine brings the run to no end (the limit is out of range, or memory is refused before the run begins or for what it published;
-/// no other fault of the engine comes); and `Write` where memory for the text is refused or the output isn't taken whole. Nothing is written then, but at
-/// `Write` a prefix of the text. A run for which memory is refused once it has begun ends so, and what it has published is written.
+/// `Engine` where the engine brings the run to no end (the limit is out of range, or memory is refused before the run begins or for what it
+/// published; no other fault of the engine comes); and `Write` where memory for the text is refused or the output isn't taken whole. Nothing is
+/// written then, but at `Write` a prefix of the text. A run for which memory is refused once it has begun ends so, and what it has published is
+/// written.
 pub fn run_text<R: Threads + Wait + Sync, W: Write>(
     rt: &R,
     alloc: Global,

@@ -1,4 +1,7 @@
 //! The ways of a test's cases, and their scripts.
+//!
+//! A way is one choice among all that a case's services may do: for each service, or each of its first calls, one of its alternatives, and in that
+//! one number of each range. It is written as a script, so that a run of it is a run with that script.
 
 ghost use Rattle.std.specs.Prelude.{◌≡◌, IfOk, IfErr, length};
 ghost use Rattle.std.specs.List.{AllZip};
@@ -14,10 +17,10 @@ use orc_ways::fault::TestFault;
 use orc_ways::test::Test;
 use std::alloc::Global;
 
-/// The scripts of the ways of a case that are tried.
+/// The scripts of the ways of a case that are tried: the first ones, in the order of the ways.
 #[derive(Drop)]
 pub struct CaseScripts {
-    /// How many ways the case has.
+    /// How many ways the case has, also those that aren't tried.
     pub count: u64,
     pub scripts: Vec<Vec<u8>>,
 }
@@ -31,6 +34,7 @@ pub(crate) fn ways_of(alloc: Global, test: &Test<'_>) -> Result<Vec<Ways>, Untes
 {
     let mut all = Vec::new(alloc);
     let mut at = 0;
+    // Not a `for`: the loop's invariant speaks of the rest of the list.
     let mut rest = test.cases.as_slice();
     loop {
         match rest {
@@ -52,7 +56,7 @@ pub(crate) fn ways_of(alloc: Global, test: &Test<'_>) -> Result<Vec<Ways>, Untes
     }
 }
 
-// The scripts of a case, so many at most, each with these lines behind it.
+// The scripts of a case's first ways, so many at most, each with these lines behind it: those of the script beside the test.
 fn scripts_of(alloc: Global, ways: &Ways, most: u64, behind: &[u8]) -> Result<CaseScripts, Untested>
     ensures scripts { IfOk result (AreScripts most behind.now ways.now) }
     ensures cause { IfErr result IsNoMemory }
@@ -67,7 +71,7 @@ fn scripts_of(alloc: Global, ways: &Ways, most: u64, behind: &[u8]) -> Result<Ca
     }
 }
 
-/// The scripts of each case, so many at most, each with these lines behind it. The fault is refused memory.
+/// The scripts of each case's first ways, so many of a case at most, each with these lines behind it. The fault is refused memory.
 #[tactic(auto, using(crate::proofs::Scripting::one_written))]
 pub(crate) fn all_scripts(
     alloc: Global,
@@ -80,6 +84,7 @@ pub(crate) fn all_scripts(
     ensures sound { IfErr result (λ f. IsOwnFault f → ⊥) }
 {
     let mut all = Vec::new(alloc);
+    // As in `ways_of`.
     let mut rest = ways;
     loop {
         match rest {
@@ -95,7 +100,8 @@ pub(crate) fn all_scripts(
     }
 }
 
-/// The script of the way in which a failure is. No failure is told of a way that wasn't tried.
+/// The script of the way in which a failure is. A failure is always in a way that was tried, so the fault, which says that there is no text, doesn't
+/// come.
 pub(crate) fn script_at(cases: &[CaseScripts], found: Counterexample) -> Result<&[u8], Untested>
     ensures script { IfOk result (λ text. IsScript cases.now found text.now) }
     ensures among { IfOk result (λ text. IsAmong (all_texts cases.now) text.now) }
@@ -111,7 +117,8 @@ pub(crate) fn script_at(cases: &[CaseScripts], found: Counterexample) -> Result<
     }
 }
 
-/// Those of its lines that tell it from other ways.
+/// The lines that tell a failure's way from other ways of its case: those where a call takes another alternative than the first, or one with a range.
+/// The fault is refused memory.
 pub(crate) fn unusual_lines(
     alloc: Global,
     ways: &[Ways],

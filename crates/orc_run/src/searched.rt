@@ -1,4 +1,7 @@
 //! The search through all schedules of the ways in which a test's claims held.
+//!
+//! It begins with the claims that failed in no run (`Searched::Whole`), and goes through the ways of the cases one after another. A claim stays whole
+//! as long as no schedule of a way breaks it (`Breaks`) and no search has to give up (`No`).
 
 ghost use Rattle.std.specs.Prelude.{◌≡◌, ◌⊎◌, IfOk, IfSome, OnOk, Some, false, suc, true};
 ghost use Rattle.std.specs.List.{slice_get};
@@ -17,10 +20,10 @@ use orc_tally::{Broken, CaseReport, ClaimSite, Searched, is_held, is_open};
 use orc_ways::test::Test;
 use std::alloc::{AllocError, Global};
 
-/// All searches of a command look at so many times as many states as one of them may.
+/// All searches of a command together look at so many times as many states as one of them may at most.
 const SEARCHES: u64 = 20;
 
-/// A way whose program is loaded.
+/// A way whose program is loaded: the source with the way's script.
 pub(crate) struct Way<'w> {
     pub(crate) script: &'w [u8],
     pub(crate) loaded: Loaded,
@@ -28,6 +31,7 @@ pub(crate) struct Way<'w> {
     pub(crate) sites: Vec<ClaimSite>,
 }
 
+// Written out, so that a caller's proof sees one call and not the drop of each field.
 impl Drop for Way<'_> {
     fn drop(self) {
         let Way {
@@ -59,7 +63,8 @@ impl<'w> Way<'w> {
         })
     }
 
-    // What a search for a claim comes to, through so many states at most, by what searches of the way share.
+    // Searches the way's schedules, through `most` states at most, for a run that breaks a claim. `explorer` is that of this way: it keeps what one
+    // search has found out for the next claim. The error is refused memory.
     fn search_on(
         &self,
         alloc: Global,
@@ -76,7 +81,8 @@ impl<'w> Way<'w> {
         Ok(found)
     }
 
-    /// The same by a search alone.
+    /// Searches the way's schedules, through `most` states at most, for a run that breaks a claim, and keeps nothing for another search. The error is
+    /// refused memory.
     pub(crate) fn search(
         &self,
         alloc: Global,
@@ -98,7 +104,7 @@ impl<'w> Way<'w> {
     }
 }
 
-// What a search in the way at this place says of a claim that was kept so far.
+// What is said of a claim, which was whole so far, after a search in the way at this place.
 fn said_of(place: Broken, found: &ClaimSearched) -> Searched
     ensures { result ≡ said_of place found.now }
 {
@@ -111,7 +117,8 @@ fn said_of(place: Broken, found: &ClaimSearched) -> Searched
     }
 }
 
-// At about so many states a search has looked.
+// At about so many states a search has looked. Only one that ends with `Holds` says how many; each other one counts as if it had looked at all that
+// it may.
 fn cost_of(found: &ClaimSearched, most: usize) -> u64 {
     match found {
         ClaimSearched::Holds(states) => *states as u64,
@@ -120,7 +127,7 @@ fn cost_of(found: &ClaimSearched, most: usize) -> u64 {
     }
 }
 
-/// What is searched.
+/// What is searched, and by how much.
 #[derive(Drop)]
 pub(crate) struct Searcher<'s, 'a> {
     pub(crate) alloc: Global,
@@ -137,12 +144,12 @@ pub(crate) struct Searcher<'s, 'a> {
 #[derive(Drop)]
 pub struct Sighted {
     pub seen: Seen,
-    /// Behind this time all times are one to the claim; 0 where it asks for none.
+    /// The claim doesn't tell times apart that are later than this; 0 where it asks for none.
     pub latest: u64,
 }
 
 impl Searcher<'_, '_> {
-    // The case of a claim.
+    // The place of the case in which a claim stands; None for one below `always`.
     fn section(&self, claim: usize) -> Option<usize>
         ensures { result ≡ section_of (slice_get self.now.test.now.claim_lines.items claim) }
     {
@@ -152,7 +159,8 @@ impl Searcher<'_, '_> {
         }
     }
 
-    // Whether every schedule may keep a claim.
+    // What is said of a claim before the first search: whole if searches are asked for and it failed in no run, of which none was left out or cut;
+    // otherwise it isn't searched for.
     #[tactic(auto, using(crate::proofs::Schedules::open_is_full))]
     fn begun(&self, claim: usize) -> Searched
         ensures { (result ≡ Searched.No) ⊎ ((result ≡ Searched.Whole) × (are_full (section_of (slice_get self.now.test.now.claim_lines.items claim)) 0 self.now.reports.now ≡ true)) }
@@ -163,7 +171,8 @@ impl Searcher<'_, '_> {
         Searched::No
     }
 
-    // Which claims every schedule may keep, before the first search. That runs end by themselves has no line and no search.
+    // What is said of each claim before the first search. The claim that runs end by themselves is the last one; it has no line in the test, and
+    // isn't searched for.
     #[tactic(auto, using(crate::proofs::Schedules::none_begun))]
     fn begin(&self) -> Result<Vec<Searched>, AllocError>
         ensures { IfOk result (λ all. AreSoFar self.now 0 0 all.items) }
@@ -175,7 +184,7 @@ impl Searcher<'_, '_> {
         Ok(all)
     }
 
-    // Whether a claim that was kept so far is held against the runs of a case.
+    // Whether a claim that is whole so far is one of the case at this place, or below `always`. If none is, the case needs no search.
     fn wants(&self, case: usize, said: &[Searched]) -> bool
         ensures { result ≡ false → IsUnwanted self.now case said.now }
     {
@@ -189,7 +198,7 @@ impl Searcher<'_, '_> {
         false
     }
 
-    // How many ways there are, from this case on, against which a claim of this section is held.
+    // How many ways there are, from this case on, in which a claim of this section is judged.
     fn ways_from(&self, case: usize, section: Option<usize>) -> u64 {
         let mut number: u64 = 0;
         for at in case..self.cases.len() {
@@ -200,7 +209,8 @@ impl Searcher<'_, '_> {
         number
     }
 
-    // Whether so many states in each way that is to come are more than are left. The first way of a case tells.
+    // Whether a search of so many states in each way that is to come would need more than are left. It is asked at the first way of a case alone:
+    // then the claim is given up at once, and not after the states have been spent on some of its ways.
     fn is_too_much(&self, place: Broken, section: Option<usize>, states: usize, left: u64) -> bool {
         place.way == 0
             && self
@@ -209,7 +219,7 @@ impl Searcher<'_, '_> {
                 > left
     }
 
-    // Searches the way at this place for a claim of this section, and takes what that costs from what is left.
+    // Searches the way at this place for a claim of this section, and takes the states at which it looked from those that are left.
     fn find(
         &self,
         way: &Way<'_>,
@@ -223,6 +233,7 @@ impl Searcher<'_, '_> {
         ensures searched { IfOk result (IsClaimSearched way.now.loaded.program way.now.loaded.answers way.now.sites.items claim.now self.now.trials.now.limit) }
         ensures ready { OnOk result (Explores way.now explorer.new) }
     {
+        // This search may look at no more states than are left for all.
         let most = self.most.min(*left) as usize;
         let limit = self.trials.limit;
         let found = way.search_on(self.alloc, explorer, claim, most, limit)?;
@@ -236,7 +247,7 @@ impl Searcher<'_, '_> {
         Ok(found)
     }
 
-    // What is said of a claim that was kept before the way at this place.
+    // What is said after the way at this place of a claim that was whole before it. The claim stays whole if it is one of another case.
     #[tactic(auto, using(crate::proofs::Schedules::untouched_word, crate::proofs::Schedules::unknown_word))]
     fn say_again(
         &self,
@@ -264,7 +275,7 @@ impl Searcher<'_, '_> {
         }
     }
 
-    // What is said of a claim after the way at this place.
+    // What is said of a claim after the way at this place, where `before` was said of it. Once it isn't whole, no search changes that.
     #[tactic(auto, using(crate::proofs::Schedules::untouched_word))]
     fn say(
         &self,
@@ -351,10 +362,11 @@ impl Searcher<'_, '_> {
         Ok(said)
     }
 
-    /// What is said of each claim. The error is refused memory.
+    /// What is said of each claim of the test's lines after all searches. The error is refused memory.
     pub(crate) fn search(&self) -> Result<Vec<Searched>, AllocError>
         ensures { IfOk result (λ said. AreSaid self.now.trials.now self.now.test.now.claim_lines.items self.now.cases.now self.now.reports.now said.items) }
     {
+        // At so many states all searches together may still look.
         let mut left = self.most.saturating_mul(SEARCHES);
         let mut said = self.begin()?;
         for case in 0..self.cases.len() {
@@ -363,7 +375,7 @@ impl Searcher<'_, '_> {
         Ok(said)
     }
 
-    /// What such a search sees of a run that breaks a claim, in the way of this script; None where it finds none. The error is refused memory.
+    /// What a search alone sees of a run that breaks a claim, in the way of this script; None where it finds none. The error is refused memory.
     pub(crate) fn see(&self, script: &[u8], claim: usize) -> Result<Option<Sighted>, AllocError>
         ensures { IfOk result (λ found. IfSome found (IsSighted self.now.trials.now script.now claim)) }
     {

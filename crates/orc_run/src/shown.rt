@@ -24,10 +24,11 @@ use std::alloc::Global;
 use std::io::Write;
 use std::thread::Threads;
 
-/// How many places a search for a run may look at for each state that a search through all schedules may: places tell apart more than states do.
+/// How many places a search for a run may look at for each state that a search through all schedules may: places tell apart more than states do, so
+/// there are more of them.
 pub(crate) const PLACES_A_STATE: usize = 16;
 
-/// Memory for what is looked for was refused.
+/// Memory for a search was refused.
 const NO_MEMORY: Unshown = Unshown::Fault(RunFault::Engine(EngineFault::Memory));
 
 /// Why no outcome is shown.
@@ -47,11 +48,14 @@ struct Outcome<'o> {
     values: &'o [Value],
 }
 
+// `seen` counts the values that were published so far, each as wanted.
 impl Wanted for Outcome<'_> {
+    // To an outcome all times are the same.
     fn time(&self, _now: u64) -> u64 {
         0
     }
 
+    // A value that isn't the next wanted one ends this way.
     fn after(&self, seen: usize, _time: u64, happened: Happened<'_>) -> Option<usize> {
         let Happened::Published(value) = happened else {
             return Some(seen);
@@ -75,7 +79,7 @@ fn has(played: &Played, outcome: Outcome<'_>) -> bool
     played.summary.end == outcome.end && are_same(played.published.as_slice(), outcome.values)
 }
 
-// The outcome with this place among those that a search found and no order came to.
+// The outcome at this place, from 0, among those that a search found and no order came to.
 fn unseen_at<'f>(seen: &[Seen], found: &'f [Ended], place: usize) -> Option<&'f Ended>
     ensures { IfSome result (λ e. IsUnseen seen.now e.now) }
 {
@@ -91,7 +95,8 @@ fn unseen_at<'f>(seen: &[Seen], found: &'f [Ended], place: usize) -> Option<&'f 
     None
 }
 
-// A run that has an outcome, looked for through so many places at most. The error is refused memory.
+// A run that has an outcome, looked for through so many places at most; None if none is found. No limit of entries holds: an outcome of the search
+// may need more of them than the command's limit. The error is refused memory.
 fn found_run(
     alloc: Global,
     loaded: &Loaded,
@@ -111,6 +116,7 @@ fn found_run(
     ) {
         Ok(found) => Ok(found),
         Err(PlayFault::Memory) => Err(EngineFault::Memory),
+        // Without a journal that the rules take there is no run to show.
         Err(PlayFault::Broken) => Ok(None),
     }
 }
@@ -140,7 +146,7 @@ fn write_shown<W: Write>(
     }
 }
 
-// A run in one order, with its journal.
+// Makes the run in one order again, and keeps its journal.
 fn run_in_order(alloc: Global, loaded: &Loaded, order: u64, limit: u64) -> Result<Played, RunFault>
     ensures played { IfOk result (λ p. IsPlayed loaded.now.program loaded.now.answers limit p.summary p.published.items p.journal) }
     ensures fault { IfErr result IsOther }
@@ -158,7 +164,8 @@ fn run_in_order(alloc: Global, loaded: &Loaded, order: u64, limit: u64) -> Resul
     .map_err(RunFault::Engine)
 }
 
-// Writes the journal of a run that has an outcome to which no order came: the one at this place among those that a search finds.
+// Writes the journal of a run that has an outcome to which no order came. Such outcomes have the numbers that follow those of the orders' outcomes,
+// in the order in which a search through so many states finds them.
 #[tactic(auto, using(crate::proofs::Showing::unwritten_unshown))]
 fn show_unseen<W: Write>(
     alloc: Global,
@@ -194,12 +201,12 @@ fn show_unseen<W: Write>(
     }
 }
 
-/// Writes the journal of a run of the program that a source spells, with the built-in sites and those of a script, that has the outcome with this number,
-/// from 1: of those that [`survey_text`](crate::survey_text) writes, and where `states` says how many states are searched, of those that
+/// Writes the journal of a run of the program that a source spells, with the built-in sites and those of a script, that has the outcome with this
+/// number, from 1: of those that [`survey_text`](crate::survey_text) writes, and where `states` says how many states are searched, of those that
 /// [`search_text`](crate::search_text) writes behind them.
 ///
-/// The faults are those of `survey_text`; `Engine` comes also where memory is refused to a search. Without a fault there may be no outcome with this number, or
-/// no run may be found that has it. Nothing is written then, but at a fault of the output a prefix of the journal's text.
+/// The faults are those of `survey_text`; `Engine` comes also where memory is refused to a search. Without a fault there may be no outcome with this
+/// number, or no run may be found that has it. Nothing is written then, but at a fault of the output a prefix of the journal's text.
 #[tactic(auto, using(crate::proofs::Showing::unwritten_for))]
 pub fn show_text<R: Threads + Sync, W: Write>(
     rt: &R,

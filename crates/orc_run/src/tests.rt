@@ -1,4 +1,6 @@
-//! From a test's text to what is told of its claims.
+//! From a test's text to the table of its claims, or to the script or the journal that shows one failure.
+//!
+//! A trial is a run in one way and one order. All trials come first; then all schedules are searched for the claims that failed in none of them.
 
 ghost use Rattle.std.specs.Prelude.{◌≡◌, List, ℕ, Some, IfOk, IfErr, OnOk, length};
 ghost use Rattle.std.specs.List.{AllZip};
@@ -50,7 +52,7 @@ use std::alloc::{AllocError, Global};
 use std::io::Write;
 use std::thread::Threads;
 
-/// Why nothing is told of a test.
+/// Why a test's table, or what shows one of its failures, was not written.
 #[derive(Clone, Copy, Debug, PartialEq, Eq)]
 pub enum Untested {
     Fault(RunFault),
@@ -60,10 +62,10 @@ pub enum Untested {
     NoJournal(u64),
 }
 
-/// Memory for what is to be written was refused.
+/// Memory for what is to be written was refused: status 6, as if the output had failed.
 pub(crate) const NO_TEXT: Untested = Untested::Fault(RunFault::Write(WriteFault));
 
-/// Memory for what is tried was refused.
+/// Memory for what is tried was refused: status 5.
 pub(crate) const NO_MEMORY: Untested = Untested::Fault(RunFault::Engine(EngineFault::Memory));
 
 /// What is tried, and how.
@@ -98,7 +100,7 @@ pub(crate) fn run_fault(fault: TrialFault) -> RunFault
 }
 
 impl<R: Threads + Sync> Tester<'_, '_, R> {
-    // Tries the ways of a case.
+    // Tries the ways of a case, each in all orders: how many there were, and the counts of each claim.
     fn try_case(&self, scripts: &CaseScripts) -> Result<CaseReport, Untested>
         ensures tried { IfOk result (IsTried self.now.trials.now scripts.now) }
         ensures cause { IfErr result (AreUntried self.now.trials.now.source.now self.now.workers self.now.trials.now.limit (texts scripts.now.scripts.items)) }
@@ -138,6 +140,7 @@ impl<R: Threads + Sync> Tester<'_, '_, R> {
         ensures sound { IfErr result (λ f. IsOwnFault f → ⊥) }
     {
         let mut reports = Vec::new(self.alloc);
+        // Not a `for`: the loop's invariant speaks of the rest of the list.
         let mut rest = cases;
         loop {
             match rest {
@@ -179,7 +182,7 @@ impl<R: Threads + Sync> Tester<'_, '_, R> {
     }
 }
 
-// Writes a text, at whose fault a prefix of it was written.
+// Writes a text. At a fault a prefix of it was written.
 fn write_whole<W: Write>(out: &mut W, text: &[u8]) -> Result<(), Untested>
     ensures ok { OnOk result (Appends (W.contents out.old) (W.contents out.new) text.now) }
     ensures err { IfErr result (LeavesUntested (W.contents out.old) (W.contents out.new)) }
@@ -192,11 +195,12 @@ fn write_whole<W: Write>(out: &mut W, text: &[u8]) -> Result<(), Untested>
     }
 }
 
-// The claim that fails, of the failure with this number, from 1.
+// The place of the claim that fails in the failure with this number, from 1; 0 if there is no such failure.
 fn failing_claim(rows: &[Row], number: u64) -> usize
     ensures { result ≡ failing_claim number rows.now }
 {
     let mut number = number;
+    // As in `try_cases`.
     let mut rest = rows;
     loop {
         match rest {
@@ -341,7 +345,7 @@ impl<R: Threads + Sync> Tester<'_, '_, R> {
         }
     }
 
-    // Writes what is wanted of a test whose ways were tried. How many claims fail.
+    // Writes what is wanted of a test whose ways were tried, and answers how many claims fail.
     #[tactic(auto, using(crate::proofs::Testing::unwritten))]
     fn write_test<W: Write>(
         &self,
@@ -366,7 +370,7 @@ impl<R: Threads + Sync> Tester<'_, '_, R> {
     }
 }
 
-// What looks like a mistake in a test: services that no run asked, and calls that no line answers.
+// What looks like a mistake in a test: services that no run asked, and calls that no line answers. The error is refused memory.
 fn remarks<'t, 'a, R: Threads + Sync>(
     rt: &R,
     alloc: Global,
@@ -383,7 +387,7 @@ fn remarks<'t, 'a, R: Threads + Sync>(
     page.finish()
 }
 
-// Tells of what looks like a mistake, where the table is wanted and explanations are asked for.
+// Explains what looks like a mistake, where the table is wanted and explanations are asked for. It makes the test's runs again.
 fn tell_remarks<'t, 'a, R: Threads + Sync>(
     rt: &R,
     alloc: Global,
@@ -402,7 +406,7 @@ fn tell_remarks<'t, 'a, R: Threads + Sync>(
     }
 }
 
-// Tries the ways of a test's cases, and writes what is wanted of it.
+// Tries the ways of a test's cases, and writes what is wanted of it: how many claims fail.
 #[tactic(auto, using(crate::proofs::Testing::unwritten, crate::proofs::Untold::untried_untold, crate::proofs::Untold::memory_untold))]
 fn try_and_write<'t, 'a, R: Threads + Sync, W: Write>(
     rt: &'t R,
@@ -446,7 +450,7 @@ fn try_and_write<'t, 'a, R: Threads + Sync, W: Write>(
     Ok(number)
 }
 
-// Adds the claim that a run ends by itself. The error is refused memory.
+// Adds the claim that a run ends by itself, halted or quiet, at whatever time. It is the last claim, and has no line. The error is refused memory.
 fn add_end(alloc: Global, test: &mut Test<'_>) -> Result<(), AllocError>
     ensures { OnOk result (IsJudged test.old test.new) }
 {
@@ -458,7 +462,7 @@ fn add_end(alloc: Global, test: &mut Test<'_>) -> Result<(), AllocError>
     Ok(())
 }
 
-// Holds the claims of a test that was read, and that runs end by themselves, in these ways of its cases.
+// Judges the claims of a test that was read, to which `add_end` has added one, in these ways of its cases: how many fail.
 #[tactic(auto, using(crate::proofs::Testing::unwritten))]
 fn hold<'t, 'a, R: Threads + Sync, W: Write>(
     rt: &R,
@@ -494,7 +498,7 @@ fn hold<'t, 'a, R: Threads + Sync, W: Write>(
     Ok(number)
 }
 
-// The sites of a script, and the built-in ones.
+// The table of the built-in sites and those of the script beside the test.
 fn others_of(alloc: Global, script: &[u8]) -> Result<Answers, Untested>
     ensures says { IfOk result (Says script.now) }
     ensures cause { IfErr result (IsNoScript script.now) }
@@ -506,7 +510,7 @@ fn others_of(alloc: Global, script: &[u8]) -> Result<Answers, Untested>
     }
 }
 
-// The test that a text says.
+// The test that a text says, beside the sites of a script.
 fn known_of<'a>(alloc: Global, text: &'a [u8], others: &Answers) -> Result<Test<'a>, Untested>
     ensures says { IfOk result (λ t. SaysTest text.now others.now (test_of t)) }
     ensures cause { IfErr result (IsNoTest text.now others.now) }
@@ -518,16 +522,17 @@ fn known_of<'a>(alloc: Global, text: &'a [u8], others: &Answers) -> Result<Test<
     }
 }
 
-/// Holds the claims of a test against the program that a source spells, with the built-in sites, those of the test and those of a script: each case in
-/// its first ways, as many as the options say, each way in as many orders; and then, for a claim that failed in none of these runs, all schedules of each
-/// way. Writes the names of the program and the test, a line for each claim, below one that fails what shows it, and the commands that show the first
-/// failure; or instead the script or the journal that shows one failure. That runs end by themselves is claimed in each case in which no claim says how
-/// they end, and has a line where it fails. Answers how many claims fail. Where explanations are asked for, the picture of the run stands below each
-/// failure, and `explained` tells which services no run asked, and which calls no line answers.
+/// Judges the claims of a test on the program that a source spells, with the built-in sites, those of the test and those of a script: each case in
+/// its first ways, as many as the options say, each way in as many orders; and then, for a claim that failed in none of these runs, all schedules of
+/// each way. Writes the names of the program and the test, a line for each claim, below one that fails what shows it, and the commands that show the
+/// first failure; or instead the script or the journal that shows one failure. That runs end by themselves is claimed in each case in which no claim
+/// says how they end, and has a line where it fails. Answers how many claims fail. Where explanations are asked for, the picture of the run stands
+/// below each failure that a run showed, and `explained` gets which services no run asked, and which calls no line answers.
 ///
-/// The faults are those of the source's text, of the script, of the test and of the source's names, in this order; `Engine` where the number of workers or
-/// the limit is out of range, or memory is refused for what is tried; `Write` where memory for the text is refused or the output isn't taken whole; and
-/// `NoFailure` where one is to be shown that there isn't; and `NoJournal` where it is one that no order showed. Nothing is written then, but at a fault of the output a prefix of the text.
+/// The faults are those of the source's text, of the script, of the test and of the source's names, in this order; `Engine` where the number of
+/// workers or the limit is out of range, or memory is refused for what is tried; `Write` where memory for the text is refused or the output isn't
+/// taken whole; `NoFailure` where there are fewer failures than the number of the one that is to be shown; and `NoJournal` where the journal is
+/// wanted of a failure that no order showed, and no run of it is found. Nothing is written then, but at a fault of the output a prefix of the text.
 #[tactic(auto, using(crate::proofs::Testing::unwritten, crate::proofs::Untold::unscripted_for, crate::proofs::Untold::unread_for))]
 pub fn test_text<R: Threads + Sync, W: Write>(
     rt: &R,
@@ -545,6 +550,8 @@ pub fn test_text<R: Threads + Sync, W: Write>(
     ensures cause { IfErr result (IsUntestedFor source.now test.now script.now options.now) }
     ensures sound { IfErr result (λ f. IsOwnFault f → ⊥) }
 {
+    // The tree isn't used: each way's program is loaded from the text. But a fault of the source's text comes before those of the script and the
+    // test.
     if let Err(fault) = parse(alloc, source) {
         return Err(Untested::Fault(RunFault::Syntax(fault)));
     }

@@ -1,4 +1,4 @@
-//! When a run published what, told by its journal.
+//! What a run published, and at which time, from its journal: the text of `orc run --times`.
 
 ghost use Rattle.std.specs.Prelude.{◌≡◌, ◌++◌, IfOk, OnOk, OnErr};
 ghost use Rattle.std.specs.Io.KnownBytes.{Appends};
@@ -13,7 +13,7 @@ use orc_rules::value::Value;
 use std::alloc::{AllocError, Global};
 use std::io::Write;
 
-// The line of a value that is published at this time.
+// Adds the line of a value that is published at this time: `42 at 3`. The error is refused memory.
 fn write_line(alloc: Global, lines: &mut Vec<u8>, value: Value, now: u64) -> Result<(), AllocError>
     ensures { OnOk result (lines.new.items ≡ lines.old.items ++ timed_line value now) }
 {
@@ -42,8 +42,8 @@ fn times_of(alloc: Global, journal: &Journal) -> Result<Vec<u8>, AllocError>
     Ok(lines)
 }
 
-/// Writes a line for each value that a run published, with its time, as its journal tells. At a fault a prefix of that was written: nothing, where
-/// memory for it was refused.
+/// Writes a line for each value that a run published, with its logical time, from its journal. At a fault a prefix of that was written: nothing,
+/// where memory for it was refused.
 pub fn write_times<W: Write>(
     alloc: Global,
     journal: &Journal,

@@ -1,4 +1,4 @@
-//! Which calls of a test's services no line of a case answers: an argument or a pattern may be mistyped.
+//! Which calls of a test's services no line of a case answers, so that they halt at once: an argument or a pattern may be mistyped.
 
 use crate::asked::is_of;
 use crate::scripts::CaseScripts;
@@ -13,7 +13,7 @@ use orc_rules::value::{Answer, Args, Found, Value};
 use orc_ways::test::{Service, Test};
 use std::alloc::{AllocError, Global};
 
-/// So many calls of a case are told.
+/// So many calls of a case are named.
 const SHOWN: usize = 4;
 
 // Whether a service's patterns take these arguments.
@@ -25,13 +25,13 @@ fn takes(service: &Service<'_>, args: &[Value]) -> bool {
         })
 }
 
-/// The calls of a case that no line answers, each told once.
+/// The calls of a case that no line answers, each named once.
 #[derive(Drop)]
 struct Calls<'t, 'a> {
     test: &'t Test<'a>,
     case: usize,
     texts: Vec<String>,
-    // Whether there are others.
+    // Whether there are more of them than are named.
     has_more: bool,
 }
 
@@ -51,13 +51,15 @@ impl Calls<'_, '_> {
         })
     }
 
-    // Whether no line answers a call, nor one of the script behind those of the test.
+    // Whether no line of the case answers a call of a service, nor one of the script behind those of the test. A call without a line halts at once;
+    // so does one whose line in that script says `halt`.
     fn is_lost(&self, answers: &Answers, site: u32, name: &[u8], args: &Args) -> bool {
         self.is_service(name)
             && !self.is_taken(name, args.as_slice())
             && matches!(answers.find(site, args, 1), Found::After(Answer::Halt, 0))
     }
 
+    // Names a call, unless it was named before. From the fifth on only that there are more. The error is refused memory.
     fn add(&mut self, alloc: Global, name: &[u8], args: &[Value]) -> Result<(), AllocError> {
         let mut page = Page::new(alloc);
         page.say_word("`", name, "");
@@ -75,7 +77,8 @@ impl Calls<'_, '_> {
         Ok(())
     }
 
-    // Notes those of the run of a way in the first order. All of these runs were made before, so the error is refused memory.
+    // Notes the calls that no line answers in the run of a way in the first order. All of these runs were made before, so the error is refused
+    // memory.
     fn note(
         &mut self,
         alloc: Global,
@@ -103,7 +106,7 @@ impl Calls<'_, '_> {
         Ok(())
     }
 
-    // A line for each.
+    // A line for each, and one if there are more; a head before the first line of the page.
     fn say(&self, page: &mut Page) {
         let name = match self.test.cases.get(self.case) {
             Some(case) => case.name,
@@ -125,8 +128,8 @@ impl Calls<'_, '_> {
     }
 }
 
-/// The text that tells which calls of services no line of their case or of `given` answers, in the first order of each of the ways that were tried; empty
-/// where each call is answered. Of a case four are told, each once. The error is refused memory.
+/// The text that names the calls of services that no line of their case or of `given` answers, in the first order of each of the ways that were
+/// tried; empty where each call is answered. Of a case it names four at most, each once. The error is refused memory.
 pub fn calls_never_answered(
     alloc: Global,
     trials: &Trials<'_, '_>,

@@ -1,4 +1,4 @@
-//! A run whose tokens several workers hold, over one journal.
+//! A run whose tokens several workers hold, over one journal: `orc run --unordered`.
 
 ghost use Rattle.std.specs.Prelude.{◌≡◌, ◌↔◌, Err, true, is_some, IfOk, IfErr};
 ghost use Rattle.orc_rules.specs.Nodes.{definitions, source};
@@ -17,8 +17,8 @@ use std::alloc::Global;
 use std::sync::Wait;
 use std::thread::Threads;
 
-// Holds nobody, but doesn't say so: with one that is known to be open the order is the fixed one. And since it may hold somebody, each token that is born
-// finds a worker soon, so that they race even in a short run.
+// A gate that holds no call back, but doesn't say so: with an open gate `run_pool` would make the run in its fixed order. And since a call may be
+// held, as far as the workers know, each new token finds a worker soon, so that tokens race even in a short run.
 #[derive(Clone, Copy)]
 struct Unheld;
 
@@ -30,8 +30,8 @@ impl Gate for Unheld {
     }
 }
 
-/// Runs a program on workers, each on a thread of its own, that take the run's tokens as they come and share one journal. Where the rules leave it free,
-/// what a thread gets to first comes first, so that another run may go otherwise. The table answers all calls of sites.
+/// Runs a program on workers, each on a thread of its own, that take the run's tokens as they come and share one journal. Where the rules leave it
+/// free, what a thread gets to first comes first, so that another run may go otherwise. The table answers all calls of sites.
 ///
 /// The fault is Range where there are no workers or over `MOST_WORKERS`, or the limit is 0 or over `MOST_ENTRIES`, and then alone; or Memory as of
 /// [`run_alone`]. No other comes, if the program is one that the scope check takes: a run that the workers bring to no end is made again on one.

@@ -13,13 +13,14 @@ use orc_schedules::{Seen, Watch};
 use orc_tally::ClaimSite;
 use std::alloc::{AllocError, Global};
 
-/// What a claim is to see of a run, and how that is to end.
+/// What a claim is to see of a run, and how that is to end. As [`Wanted`] it counts in `seen` the occurrences that were met so far, in order.
 #[derive(Clone, Copy)]
 pub(crate) struct Sighting<'o> {
     /// What the claim depends on.
     pub(crate) watch: &'o Watch,
     /// The sites that claims name, in the order of their numbers there.
     pub(crate) sites: &'o [ClaimSite],
+    /// The occurrences, in order, and the end.
     pub(crate) seen: &'o Seen,
 }
 
@@ -37,6 +38,8 @@ fn is_alike(one: &Occurrence, other: &Occurrence) -> bool {
 }
 
 impl Sighting<'_> {
+    // After this occurrence. One that the claim doesn't name changes nothing; one that it names has to be the next, at its time, or the run is
+    // another one.
     fn after_what(&self, seen: usize, time: u64, what: &Occurrence) -> Option<usize> {
         if !self.watch.names(what) {
             return Some(seen);
@@ -49,7 +52,7 @@ impl Sighting<'_> {
         }
     }
 
-    // After something became of a call of a site. A site that no claim names has the number of none.
+    // After something became of a call of a site, which has its number in the table here. A site that no claim names gets a number that no claim has.
     fn after_call(
         &self,
         seen: usize,
@@ -70,6 +73,7 @@ impl Sighting<'_> {
 }
 
 impl Wanted for Sighting<'_> {
+    // Later than the claim's latest time all times are the same.
     fn time(&self, now: u64) -> u64 {
         now.min(self.watch.latest())
     }
@@ -96,8 +100,8 @@ impl Wanted for Sighting<'_> {
     }
 }
 
-/// A run of which a claim sees just that, looked for through so many places at most. None where it isn't found within the limit of entries. The error is refused
-/// memory.
+/// A run of which a claim sees just that, looked for through so many places at most. None where none is found within the limit of entries. The error
+/// is refused memory.
 pub(crate) fn witness(
     alloc: Global,
     loaded: &Loaded,
