@@ -1,4 +1,7 @@
 //! Where a program's variables are named, and where they are known.
+//!
+//! An expression's nodes are listed with each operator behind its parts, so a stack of the parts' places is enough to find the scope of each
+//! variable.
 
 use orc_syntax::{Ast, Definition, Expr, Name, Node, Operator, Part, Span};
 use std::alloc::{AllocError, Global};
@@ -17,7 +20,7 @@ pub(crate) enum Binder {
 pub(crate) struct Binding<'a> {
     pub name: Name<'a>,
     pub binder: Binder,
-    /// Where it is known.
+    /// The bytes of the source in which it is known.
     pub scope: Span,
 }
 
@@ -25,10 +28,11 @@ pub(crate) struct Binding<'a> {
 #[derive(Drop)]
 pub(crate) struct Bindings<'a> {
     pub list: Vec<Binding<'a>>,
-    // The places of the parts that their whole is still to take.
+    // The bytes of the parts that no operator, call or `val` has taken yet, the last part on top. Empty once the program is read.
     parts: Vec<Span>,
 }
 
+/// What is taken where nothing is pending, which a parsed program never does.
 const NOWHERE: Span = Span { start: 0, end: 0 };
 
 impl<'a> Bindings<'a> {
@@ -45,6 +49,7 @@ impl<'a> Bindings<'a> {
         Ok(bindings)
     }
 
+    // A definition's parameters are known in its body.
     fn read_definition(&mut self, definition: &Definition<'a>) -> Result<(), AllocError> {
         let scope = self.read_expression(&definition.body)?;
         for parameter in &definition.parameters {
@@ -53,7 +58,7 @@ impl<'a> Bindings<'a> {
         Ok(())
     }
 
-    // Where the expression stands.
+    // Adds the variables of an expression, and gives its bytes.
     fn read_expression(&mut self, expression: &Expr<'a>) -> Result<Span, AllocError> {
         for node in &expression.nodes {
             self.read_node(*node)?;
@@ -61,6 +66,7 @@ impl<'a> Bindings<'a> {
         Ok(self.take())
     }
 
+    // Takes a node's parts and adds its variable, if it names one; then the node itself is a part.
     fn read_node(&mut self, node: Node<'a>) -> Result<(), AllocError> {
         match node.part {
             Part::Plain(_) | Part::Variable(_) => {}
@@ -75,6 +81,7 @@ impl<'a> Bindings<'a> {
         Ok(())
     }
 
+    // In `f >x> g` the variable is known in g, in `f <x< g` in f.
     fn read_operation(&mut self, operator: Operator<'a>) -> Result<(), AllocError> {
         let right = self.take();
         let left = self.take();
@@ -85,12 +92,14 @@ impl<'a> Bindings<'a> {
         }
     }
 
+    // In `val x = g f` the variable is known in f, the last part.
     fn read_val(&mut self, name: Name<'a>) -> Result<(), AllocError> {
         let scope = self.take();
         let _value = self.take();
         self.add(name, Binder::Val, scope)
     }
 
+    // Takes the last part.
     fn take(&mut self) -> Span {
         self.parts.pop().unwrap_or(NOWHERE)
     }
@@ -119,7 +128,7 @@ impl<'a> Bindings<'a> {
         found
     }
 
-    /// The innermost variable of this name that is known at a place.
+    /// The innermost variable of this name that is known at this byte: the one with the narrowest scope.
     pub(crate) fn known(&self, name: &[u8], at: usize) -> Option<Binding<'a>> {
         let mut found: Option<Binding<'a>> = None;
         for binding in self.list.iter() {

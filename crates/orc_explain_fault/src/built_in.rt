@@ -1,4 +1,4 @@
-//! What people are told of the built-in sites. Each function is a match over `Builtin`, so that a new site doesn't compile without its words.
+//! What explanations say of the built-in sites. Most functions are a match over `Builtin`, so that a new site doesn't compile without its words.
 
 use orc_rules::builtin::Builtin;
 use orc_rules::value::Value;
@@ -13,6 +13,7 @@ enum Taken {
 }
 
 impl Taken {
+    // What a site takes.
     fn of(site: Builtin) -> Taken {
         match site {
             Builtin::Add | Builtin::Sub | Builtin::Lt => Taken::Numbers,
@@ -22,6 +23,7 @@ impl Taken {
         }
     }
 
+    // Whether these arguments are that.
     fn fits(self, args: &[Value]) -> bool {
         match self {
             Taken::Numbers => matches!(args, [Value::Number(_), Value::Number(_)]),
@@ -31,6 +33,7 @@ impl Taken {
         }
     }
 
+    // That in words.
     fn words(self) -> &'static str {
         match self {
             Taken::Numbers => "two numbers",

@@ -1,4 +1,4 @@
-//! What is explained of each fault.
+//! The explanation of each fault, and of files that can't be read.
 
 use crate::journal::say_journal;
 use crate::scope::say_scope;
@@ -12,7 +12,7 @@ use orc_site::ScriptFault;
 use orc_syntax::SyntaxFault;
 use std::alloc::{AllocError, Global};
 
-/// A fault that was found.
+/// A fault that was found in the files of a command line, or in doing what it asks for.
 #[derive(Clone, Copy)]
 pub enum Fault {
     /// Of the source's text.
@@ -46,7 +46,7 @@ pub enum Unread {
     Other,
 }
 
-// A fault of the engine.
+// A run that the engine brought to no end (E4).
 fn say_broken(page: &mut Page) {
     page.note(
         "this is a fault of orc, not of your files: the engine found nothing to do where something was left\n",
@@ -54,12 +54,14 @@ fn say_broken(page: &mut Page) {
     page.help("please keep FILE and the script, and report them");
 }
 
+// A limit that is out of range (E1).
 fn say_range(page: &mut Page) {
     page.note("the limit is 1 to ");
     page.number(MOST_ENTRIES);
     page.say("\n");
 }
 
+// The explanation of any fault.
 fn say_fault(page: &mut Page, alloc: Global, subject: &Subject, fault: Fault) {
     match fault {
         Fault::Syntax(fault) => say_syntax(page, alloc, &subject.source, fault),
@@ -82,7 +84,7 @@ fn say_of(page: &mut Page, name: &str, words: &str) {
     page.say(words);
 }
 
-// There is no file of this name. In a name that doesn't begin at the root, it isn't seen where the file was looked for.
+// There is no file of this name. Of a name that doesn't begin with `/` it says where the file was looked for.
 fn say_missing(page: &mut Page, name: &str) {
     page.note("there is no file ");
     page.path(name);
@@ -94,6 +96,7 @@ fn say_missing(page: &mut Page, name: &str) {
     }
 }
 
+// Why a file could not be read, and what to do.
 fn say_unread(page: &mut Page, name: &str, why: Unread) {
     match why {
         Unread::Missing if name.is_empty() => {
@@ -140,7 +143,8 @@ pub fn explain_refused(alloc: Global) -> Result<String, AllocError> {
     page.finish()
 }
 
-/// The text that explains a fault of these files, below its own line. The error is refused memory.
+/// The text that explains a fault of these files, below its own line. It is empty for a fault of a script or of a journal where `subject` has none.
+/// The error is refused memory.
 pub fn explain(alloc: Global, subject: &Subject, fault: Fault) -> Result<String, AllocError> {
     let mut page = Page::new(alloc);
     say_fault(&mut page, alloc, subject, fault);

@@ -1,10 +1,14 @@
 //! What may stand where in a line of a test: a table of places, and the walk over a line by it.
+//!
+//! The grammar is that of docs/testing.md. It is written down as a machine: at a place, the first entry of the tables whose test the next piece
+//! passes says at which place the walk goes on. If none does, the piece can't stand there, and the place says what could.
 
 use crate::script::{Kind, Line, Piece, is_in_range};
 use crate::words::{CONSTANTS, RESERVED, is_one_of};
 use orc_report::Near;
 
-/// A place in a line: what has been read of it tells which words may follow.
+/// A place in a line, between two pieces. Most are named by what may stand there next (`Bracket`, `Pattern`), those on `End` by what has been read
+/// (`PatternEnd`: a pattern); `wanted` says in words what may follow at each.
 #[derive(Clone, Copy, PartialEq, Eq)]
 pub(crate) enum Place {
     Line,
@@ -66,41 +70,47 @@ pub(crate) enum Place {
     EventEnd,
 }
 
-/// What a piece of a line is asked for.
+/// What the next piece has to be.
 #[derive(Clone, Copy)]
 enum Test {
     /// This word or sign.
     Is(&'static [u8]),
     /// This word, and no bracket behind it, which would make it a site.
     Word(&'static [u8]),
+    /// A name that isn't reserved.
     Name,
-    /// A name with a bracket behind it.
+    /// Such a name with a bracket behind it.
     Site,
+    /// A number in range without a sign.
     Digits,
+    /// A value.
     Literal,
     /// A value or `_`.
     Pattern,
     /// A value, `_` or a variable.
     Slot,
+    /// The end of the line.
     End,
-    /// An event begins here; nothing is passed.
+    /// The beginning of an event; the walk stays before it.
     Begins,
-    /// Whatever it is; nothing is passed.
+    /// Anything; the walk stays before it. So it is the last entry of its place.
     Else,
 }
 
 /// Where a walk goes on.
 #[derive(Clone, Copy)]
 enum Next {
+    /// At this place.
     To(Place),
-    /// Through an event, and then there.
+    /// Through an event, and then at this place.
     Event(Place),
-    /// Behind the event.
+    /// Behind the event that it is in, at the place that `Event` gave.
     Back,
+    /// Nowhere: the line is one.
     Done,
 }
 
-/// A place, what may stand there, and where it goes on.
+/// An entry of the tables: a place, what may stand there, and where the walk goes on behind it.
 type Way = (Place, Test, Next);
 
 const VALUE: &str = "a value, `_` or a variable";
@@ -206,7 +216,7 @@ const EVENT_WAYS: [Way; 20] = [
     (Place::Event, Test::Site, Next::To(Place::Open)),
 ];
 
-/// What may stand at the places in a claim on values or on the end.
+/// What may stand at the places in a claim on published values or on the run's end.
 const OUTCOME_WAYS: [Way; 19] = [
     (Place::Ends, Test::Is(b"Halted"), Next::To(Place::EndsEnd)),
     (Place::Ends, Test::Is(b"Quiet"), Next::To(Place::EndsEnd)),
@@ -318,7 +328,8 @@ const LINE_WAYS: [Way; 7] = [
     (Place::LineEnd, Test::End, Next::Done),
 ];
 
-// What is wanted at a place, in words. Where its last way is open to anything these are the words before those of the next place.
+// What may follow at a place, in words. Where the walk may also go on without a piece (`Test::Else`, and behind an event), those of the next place
+// are said behind these.
 fn wanted(place: Place) -> &'static str {
     match place {
         Place::Bracket | Place::Open => "`(`",
@@ -368,7 +379,7 @@ fn wanted(place: Place) -> &'static str {
     }
 }
 
-// The first of some ways on from a place that what is looked at can go.
+// The first entry of a table for a place whose test the piece that is looked at passes.
 fn way_in(ways: &[Way], place: Place, line: &Line) -> Option<(Test, Next)> {
     for (from, test, next) in ways {
         if *from == place && takes(*test, line) {
@@ -378,7 +389,7 @@ fn way_in(ways: &[Way], place: Place, line: &Line) -> Option<(Test, Next)> {
     None
 }
 
-// The way on from a place, by what is looked at.
+// The first entry of all tables for a place whose test the piece that is looked at passes. No place is in two tables.
 fn way(place: Place, line: &Line) -> Option<(Test, Next)> {
     way_in(LINE_WAYS.as_slice(), place, line)
         .or(way_in(SERVICE_WAYS.as_slice(), place, line))
@@ -387,6 +398,7 @@ fn way(place: Place, line: &Line) -> Option<(Test, Next)> {
         .or(way_in(EVENT_WAYS.as_slice(), place, line))
 }
 
+// Whether a piece is digits, in the range of values.
 fn is_digits(piece: Piece) -> bool {
     match piece.text {
         [b'0'..=b'9', ..] => is_in_range(piece.text),
@@ -394,6 +406,7 @@ fn is_digits(piece: Piece) -> bool {
     }
 }
 
+// Whether a piece is a value.
 fn is_literal(piece: Piece) -> bool {
     match piece.kind {
         Kind::Number => is_in_range(piece.text),
@@ -401,10 +414,12 @@ fn is_literal(piece: Piece) -> bool {
     }
 }
 
+// Whether a piece is a value or `_`.
 fn is_pattern(piece: Piece) -> bool {
     piece.is(b"_") || is_literal(piece)
 }
 
+// Whether a piece is a variable: it begins with a small letter, and isn't a word that may follow a value.
 fn is_variable(piece: Piece) -> bool {
     match piece.text {
         [b'a'..=b'z', ..] => !is_one_of(piece.text, FOLLOWING.as_slice()),
@@ -417,7 +432,7 @@ fn is_name(piece: Piece) -> bool {
     piece.kind == Kind::Name && !is_one_of(piece.text, RESERVED.as_slice())
 }
 
-// Whether the piece that is looked at, and what is behind it, is what a test asks for.
+// Whether the piece that is looked at passes a test. A `(` behind a word makes it the name of a site.
 fn takes(test: Test, line: &Line) -> bool {
     let here = line.here();
     let is_called = line.next().is(b"(");
@@ -440,14 +455,14 @@ fn takes(test: Test, line: &Line) -> bool {
 #[derive(Clone, Copy)]
 pub(crate) struct Walk {
     pub place: Place,
-    /// The place before it, where nothing stands between the two.
+    /// The place before it, if the walk went on from there without a piece (`Test::Else`): what may follow there may follow here too.
     pub before: Option<Place>,
-    // Where the walk goes on behind the event.
+    // Where the walk goes on behind the event that it is in.
     behind: Place,
 }
 
 impl Walk {
-    /// The walk over a line, which is looked at where it ends. None where the whole line can stand so.
+    /// Walks over a line, which is looked at where the walk ends: at the piece that can't stand there. None where each piece can.
     pub(crate) fn over(line: &mut Line) -> Option<Walk> {
         let has_equals = line.pieces.iter().any(|piece| piece.is(b"="));
         let mut walk = Walk {
@@ -459,7 +474,7 @@ impl Walk {
             before: None,
             behind: Place::LineEnd,
         };
-        // No piece is looked at from over three places.
+        // A piece, or the end, is looked at from three places at most, so no walk takes more steps.
         for _step in 0..line.pieces.len().saturating_add(1).saturating_mul(3) {
             let Some((test, next)) = way(walk.place, line) else {
                 return Some(walk);
@@ -472,6 +487,7 @@ impl Walk {
         None
     }
 
+    // Goes on behind the piece that is looked at, if the test takes one, and to the next place.
     fn step(&mut self, line: &mut Line, test: Test, next: Next) {
         self.before = match test {
             Test::Else => Some(self.place),
@@ -490,7 +506,7 @@ impl Walk {
         }
     }
 
-    /// What is wanted at its end, in two parts.
+    /// What may follow where the walk ended, in two parts: at the place before, and at this one.
     pub(crate) fn wanted(&self) -> (&'static str, &'static str) {
         let before = match self.before {
             Some(place) => wanted(place),
@@ -499,7 +515,7 @@ impl Walk {
         (before, wanted(self.place))
     }
 
-    /// The word that may stand at its end and is nearest to what stands there, nothing where none is near.
+    /// The word that may stand where the walk ended and is nearest to what stands there; empty where none is near.
     pub(crate) fn near_word(&self, near: &mut Near) -> &'static [u8] {
         let nearest = match self.before {
             Some(place) => nearest_way(near, place, b""),
@@ -509,7 +525,7 @@ impl Walk {
     }
 }
 
-// The word of a place that is nearest, if it is nearer than what came before.
+// The word of a place in a table that is nearest, if it is nearer than those that the search saw before; otherwise `nearest`.
 fn nearest_in(
     near: &mut Near,
     ways: &[Way],
@@ -527,7 +543,7 @@ fn nearest_in(
     found
 }
 
-// The word of a place that is nearest, if it is nearer than what came before.
+// The word of a place that is nearest, of all tables, if it is nearer than those that the search saw before; otherwise `nearest`.
 fn nearest_way(near: &mut Near, place: Place, nearest: &'static [u8]) -> &'static [u8] {
     let found = nearest_in(near, LINE_WAYS.as_slice(), place, nearest);
     let found = nearest_in(near, SERVICE_WAYS.as_slice(), place, found);

@@ -1,8 +1,8 @@
-//! Hints: what may have been meant.
+//! A hint: a line ` = help: ` on what may have been meant.
 
 use orc_report::{Document, Page, place_of};
 
-/// A hint's words. `%` stands for a name, `@` for the line and the column of a place, and `#` for its line.
+/// A hint's words, with what fills them: `%` stands for a name, `@` for the line and the column of a byte of the text, and `#` for its line alone.
 #[derive(Clone, Copy)]
 pub(crate) struct Hint<'a> {
     words: &'static str,
@@ -11,6 +11,7 @@ pub(crate) struct Hint<'a> {
 }
 
 impl<'a> Hint<'a> {
+    /// Words that nothing fills.
     pub(crate) fn plain(words: &'static str) -> Hint<'a> {
         Hint {
             words,
@@ -19,16 +20,18 @@ impl<'a> Hint<'a> {
         }
     }
 
+    /// Words with a name.
     pub(crate) fn of_name(words: &'static str, name: &'a [u8]) -> Hint<'a> {
         Hint { words, name, at: 0 }
     }
 
+    /// Words with a name and a byte of the text, from 0.
     pub(crate) fn of_place(words: &'static str, name: &'a [u8], at: usize) -> Hint<'a> {
         Hint { words, name, at }
     }
 }
 
-// Words with their name and their place filled in.
+// Writes a hint's words, with their name and their place filled in.
 fn say_form(page: &mut Page, document: &Document, hint: Hint) {
     for byte in hint.words.as_bytes() {
         match *byte {
@@ -40,13 +43,13 @@ fn say_form(page: &mut Page, document: &Document, hint: Hint) {
     }
 }
 
-// The number of the line of a place.
+// Writes the number of the line of a byte of the text.
 fn say_line(page: &mut Page, document: &Document, at: usize) {
     let place = place_of(document.text, at.min(document.text.len()));
     page.number(place.line as u64);
 }
 
-/// The line of a hint.
+/// Writes the line of a hint.
 pub(crate) fn say_hint(page: &mut Page, document: &Document, hint: Hint) {
     page.note("help: ");
     say_form(page, document, hint);

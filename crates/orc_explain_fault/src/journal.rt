@@ -1,4 +1,4 @@
-//! Faults of a journal's text (J).
+//! Faults of a journal's text (J1 to J4).
 
 use crate::syntax::say_refused;
 use crate::words::said_of;
@@ -45,7 +45,7 @@ fn split_at_byte(text: &[u8], byte: u8) -> (&[u8], &[u8]) {
     (front, back)
 }
 
-// The name of the site that a `call` names, where a bracket stands behind it.
+// The name of the site in the line of a `call`. None where no bracket stands behind it.
 fn called(line: &[u8]) -> Option<&[u8]> {
     let (_word, fields) = split_at_byte(line, b' ');
     let (_mark, fields) = split_at_byte(fields, b' ');
@@ -58,7 +58,7 @@ fn called(line: &[u8]) -> Option<&[u8]> {
     }
 }
 
-/// What is wrong with a journal's text.
+/// Explains a fault of the text of the subject's journal; nothing where there is none.
 pub(crate) fn say_journal(page: &mut Page, alloc: Global, subject: &Subject, fault: JournalFault) {
     let Some(document) = subject.journal else {
         return;
@@ -71,6 +71,7 @@ pub(crate) fn say_journal(page: &mut Page, alloc: Global, subject: &Subject, fau
     }
 }
 
+// J1: a first line that is no header.
 fn say_header(page: &mut Page, document: &Document) {
     let span = document.line(1);
     page.point(document, span);
@@ -83,6 +84,7 @@ fn say_header(page: &mut Page, document: &Document) {
     }
 }
 
+// J3: a journal of too many bytes or entries.
 fn say_long_journal(page: &mut Page, document: &Document) {
     page.say(" --> ");
     page.path(document.name);
@@ -92,6 +94,7 @@ fn say_long_journal(page: &mut Page, document: &Document) {
     page.say_number(" bytes and ", MOST_ENTRIES, " entries\n");
 }
 
+// J2: the line with this number, from 1, is no entry.
 fn say_journal_line(
     page: &mut Page,
     alloc: Global,
@@ -116,7 +119,7 @@ fn say_journal_line(
     }
 }
 
-// A line that begins with the word of the entries of this form.
+// A line that begins with an entry's word, which belongs to entries of this form.
 fn say_entry(
     page: &mut Page,
     alloc: Global,
@@ -144,7 +147,7 @@ fn say_no_entry(page: &mut Page, alloc: Global, word: &[u8]) {
     page.say("\n");
 }
 
-// The entries' word that is nearest to one, nothing where none is near. The page heeds refused memory.
+// The entries' word that is nearest to this one; empty where none is near.
 fn near_word(page: &mut Page, alloc: Global, word: &[u8]) -> &'static [u8] {
     let mut near = Near::new(alloc, word);
     let mut meant: &'static [u8] = b"";

@@ -1,9 +1,16 @@
-//! What went wrong, said to a person: where it stands, in which line, what was expected, and what may have been meant.
+//! What went wrong, said to a person: at which place, in which line, what was expected, and what may have been meant.
 //!
 //! `explain` takes the texts that a command line names and a fault that was found in them, and gives the text that follows the fault's own
-//! line; `explain_test` does the same for a fault of a test. A text of 100 columns a line stands around the place, with carets under it. Where
-//! it can be told what was meant, the first hint that fits is given. Everything is told from the texts and the fault alone, so what is told
-//! changes nothing. It never recurs, and takes time in proportion to the texts, but for a look at each service of a test for each site of a line.
+//! line; `explain_test` does the same for a fault of a test. The line of the place is shown, 100 columns of it at most, with carets under the place.
+//! Where a hint says what may have been meant, the first one that fits is given. All of this is read from the texts and the fault alone, so an
+//! explanation changes nothing. It never recurs, and takes time in proportion to the texts, but for a look at each service of a test for each site of
+//! a line.
+//!
+//! In all files a function `say_..` writes what its comment names at the end of its `page`. Where it is refused memory it says so by `page.refuse()`,
+//! and the page isn't given out.
+//!
+//! No promise of a run rests on this crate, so it is written to need few proofs: sums saturate, a look-up of what isn't there gives a default, and a
+//! loop that ends by a condition is a `for` with a bound that it never reaches.
 #![tactic(auto)]
 
 mod bindings;

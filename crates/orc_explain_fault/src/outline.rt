@@ -1,4 +1,4 @@
-//! The outline of a test or a script: what its lines are, and of which sites they speak.
+//! The outline of a test or a script: what each line is, by its first words, without a look at whether it is right.
 
 use crate::script::{Kind, Line, Piece};
 use orc_lex::token::Span;
@@ -10,13 +10,15 @@ use std::alloc::{AllocError, Global};
 pub(crate) enum Head<'a> {
     Given,
     Always,
+    /// `case` and its name.
     Case(&'a [u8]),
-    /// A site, and how many patterns it has.
+    /// A line with a `=`: its site, and how many patterns it has. Each line of a script is one.
     Service(&'a [u8], usize),
+    /// Any other line.
     Claim,
 }
 
-/// A line that isn't blank, and its number.
+/// A line that isn't blank, and its number, from 1.
 #[derive(Clone, Copy)]
 pub(crate) struct Outlined<'a> {
     pub number: usize,
@@ -29,7 +31,7 @@ pub(crate) struct Outline<'a> {
     pub lines: Vec<Outlined<'a>>,
 }
 
-/// How many arguments stand in the brackets that open behind these pieces' first one, where they do.
+/// How many arguments stand in the brackets behind the first of these pieces. None where it is no name, or no brackets follow it that are closed.
 pub(crate) fn arguments(pieces: &[Piece]) -> Option<usize> {
     match pieces {
         [name, open, first, rest @ ..] if name.kind == Kind::Name && open.is(b"(") => {
@@ -79,6 +81,7 @@ impl<'a> Outline<'a> {
         Ok(outline)
     }
 
+    // Adds the line with this number, unless it is blank.
     fn read(&mut self, alloc: Global, number: usize, text: &'a [u8]) -> Result<(), AllocError> {
         let span = Span {
             start: 0,
@@ -91,7 +94,7 @@ impl<'a> Outline<'a> {
         Ok(())
     }
 
-    /// What the line of a number is.
+    /// What the line with this number, from 1, is. None where it is blank, or there is no such line.
     pub(crate) fn at(&self, number: usize) -> Option<Head<'a>> {
         for line in self.lines.iter() {
             if line.number == number {
@@ -101,7 +104,7 @@ impl<'a> Outline<'a> {
         None
     }
 
-    /// The first line of a service of this name, as of a site in a script.
+    /// The number of the first line of a service, or of a script's site, with this name.
     pub(crate) fn service(&self, name: &[u8]) -> Option<usize> {
         for line in self.lines.iter() {
             if let Head::Service(other, _) = line.head {
@@ -113,7 +116,7 @@ impl<'a> Outline<'a> {
         None
     }
 
-    /// The section in which the line of a number stands.
+    /// The line that begins the section of the line with this number: the last one before it that begins a section. None before the first section.
     pub(crate) fn section(&self, number: usize) -> Option<Outlined<'a>> {
         let mut found = None;
         for line in self.lines.iter() {
@@ -124,7 +127,7 @@ impl<'a> Outline<'a> {
         found
     }
 
-    /// The line of the first section like this one.
+    /// The number of the first line that begins a section of the same name as this one.
     pub(crate) fn first(&self, head: Head) -> Option<usize> {
         for line in self.lines.iter() {
             if are_alike(line.head, head) {
@@ -135,11 +138,12 @@ impl<'a> Outline<'a> {
     }
 }
 
+// Whether a line begins a section.
 fn is_section(head: Head) -> bool {
     matches!(head, Head::Given | Head::Always | Head::Case(_))
 }
 
-// Whether two sections have one name.
+// Whether two lines begin sections of the same name.
 fn are_alike(one: Head, other: Head) -> bool {
     match (one, other) {
         (Head::Given, Head::Given) | (Head::Always, Head::Always) => true,

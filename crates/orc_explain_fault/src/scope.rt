@@ -1,4 +1,4 @@
-//! Faults of names (C).
+//! Faults of a source's names (C1 to C9).
 
 use crate::bindings::{Binder, Binding, Bindings};
 use crate::built_in::{built_in_named, purpose};
@@ -16,7 +16,7 @@ use orc_site::read_script;
 use orc_syntax::{Ast, Definition, Expr, Name, Part, parse};
 use std::alloc::Global;
 
-/// What other languages call a choice.
+/// What other languages call a choice between two branches.
 const CHOICES: [&[u8]; 2] = [b"if", b"If"];
 
 // The first definition of this name.
@@ -29,7 +29,7 @@ fn definition_of<'d, 'a>(ast: &'d Ast<'a>, name: &[u8]) -> Option<&'d Definition
     None
 }
 
-// The first parameter of a name in the definition that has one at a place.
+// The first parameter of this name in the definition that has a parameter at this byte.
 fn first_parameter<'a>(ast: &Ast<'a>, name: &[u8], at: usize) -> Option<Name<'a>> {
     for definition in &ast.definitions {
         if definition
@@ -43,6 +43,7 @@ fn first_parameter<'a>(ast: &Ast<'a>, name: &[u8], at: usize) -> Option<Name<'a>
     None
 }
 
+// The first of some names with this text.
 fn named<'a>(names: &[Name<'a>], name: &[u8]) -> Option<Name<'a>> {
     for other in names {
         if other.text == name {
@@ -52,7 +53,7 @@ fn named<'a>(names: &[Name<'a>], name: &[u8]) -> Option<Name<'a>> {
     None
 }
 
-// How many arguments the call whose name stands at a place has.
+// How many arguments the call has whose name begins at this byte. None where the expression has no such call.
 fn arguments_in(expression: &Expr, at: usize) -> Option<usize> {
     for node in &expression.nodes {
         if let Part::Call(name, count) = node.part {
@@ -64,6 +65,7 @@ fn arguments_in(expression: &Expr, at: usize) -> Option<usize> {
     None
 }
 
+// How many arguments the call has whose name begins at this byte of the source; 0 where there is no such call.
 fn arguments_at(ast: &Ast, at: usize) -> usize {
     for definition in &ast.definitions {
         if let Some(count) = arguments_in(&definition.body, at) {
@@ -73,6 +75,7 @@ fn arguments_at(ast: &Ast, at: usize) -> usize {
     arguments_in(&ast.main, at).unwrap_or(0)
 }
 
+// Whether an expression calls a name.
 fn has_call(expression: &Expr, name: &[u8]) -> bool {
     for node in &expression.nodes {
         if let Part::Call(called, _) = node.part {
@@ -94,6 +97,7 @@ fn calls(ast: &Ast, name: &[u8]) -> bool {
     has_call(&ast.main, name)
 }
 
+// Whether a call in an expression has too many arguments.
 fn has_wide_call(expression: &Expr) -> bool {
     for node in &expression.nodes {
         if let Part::Call(_, count) = node.part {
@@ -115,7 +119,7 @@ fn has_many(ast: &Ast) -> bool {
     has_wide_call(&ast.main)
 }
 
-// The nearest variable.
+// The nearest variable, if one is near. The three functions below go on with the same search, which takes only ever nearer names.
 fn near_variable<'a>(near: &mut Near, bindings: &Bindings<'a>) -> Option<Name<'a>> {
     let mut nearest = None;
     for binding in bindings.list.iter() {
@@ -126,7 +130,7 @@ fn near_variable<'a>(near: &mut Near, bindings: &Bindings<'a>) -> Option<Name<'a
     nearest
 }
 
-// The definition that is nearer than what came before.
+// The nearest definition, if it is nearer than all names that the search saw before.
 fn near_definition<'a>(near: &mut Near, ast: &Ast<'a>) -> Option<Name<'a>> {
     let mut nearest = None;
     for definition in &ast.definitions {
@@ -137,7 +141,7 @@ fn near_definition<'a>(near: &mut Near, ast: &Ast<'a>) -> Option<Name<'a>> {
     nearest
 }
 
-// The reserved word that is nearer than what came before.
+// The nearest reserved word, if it is nearer than all names that the search saw before.
 fn near_word(near: &mut Near) -> Option<&'static [u8]> {
     let mut nearest = None;
     for word in RESERVED.iter() {
@@ -148,9 +152,10 @@ fn near_word(near: &mut Near) -> Option<&'static [u8]> {
     nearest
 }
 
-/// The site that is nearer than what came before.
+/// The nearest site of a table, if it is nearer than all names that the search saw before.
 pub(crate) fn near_site<'a>(near: &mut Near, answers: &'a Answers) -> Option<&'a [u8]> {
     let mut nearest = None;
+    // Sites are numbered from 0 without a gap, so the first number without a name is behind the last site.
     for site in 0..u32::MAX {
         let Some(name) = answers.name(site) else {
             return nearest;
@@ -162,7 +167,7 @@ pub(crate) fn near_site<'a>(near: &mut Near, answers: &'a Answers) -> Option<&'a
     nearest
 }
 
-// Where a variable is known.
+// A hint's words on where a variable is known: `%` is its name, `@` where it is named.
 fn reach(binder: Binder) -> &'static str {
     match binder {
         Binder::Pruning => "`%` is named in @, but in `f <%< g` it is known in f alone",
@@ -172,19 +177,20 @@ fn reach(binder: Binder) -> &'static str {
     }
 }
 
-/// What is wrong with a name.
+/// Explains a fault of a name in the subject's source.
 pub(crate) fn say_scope(page: &mut Page, alloc: Global, subject: &Subject, fault: ScopeFault) {
     if fault.kind == FaultKind::Memory {
         say_refused(page, "names were looked up");
         return;
     }
-    // What spells no program has no such fault: only memory can be refused here.
+    // A text that doesn't parse has no fault of its names: only memory can be refused here.
     match parse(alloc, subject.source.text) {
         Ok(ast) => say_name(page, alloc, subject, &ast, fault),
         Err(_) => page.refuse(),
     }
 }
 
+// The line of the name, and behind the carets what is wrong with it.
 fn say_name(page: &mut Page, alloc: Global, subject: &Subject, ast: &Ast, fault: ScopeFault) {
     let document = &subject.source;
     let at = fault.span.start;
@@ -201,10 +207,12 @@ fn say_name(page: &mut Page, alloc: Global, subject: &Subject, ast: &Ast, fault:
         FaultKind::ParameterTwice => say_second_parameter(page, document, ast, name, at),
         FaultKind::CallOfVariable => say_call_of_variable(page, alloc, document, ast, name, at),
         FaultKind::NoSite => say_no_site(page, alloc, subject, ast, name, at),
+        // `say_scope` took refused memory.
         FaultKind::TooMany | FaultKind::Memory => say_too_many(page, has_many(ast)),
     }
 }
 
+// C1: a name that means nothing here. If a variable has this name elsewhere, it says where that is known.
 fn say_unbound(page: &mut Page, alloc: Global, document: &Document, ast: &Ast, name: &[u8]) {
     page.say_word("no `", name, "` is in scope here\n");
     let Ok(bindings) = Bindings::new(alloc, ast) else {
@@ -224,7 +232,8 @@ fn say_unbound(page: &mut Page, alloc: Global, document: &Document, ast: &Ast, n
     }
 }
 
-// The name in place of one that isn't known.
+// The name that may have been meant by one that is known nowhere. The search is shown variables, definitions and words in turn, and takes only ever
+// nearer names, so the last kind that it took from has the nearest.
 fn say_near(page: &mut Page, alloc: Global, ast: &Ast, bindings: &Bindings, name: &[u8]) {
     let mut near = Near::new(alloc, name);
     let variable = near_variable(&mut near, bindings);
@@ -239,11 +248,12 @@ fn say_near(page: &mut Page, alloc: Global, ast: &Ast, bindings: &Bindings, name
     }
 }
 
+// A name's text, if there is a name.
 fn text_of<'a>(name: Option<Name<'a>>) -> Option<&'a [u8]> {
     name.map(|name| name.text)
 }
 
-// A name that may have been meant.
+// The name that was probably meant, and what it is for if it is a built-in site.
 fn say_meant(page: &mut Page, name: &[u8]) {
     page.note("help: ");
     page.say_word("did you mean `", name, "`?");
@@ -255,7 +265,7 @@ fn say_meant(page: &mut Page, name: &[u8]) {
     page.say("\n");
 }
 
-// A name with a capital may be that of a site.
+// A name with a capital letter may be meant as a site.
 fn say_perhaps_site(page: &mut Page, name: &[u8]) {
     if let [b'A'..=b'Z', ..] = name {
         page.note("help: ");
@@ -263,6 +273,7 @@ fn say_perhaps_site(page: &mut Page, name: &[u8]) {
     }
 }
 
+// C2: a definition or a site that isn't called.
 fn say_not_value(page: &mut Page, ast: &Ast, name: &[u8]) {
     let kind = match definition_of(ast, name) {
         Some(_) => "definition",
@@ -277,6 +288,7 @@ fn say_not_value(page: &mut Page, ast: &Ast, name: &[u8]) {
     page.say("s aren't values\n");
 }
 
+// C3: a call of a definition with another number of arguments.
 fn say_arity(page: &mut Page, document: &Document, ast: &Ast, name: &[u8], want: u64, got: u64) {
     page.say("called with ");
     page.count(got, "argument");
@@ -290,6 +302,7 @@ fn say_arity(page: &mut Page, document: &Document, ast: &Ast, name: &[u8], want:
     page.say("\n");
 }
 
+// C4: a second definition of a name.
 fn say_second_definition(page: &mut Page, document: &Document, ast: &Ast, name: &[u8]) {
     page.say("a second definition of this name\n");
     if let Some(first) = definition_of(ast, name) {
@@ -297,6 +310,7 @@ fn say_second_definition(page: &mut Page, document: &Document, ast: &Ast, name: 
     }
 }
 
+// C5: a second parameter of a name, at this byte.
 fn say_second_parameter(page: &mut Page, document: &Document, ast: &Ast, name: &[u8], at: usize) {
     page.say("a second parameter of this name\n");
     if let Some(first) = first_parameter(ast, name, at) {
@@ -311,6 +325,7 @@ fn say_first(page: &mut Page, document: &Document, name: Name) {
     page.say("\n");
 }
 
+// C6: a called name that means a variable.
 fn say_call_of_variable(
     page: &mut Page,
     alloc: Global,
@@ -345,6 +360,7 @@ fn say_binding(page: &mut Page, document: &Document, binding: Option<Binding>) {
     }
 }
 
+// C7: a called name that means nothing.
 fn say_no_site(
     page: &mut Page,
     alloc: Global,
@@ -365,7 +381,8 @@ fn say_no_site(
     }
 }
 
-// The name in place of one that nothing has.
+// The site or the definition that may have been meant, or else how to write a site of one's own. A name that the program calls elsewhere was surely
+// meant; for another one the script may have the wrong name.
 fn say_near_site(
     page: &mut Page,
     alloc: Global,
@@ -388,7 +405,7 @@ fn say_near_site(
     }
 }
 
-// The name that may have been meant and isn't called. Where a line of the script has it, either one may be wrong.
+// The name that may have been meant, but which the program doesn't call. Where a line of the script has it, either name may be the wrong one.
 fn say_perhaps_script(
     page: &mut Page,
     alloc: Global,
@@ -411,7 +428,7 @@ fn say_perhaps_script(
     }
 }
 
-// A line of a script for a site of one's own.
+// The line that a script needs for a site of one's own with so many arguments.
 fn say_own_site(page: &mut Page, subject: &Subject, name: &[u8], count: usize) {
     page.note("help: a site of your own needs a line in ");
     match subject.script {
@@ -428,7 +445,7 @@ fn say_own_site(page: &mut Page, subject: &Subject, name: &[u8], count: usize) {
     page.say(") = 0 after 1`\n");
 }
 
-// An argument or a parameter too many, or else nodes.
+// C8: an argument or a parameter too many, or else too many nodes.
 fn say_too_many(page: &mut Page, are_arguments: bool) {
     if are_arguments {
         page.say_number(

@@ -1,4 +1,7 @@
-//! Faults of a script (L).
+//! Faults of a script's text (L1 to L3), and the pieces of a line of a script or a test.
+//!
+//! `Line` cuts a line into pieces, and looks at one of them after the other. `Line::whole` reads them as the reader of scripts does, and stops at the
+//! first piece that can't stand where it does: there the carets go.
 
 use crate::signs::{NO_ORDER_MARK, ORDER_MARK};
 use crate::syntax::{say_long, say_refused};
@@ -24,12 +27,13 @@ const TIME: &str = "digits alone, at most 9223372036854775807";
 pub(crate) enum Kind {
     Name,
     Number,
-    /// A sign, or what is none.
+    /// A sign, or any other character.
     Sign,
+    /// The end of the line, which is behind its last piece.
     End,
 }
 
-/// A piece of a line.
+/// A piece of a line: a name, a number or a sign, with its bytes in the text.
 #[derive(Clone, Copy)]
 pub struct Piece<'a> {
     pub(crate) kind: Kind,
@@ -37,7 +41,7 @@ pub struct Piece<'a> {
     pub(crate) span: Span,
 }
 
-/// What is wrong with a line.
+/// What is wrong with a line, mostly what had to stand there. `words` says each in words.
 #[derive(Clone, Copy)]
 enum Wrong {
     Name,
@@ -45,13 +49,17 @@ enum Wrong {
     Reserved,
     Bracket,
     Pattern,
+    /// A comma or the closing bracket.
     Comma,
     Assign,
     Answer,
     NeverAfter,
     Time,
+    /// A number is out of range.
     Range,
+    /// `after`, `then` or the end of the line.
     More,
+    /// Too many patterns or answers.
     Many,
 }
 
@@ -62,7 +70,7 @@ impl Piece<'_> {
     }
 }
 
-// The piece that begins at a place of a line.
+// What the piece is that stands first in the rest of a line.
 fn kind_at(rest: &[u8]) -> Kind {
     match rest {
         [b'A'..=b'Z' | b'a'..=b'z', ..] => Kind::Name,
@@ -71,7 +79,8 @@ fn kind_at(rest: &[u8]) -> Kind {
     }
 }
 
-// How many bytes the piece has that stands first.
+// How many bytes the piece of this kind has that stands first. `end` is how far it goes behind its first byte; a sign is that byte alone, but for
+// `..`.
 fn length(kind: Kind, rest: &[u8]) -> usize {
     let more = rest.get(1..).unwrap_or(b"");
     let end = match kind {
@@ -87,7 +96,7 @@ fn length(kind: Kind, rest: &[u8]) -> usize {
     }
 }
 
-/// Whether a number is one of 64 signed bits.
+/// Whether a number, a `-` and digits or digits alone, is in the range of values: -2^63 to 2^63 - 1.
 pub(crate) fn is_in_range(text: &[u8]) -> bool {
     match text {
         [b'-', digits @ ..] => match digits_at(digits) {
@@ -101,16 +110,18 @@ pub(crate) fn is_in_range(text: &[u8]) -> bool {
     }
 }
 
-/// A line as its pieces, and the one that is looked at.
+/// A line as its pieces, and the one that is looked at: at first the first one.
 #[derive(Drop)]
 pub struct Line<'a> {
     pub pieces: Vec<Piece<'a>>,
+    // The place of the piece that is looked at.
     at: usize,
+    // What stands behind the last piece.
     end: Piece<'a>,
 }
 
 impl<'a> Line<'a> {
-    /// The pieces of the line that stands there, up to its comment. The error is refused memory.
+    /// The pieces of the line of these bytes of a text, up to its comment. The error is refused memory.
     pub fn new(alloc: Global, text: &'a [u8], span: Span) -> Result<Line<'a>, AllocError> {
         let mut line = Line {
             pieces: Vec::new(alloc),
@@ -128,6 +139,7 @@ impl<'a> Line<'a> {
         Ok(line)
     }
 
+    // Cuts the line into pieces. Blanks are none, and a `--` begins the comment.
     fn read(&mut self, text: &'a [u8], span: Span) -> Result<(), AllocError> {
         let mut at = span.start;
         // Each step goes on by a byte at least.
@@ -163,7 +175,7 @@ impl<'a> Line<'a> {
         next.copied().unwrap_or(self.end)
     }
 
-    /// Whether points or letters stand here, right behind a number.
+    /// Whether a `.` or a name touches the number before it, as in `1.5` and `3ms`.
     pub(crate) fn lengthens_number(&self) -> bool {
         let here = self.here();
         match self.pieces.get(self.at.saturating_sub(1)) {
@@ -181,10 +193,12 @@ impl<'a> Line<'a> {
         self.at = self.at.saturating_add(1);
     }
 
+    // Whether this word or sign is looked at.
     fn is_here(&self, text: &[u8]) -> bool {
         self.here().text == text
     }
 
+    // Goes on behind this word or sign, or says what is wrong.
     fn want(&mut self, text: &[u8], wrong: Wrong) -> Result<(), Wrong> {
         if self.is_here(text) {
             self.go();
@@ -194,7 +208,7 @@ impl<'a> Line<'a> {
         }
     }
 
-    // A number, `true`, `false` or `signal`.
+    // Goes on behind a number, `true`, `false` or `signal`.
     fn literal(&mut self, wrong: Wrong) -> Result<(), Wrong> {
         let here = self.here();
         if !is_one_of(here.text, CONSTANTS.as_slice()) {
@@ -209,6 +223,7 @@ impl<'a> Line<'a> {
         Ok(())
     }
 
+    // Goes on behind the name of a site of one's own.
     fn site(&mut self) -> Result<(), Wrong> {
         let here = self.here();
         if here.kind != Kind::Name {
@@ -226,6 +241,7 @@ impl<'a> Line<'a> {
         Ok(())
     }
 
+    // Goes on behind the patterns and their brackets.
     fn patterns(&mut self) -> Result<(), Wrong> {
         self.want(b"(", Wrong::Bracket)?;
         if self.is_here(b")") {
@@ -247,6 +263,7 @@ impl<'a> Line<'a> {
         Err(Wrong::Many)
     }
 
+    // Goes on behind a number of units of time.
     fn time(&mut self) -> Result<(), Wrong> {
         let here = self.here();
         match here.text {
@@ -259,7 +276,7 @@ impl<'a> Line<'a> {
         }
     }
 
-    // An answer with its time.
+    // Goes on behind an answer with its time. A `never` with an `after` is looked at itself.
     fn answer(&mut self) -> Result<(), Wrong> {
         if self.is_here(b"never") {
             self.go();
@@ -281,6 +298,7 @@ impl<'a> Line<'a> {
         Ok(())
     }
 
+    // Goes on to the end of the line, over answers with `then` between them.
     fn answers(&mut self) -> Result<(), Wrong> {
         for _answer in 0..MOST_ANSWERS {
             self.answer()?;
@@ -292,7 +310,7 @@ impl<'a> Line<'a> {
         Err(Wrong::Many)
     }
 
-    // What is wrong first: it stands at the piece that is looked at.
+    // Reads the whole line. The error is what is wrong first, with the piece that is looked at then.
     fn whole(&mut self) -> Result<(), Wrong> {
         self.site()?;
         self.patterns()?;
@@ -301,7 +319,7 @@ impl<'a> Line<'a> {
     }
 }
 
-// What is wrong, in words: behind the name or the numbers, where it has some.
+// What is wrong, in words. Before those of `BuiltIn` and `Reserved` stands the piece, and before those of `Many` how many are allowed.
 fn words(wrong: Wrong) -> &'static str {
     match wrong {
         Wrong::Name => "the name of a site has to stand here",
@@ -320,7 +338,7 @@ fn words(wrong: Wrong) -> &'static str {
     }
 }
 
-/// What is wrong with a script.
+/// Explains a fault of the text of the subject's script; nothing where there is none.
 pub(crate) fn say_script(page: &mut Page, alloc: Global, subject: &Subject, fault: ScriptFault) {
     let Some(document) = subject.script else {
         return;
@@ -332,6 +350,7 @@ pub(crate) fn say_script(page: &mut Page, alloc: Global, subject: &Subject, faul
     }
 }
 
+// L1: the line with this number, from 1, is no line of a script.
 fn say_script_line(page: &mut Page, alloc: Global, document: &Document, number: usize) {
     let Ok(mut line) = Line::new(alloc, document.text, document.line(number)) else {
         page.refuse();
@@ -345,6 +364,7 @@ fn say_script_line(page: &mut Page, alloc: Global, document: &Document, number: 
     }
 }
 
+// What is wrong, behind the carets.
 fn say_wrong(page: &mut Page, wrong: Wrong, here: Piece) {
     match wrong {
         Wrong::BuiltIn | Wrong::Reserved => page.say_word("`", here.text, ""),
@@ -387,7 +407,7 @@ fn say_advice(page: &mut Page, document: &Document, wrong: Wrong, line: &Line) {
     }
 }
 
-// What to do about what stands where a site's name has to.
+// What to do about a piece that stands where a site's name has to.
 fn name_advice(document: &Document, here: Piece) -> &'static str {
     match here.text {
         b"#" | b"/" => "a comment is `-- ..` to the end of the line",
@@ -396,7 +416,7 @@ fn name_advice(document: &Document, here: Piece) -> &'static str {
     }
 }
 
-/// What to do about what stands right behind a number.
+/// What to do about a piece that touches the number before it.
 pub(crate) fn number_advice(here: Piece) -> &'static str {
     match here.text {
         b".." => "a range stands only in a test",
@@ -405,7 +425,7 @@ pub(crate) fn number_advice(here: Piece) -> &'static str {
     }
 }
 
-// A site without arguments.
+// How a site without arguments is written.
 fn say_bare_site(page: &mut Page, site: Option<Piece>) {
     if let Some(site) = site {
         page.note("help: ");
@@ -413,7 +433,7 @@ fn say_bare_site(page: &mut Page, site: Option<Piece>) {
     }
 }
 
-// A hint that says more where a name stands: its two halves, and the name between them where the second one isn't empty.
+// A hint that goes on where a name stands in the place of a value: with `first`, the name and `second`; with `first` alone where `second` is empty.
 fn say_named(page: &mut Page, words: &str, here: Piece, first: &str, second: &str) {
     page.note("help: ");
     page.say(words);

@@ -1,4 +1,4 @@
-//! Characters that begin nothing (S2).
+//! Characters that begin no token (S2).
 
 use crate::hint::{Hint, say_hint};
 use orc_lex::token::Span;
@@ -17,11 +17,11 @@ const BRACKETS: &str = "brackets are `(` and `)`; a comment is `{- .. -}`";
 /// The bytes of a byte order mark, which some editors put first into a file.
 pub(crate) const ORDER_MARK: &[u8] = b"\xEF\xBB\xBF";
 
-/// What to do about them.
+/// What to do about a byte order mark.
 pub(crate) const NO_ORDER_MARK: &str =
     "this is a byte order mark: save the file as UTF-8 without one";
 
-// What is said of signs, the first that fits.
+// What is said of a text that begins so. The first one that fits is taken, so two signs stand before the one that they begin with.
 const HINTS: [(&[u8], &str); 22] = [
     (ORDER_MARK, NO_ORDER_MARK),
     (b"//", COMMENT),
@@ -59,15 +59,16 @@ const HINTS: [(&[u8], &str); 22] = [
     (b"_", "a name begins with a letter"),
 ];
 
-// Two signs that are read as one elsewhere.
+// Two signs that are one in other languages, so that the carets go under both.
 const SIGN_PAIRS: [&[u8]; 5] = [b"//", b"/*", b"&&", b"->", b":="];
 
+// Whether such a pair begins at this byte.
 fn is_pair(text: &[u8], at: usize) -> bool {
     let rest = text.get(at..).unwrap_or(b"");
     SIGN_PAIRS.iter().any(|pair| rest.starts_with(*pair))
 }
 
-// Where the character that begins there ends.
+// The end of the character that begins at this byte: the next byte that begins one.
 fn character_end(text: &[u8], at: usize) -> usize {
     let rest = text.get(at..).unwrap_or(b"");
     let more = rest.get(1..).unwrap_or(b"");
@@ -78,7 +79,7 @@ fn character_end(text: &[u8], at: usize) -> usize {
     at.saturating_add(1).saturating_add(length).min(text.len())
 }
 
-// The number of the character that these bytes are.
+// The number of the character that these bytes begin with. None where they aren't UTF-8.
 fn code(bytes: &[u8]) -> Option<u32> {
     match str::from_utf8(bytes) {
         Ok(text) => text.chars().next().map(|sign| sign as u32),
@@ -86,7 +87,7 @@ fn code(bytes: &[u8]) -> Option<u32> {
     }
 }
 
-// What is said of a character that begins nothing.
+// The hint on the text at this byte. None where nothing helpful is known.
 fn hint(text: &[u8], at: usize) -> Option<&'static str> {
     let rest = text.get(at..).unwrap_or(b"");
     for (signs, said) in HINTS.iter() {
@@ -110,6 +111,7 @@ fn say_character(page: &mut Page, bytes: &[u8]) {
     }
 }
 
+// A character that isn't printable ASCII.
 fn say_unshown(page: &mut Page, bytes: &[u8]) {
     match code(bytes) {
         Some(code) if code < 128 => page.say_number("the control character ", code as u64, ""),
@@ -121,7 +123,7 @@ fn say_unshown(page: &mut Page, bytes: &[u8]) {
     }
 }
 
-/// A character that begins nothing.
+/// Explains a character, at this byte, that begins no token.
 pub(crate) fn say_stray(page: &mut Page, document: &Document, at: usize) {
     let end = if is_pair(document.text, at) {
         at.saturating_add(2)

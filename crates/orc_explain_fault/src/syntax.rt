@@ -1,4 +1,4 @@
-//! Faults of a source's text (S).
+//! Faults of a source's text (S1 to S8).
 
 use crate::hint::say_hint;
 use crate::signs::say_stray;
@@ -10,7 +10,7 @@ use orc_rules::limits::LONGEST_SOURCE;
 use orc_syntax::SyntaxFault;
 use std::alloc::Global;
 
-// What had to stand there; the second sign of an operator is told by its first one.
+// What the parser expected. Of an operator's second sign the first one, two tokens before, says which it is.
 fn wanted(what: What, tokens: &Tokens) -> &'static str {
     match what {
         What::Expression => "an expression",
@@ -32,7 +32,7 @@ fn wanted(what: What, tokens: &Tokens) -> &'static str {
     }
 }
 
-/// What is wrong with a source's text.
+/// Explains a fault of a source's text, which is that of the document.
 pub(crate) fn say_syntax(page: &mut Page, alloc: Global, document: &Document, fault: SyntaxFault) {
     match fault {
         SyntaxFault::Encoding(at) => say_encoding(page, document, at),
@@ -46,6 +46,7 @@ pub(crate) fn say_syntax(page: &mut Page, alloc: Global, document: &Document, fa
     }
 }
 
+// S1: bytes that aren't UTF-8, from this one on.
 fn say_encoding(page: &mut Page, document: &Document, at: usize) {
     let end = at.saturating_add(1);
     page.point(document, Span { start: at, end });
@@ -53,12 +54,14 @@ fn say_encoding(page: &mut Page, document: &Document, at: usize) {
     page.help("save the file as UTF-8; outside comments only ASCII is allowed");
 }
 
+// S3: a number that is out of range.
 fn say_out_of_range(page: &mut Page, document: &Document, span: Span) {
     page.point(document, span);
     page.say("this number is out of range\n");
     page.expected("-9223372036854775808 to 9223372036854775807");
 }
 
+// S7: a `{-` that isn't closed.
 fn say_comment(page: &mut Page, document: &Document, at: usize) {
     let end = at.saturating_add(2);
     page.point(document, Span { start: at, end });
@@ -66,7 +69,7 @@ fn say_comment(page: &mut Page, document: &Document, at: usize) {
     page.expected("one `-}` for each `{-`, the ones inside it too");
 }
 
-// The token that can't go on, or the end of the text.
+// S4: the token with which the program can't go on, or the end of the text, with what was expected and a hint.
 fn say_unexpected(page: &mut Page, alloc: Global, document: &Document, at: usize, what: What) {
     let Ok(tokens) = Tokens::new(alloc, document.text, at) else {
         page.refuse();
@@ -86,14 +89,14 @@ fn say_unexpected(page: &mut Page, alloc: Global, document: &Document, at: usize
     }
 }
 
-// The end of the text, behind its last token.
+// The end of the text. The caret stands behind its last token, not behind blanks and comments.
 fn say_end(page: &mut Page, document: &Document, last: Option<Token>, at: usize) {
     let start = last.map_or(at, |token| token.span.end);
     page.point(document, Span { start, end: start });
     page.say("the text ends here\n");
 }
 
-// A bracket, a `val` or an operator too many.
+// S5: a bracket, a `val` or an operator too many.
 fn say_deep(page: &mut Page, document: &Document, at: usize) {
     let span = span_at(document.text, at);
     page.point(document, span);
@@ -109,7 +112,7 @@ fn say_deep(page: &mut Page, document: &Document, at: usize) {
     }
 }
 
-/// A text that is too long.
+/// A text that is too long, and how many bytes it may have at most.
 pub(crate) fn say_long(page: &mut Page, document: &Document, most: u64) {
     page.say(" --> ");
     page.path(document.name);
@@ -119,7 +122,7 @@ pub(crate) fn say_long(page: &mut Page, document: &Document, most: u64) {
     page.say_number(" bytes, and these are ", document.text.len() as u64, "\n");
 }
 
-/// That memory was refused while something was done.
+/// That memory was refused while this was done: `the source was read as a program`.
 pub(crate) fn say_refused(page: &mut Page, what: &str) {
     page.note("memory was refused while ");
     page.say(what);

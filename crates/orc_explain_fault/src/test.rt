@@ -1,4 +1,4 @@
-//! Faults of a test (T).
+//! Faults of a test's text (T1 to T6).
 
 use crate::syntax::{say_long, say_refused};
 use crate::test_line::say_line;
@@ -11,7 +11,7 @@ use orc_rules::limits::LONGEST_SOURCE;
 use orc_ways::fault::TestFault;
 use std::alloc::{AllocError, Global};
 
-// What is wrong with a test.
+// Each fault's explanation is in the file of its kind.
 fn say_test(
     page: &mut Page,
     alloc: Global,
@@ -29,7 +29,8 @@ fn say_test(
     }
 }
 
-/// The text that explains a fault of a test, below its own line. `others` are the sites with which it was read. The error is refused memory.
+/// The text that explains a fault of a test, below its own line. `others` is the table of the built-in sites and the script beside which the test was
+/// read. The error is refused memory.
 pub fn explain_test(
     alloc: Global,
     test: &Document,

@@ -1,4 +1,4 @@
-//! Lines that are none of a test (T1).
+//! Lines of a test that have none of its forms (T1). `grammar.rt` finds where such a line goes wrong.
 
 use crate::grammar::{Place, Walk};
 use crate::script::{Kind, Line, Piece, is_in_range, number_advice};
@@ -14,7 +14,7 @@ const RANGE: &str = "a range is `0..5`: two numbers with two dots between them";
 
 const VARIABLE: &str = "a variable begins with a small letter";
 
-/// What is said of words and signs that no line has there.
+/// What is said of a word or a sign of another language, where it can't stand.
 const WORDS: [(&[u8], &str); 13] = [
     (b"#", COMMENT),
     (b"/", COMMENT),
@@ -49,7 +49,7 @@ const WORDS: [(&[u8], &str); 13] = [
     (b"returned", "`answered` says that a call has its answer"),
 ];
 
-/// What is wrong with a line that is none of a test.
+/// Explains what is wrong with the line with this number, from 1.
 pub(crate) fn say_line(page: &mut Page, alloc: Global, document: &Document, number: usize) {
     let span = document.line(number);
     let Ok(mut line) = Line::new(alloc, document.text, span) else {
@@ -62,7 +62,7 @@ pub(crate) fn say_line(page: &mut Page, alloc: Global, document: &Document, numb
     }
 }
 
-// A piece that can't stand where it stands.
+// A piece that can't stand where it does, at which the walk over the line has stopped.
 fn say_stop(page: &mut Page, alloc: Global, document: &Document, line: &Line, walk: Walk) {
     let here = line.here();
     page.point(document, here.span);
@@ -99,7 +99,7 @@ fn say_wanted(page: &mut Page, alloc: Global, line: &Line, walk: Walk) {
     }
 }
 
-// What to write instead.
+// What to write instead, if that is known: by a number before it, by the place, or else by the word.
 fn advice(line: &Line, walk: Walk) -> Option<&'static str> {
     let here = line.here();
     if line.lengthens_number() && !here.text.starts_with(b".") {
@@ -114,7 +114,7 @@ fn advice(line: &Line, walk: Walk) -> Option<&'static str> {
     said_of(here.text, WORDS.as_slice())
 }
 
-// What a piece says by the place where it can't stand.
+// What to write instead of a piece at a place where it can't stand.
 fn place_advice(here: Piece, place: Place) -> Option<&'static str> {
     match place {
         Place::Bracket => Some(
@@ -143,7 +143,7 @@ fn place_advice(here: Piece, place: Place) -> Option<&'static str> {
     }
 }
 
-// Whether a piece looks as one of a range.
+// Whether a piece looks like a part of a range in another form: `...`, `-5`.
 fn is_of_range(here: Piece) -> bool {
     match here.text {
         [b'.', ..] | [b'-', ..] => true,
@@ -151,7 +151,7 @@ fn is_of_range(here: Piece) -> bool {
     }
 }
 
-// The first range that goes backwards.
+// The first range whose second number is less than its first.
 fn backwards(pieces: &[Piece]) -> Option<Span> {
     for at in 0..pieces.len() {
         if let [low, dots, high, ..] = pieces.get(at..).unwrap_or(pieces) {
@@ -166,7 +166,7 @@ fn backwards(pieces: &[Piece]) -> Option<Span> {
     None
 }
 
-// Whether a number is less than another, by their digits.
+// Whether a number is less than another. False where one is out of range.
 fn is_less(one: &[u8], other: &[u8]) -> bool {
     match (digits_at(one), digits_at(other)) {
         (Some((one, _)), Some((other, _))) => one < other,
@@ -184,7 +184,7 @@ fn first_of<'a>(line: &Line<'a>, word: &[u8]) -> Option<Piece<'a>> {
     None
 }
 
-/// A word behind which another one may not stand in a line, and why.
+/// Two words that may not stand in one line, each of which may by itself; the carets go under the second, and the third text says why.
 const APART: [(&[u8], &[u8], &str); 6] = [
     (
         b"once",
@@ -214,6 +214,7 @@ const APART: [(&[u8], &[u8], &str); 6] = [
     ),
 ];
 
+// A line each of whose pieces can stand where it does: a range goes backwards, two words don't go together, or there is too much of something.
 fn say_whole(page: &mut Page, document: &Document, line: &Line) {
     if let Some(span) = backwards(line.pieces.as_slice()) {
         page.point(document, span);

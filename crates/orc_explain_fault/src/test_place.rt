@@ -1,4 +1,4 @@
-//! Lines of a test that are none where they stand (T4).
+//! Lines of a test that can't stand where they do (T4): in the wrong section, a second section of a name, or one line too many.
 
 use crate::outline::{Head, Outline, Outlined};
 use crate::script::{Line, Piece};
@@ -13,7 +13,7 @@ const CLAIMS: &str = "claims stand below `always` or a case";
 
 const FEWER: &str = "a test has at most 1,024 services and 1,024 claims: make two tests of it";
 
-/// Why a line is none where it stands.
+/// Why the line with this number, from 1, can't stand where it does.
 pub(crate) fn say_place(page: &mut Page, alloc: Global, document: &Document, number: usize) {
     let Ok(outline) = Outline::new(alloc, document.text) else {
         page.refuse();
@@ -37,7 +37,7 @@ pub(crate) fn say_place(page: &mut Page, alloc: Global, document: &Document, num
     }
 }
 
-/// Where a line's pieces stand.
+/// The bytes of a line's pieces, from the first to the last.
 pub(crate) fn span_of(pieces: &[Piece]) -> Span {
     match pieces {
         [only] => only.span,
@@ -49,7 +49,8 @@ pub(crate) fn span_of(pieces: &[Piece]) -> Span {
     }
 }
 
-// Why a service or a claim can't stand in a section, and what to do.
+// Why a service or a claim can't stand in a section, None before the first one, and what to do. In a section in which it can stand, there are too
+// many.
 fn misplaced(head: Head, section: Option<Head>) -> (&'static str, &'static str) {
     match (head, section) {
         (Head::Claim, None) => ("a claim can't stand before the first section", CLAIMS),
@@ -61,6 +62,7 @@ fn misplaced(head: Head, section: Option<Head>) -> (&'static str, &'static str) 
     }
 }
 
+// A service or a claim that can't stand in its section.
 fn say_misplaced(page: &mut Page, head: Head, section: Option<Outlined>) {
     let (words, help) = misplaced(head, section.map(|section| section.head));
     page.say(words);

@@ -1,4 +1,4 @@
-//! Sites that no service of a test has (T5).
+//! Sites in a claim for which no service of the test answers, nor the script beside it (T5).
 
 use crate::outline::{Head, Outline, arguments};
 use crate::scope::near_site;
@@ -7,7 +7,7 @@ use orc_report::{Document, Near, Page};
 use orc_rules::answers::Answers;
 use std::alloc::Global;
 
-// Whether a service or another site has this name, and a service so many arguments.
+// Whether a service has this name and so many arguments, or a site of the script or a built-in one has this name: those take any number.
 fn is_known(outline: &Outline, others: &Answers, name: &[u8], count: usize) -> bool {
     for line in outline.lines.iter() {
         if let Head::Service(other, arguments) = line.head {
@@ -19,7 +19,7 @@ fn is_known(outline: &Outline, others: &Answers, name: &[u8], count: usize) -> b
     others.site_named(name).is_some()
 }
 
-/// The first site of a line that no service has.
+/// The first site that isn't known in the line with this number, from 1.
 pub(crate) fn say_unknown(
     page: &mut Page,
     alloc: Global,
@@ -47,7 +47,7 @@ pub(crate) fn say_unknown(
     }
 }
 
-// The site that may have been meant, nothing where none is near. The page heeds refused memory.
+// The site that may have been meant, of those of the script, the built-in ones and the services; empty where none is near.
 fn near_service<'a>(
     page: &mut Page,
     alloc: Global,
@@ -70,7 +70,7 @@ fn near_service<'a>(
     meant
 }
 
-// With how many arguments the first service of a name stands in the test, and in which line.
+// With how many arguments the first service of a name stands in the test, and in which line: whether there is one.
 fn say_other_arguments(page: &mut Page, outline: &Outline, name: &[u8]) -> bool {
     for line in outline.lines.iter() {
         if let Head::Service(other, count) = line.head {
@@ -86,7 +86,7 @@ fn say_other_arguments(page: &mut Page, outline: &Outline, name: &[u8]) -> bool 
     false
 }
 
-// A site that no service has.
+// The rest of the line on a site that no service has, and what may have been meant.
 fn say_no_service(
     page: &mut Page,
     alloc: Global,

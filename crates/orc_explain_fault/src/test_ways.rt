@@ -1,4 +1,4 @@
-//! Cases with too many ways (T6).
+//! Cases with too many ways (T6). A way is one choice among all that the case's services may do.
 
 use crate::script::Line;
 use crate::test_place::span_of;
@@ -8,7 +8,7 @@ use orc_ways::read_test;
 use orc_ways::test::{Reply, Service, Test};
 use std::alloc::Global;
 
-// How many answers with their times a reply stands for.
+// How many answers, each with its time, a reply stands for: a range of delays is one for each of its numbers.
 fn times(reply: Reply) -> u64 {
     match reply {
         Reply::Between(_, low, high) => high.saturating_sub(low).saturating_add(1),
@@ -16,7 +16,8 @@ fn times(reply: Reply) -> u64 {
     }
 }
 
-// How many ways a service has by itself; as many as fit, where they don't.
+// How many ways a service has by itself: those of its alternatives together, once for each call that takes an alternative of its own. If that is over
+// 64 bits, the greatest number of them.
 fn ways_of(service: &Service) -> u64 {
     let mut all: u64 = 0;
     for replies in service.alternatives.iter() {
@@ -33,7 +34,8 @@ fn ways_of(service: &Service) -> u64 {
     ways
 }
 
-// The service of a case that has most ways, and how many. Those that stand behind `given` count, too.
+// The service of a case that has most ways, and how many. Services below `given` count too, also those that a line of the case replaces. None where
+// no service has more than one.
 fn widest<'a>(test: &Test<'a>, case: Option<usize>) -> Option<(&'a [u8], u64)> {
     let mut found = None;
     let mut most: u64 = 1;
@@ -47,7 +49,7 @@ fn widest<'a>(test: &Test<'a>, case: Option<usize>) -> Option<(&'a [u8], u64)> {
     found
 }
 
-/// Why a case has too many ways.
+/// The case that begins in the line with this number, from 1, and which of its services has most ways.
 pub(crate) fn say_ways(
     page: &mut Page,
     alloc: Global,
@@ -61,6 +63,7 @@ pub(crate) fn say_ways(
     };
     page.point(document, span_of(line.pieces.as_slice()));
     page.say("this case has over 1,000,000 ways\n");
+    // The test was read before this fault was found: only memory can be refused here.
     let Ok(test) = read_test(alloc, document.text, others) else {
         page.refuse();
         return;

@@ -1,4 +1,4 @@
-//! The tokens before a place of a source.
+//! The tokens of a source before the place of a fault.
 
 use orc_lex::lexer::{Piece, piece_at};
 use orc_lex::token::{Kind, Plain, Span, Token};
@@ -10,7 +10,7 @@ use std::alloc::{AllocError, Global};
 pub(crate) struct Tokens<'a> {
     /// Those before the place.
     pub before: Vec<Token<'a>>,
-    /// The token at the place; none at the end of the text.
+    /// The token at the place. None at the end of the text, or where none begins there.
     pub here: Option<Token<'a>>,
 }
 
@@ -29,6 +29,7 @@ impl<'a> Tokens<'a> {
         Ok(tokens)
     }
 
+    // A comment and blanks are no tokens. What can't be read ends the tokens.
     fn read(&mut self, text: &'a [u8], place: usize) -> Result<(), AllocError> {
         let mut at: usize = 0;
         // Each piece has a byte at least.
@@ -52,14 +53,14 @@ impl<'a> Tokens<'a> {
         Ok(())
     }
 
-    /// The n-th token before the place, counted back from 1.
+    /// The n-th token before the place: the last one is the first. None where there are fewer.
     pub(crate) fn back(&self, n: usize) -> Option<Token<'a>> {
         let at = self.before.len().checked_sub(n)?;
         self.before.get(at).copied()
     }
 }
 
-/// A token by its kind and its text.
+/// Writes what kind a token is of, and its text.
 pub(crate) fn say_token(page: &mut Page, document: &Document, token: &Token) {
     let before = match token.kind {
         Kind::Name(_) => "the name `",
@@ -70,7 +71,7 @@ pub(crate) fn say_token(page: &mut Page, document: &Document, token: &Token) {
     page.say_word(before, document.part(token.span), "`");
 }
 
-/// The token that begins at a place, as wide as a byte where none does.
+/// The bytes of the token that begins at a place; the one byte there where none does.
 pub fn span_at(text: &[u8], at: usize) -> Span {
     if at < text.len() {
         if let Piece::Token(token) = piece_at(text, at) {

@@ -1,10 +1,14 @@
-//! What may have been meant where a token can't go on (S4).
+//! What may have been meant where a token can't stand (S4).
+//!
+//! The place is that of the fault: `here` is the token at it, `back(1)` the one before it. An empty text stands for no token. `What` is what the
+//! parser expected there.
 
 use crate::hint::Hint;
 use crate::tokens::Tokens;
 use crate::words::{RESERVED, is_one_of, said_of};
 use orc_lex::token::{Joint, Kind, Plain, Token, What};
 
+/// What to write for a choice.
 pub(crate) const NO_IF: &str =
     "there is no `if`: `(Ift(b) >> f) | (Iff(b) >> g)` runs f where b is true and g where it is false";
 
@@ -16,13 +20,13 @@ const NO_TUPLES: &str = "there are no tuples: a `,` stands only between argument
 
 const OPEN: &str = "the bracket that is still open stands in @";
 
-/// Words that are whole expressions.
+/// Reserved words that are whole expressions.
 const WORDS: [&[u8]; 4] = [b"stop", b"true", b"false", b"signal"];
 
 /// Signs behind which something has to follow.
 const SIGNS: [&[u8]; 9] = [b"|", b";", b">", b"<", b">>", b"<<", b"=", b"(", b","];
 
-/// What stands behind the value of a `val` where it was taken for a statement; nothing at the end of the text.
+/// What stands behind the value of a `val` where its writer took it for a statement; an empty text for the end of the source.
 const RESTARTS: [&[u8]; 3] = [b"", b";", b"val"];
 
 /// Words of other languages that stand before the name of a value.
@@ -34,7 +38,7 @@ const DEFINING: [&[u8]; 4] = [b"fn", b"fun", b"func", b"function"];
 /// Words of other languages that stand behind a condition.
 const CHOOSING: [&[u8]; 2] = [b"then", b"else"];
 
-/// What a word says that stands in place of an expression.
+/// What is said of a reserved word that stands where an expression has to.
 const MISPLACED: [(&[u8], &str); 2] = [
     (b"val", WHOLE),
     (
@@ -43,7 +47,7 @@ const MISPLACED: [(&[u8], &str); 2] = [
     ),
 ];
 
-/// What two tokens say, the second in place of an expression; nothing at either end of the text.
+/// What is said of two tokens, the second where an expression has to stand; an empty text for the beginning or the end of the source.
 const PAIRS: [(&[u8], &[u8], &str); 4] = [
     (
         b"",
@@ -67,16 +71,17 @@ const PAIRS: [(&[u8], &[u8], &str); 4] = [
     ),
 ];
 
-/// The signs of an operator with a name between, where they point two ways.
+/// Pairs of signs round a name that point different ways.
 const CROSSED: [(&[u8], &[u8]); 4] = [(b">", b"<"), (b">", b"<<"), (b"<", b">"), (b"<", b">>")];
 
+// Whether these are such a pair.
 fn are_crossed(first: &[u8], second: &[u8]) -> bool {
     CROSSED
         .iter()
         .any(|(one, other)| *one == first && *other == second)
 }
 
-// What a table says of two tokens.
+// What a table says of two tokens; None where it doesn't have them.
 fn said_of_both(
     first: &[u8],
     second: &[u8],
@@ -90,7 +95,7 @@ fn said_of_both(
     None
 }
 
-// What two tokens say, or the second alone, where it stands in place of an expression.
+// What is said of two tokens, or of the second alone, which stands where an expression has to.
 fn said_of_pair(last: &[u8], here: &[u8]) -> Option<&'static str> {
     match said_of_both(last, here, PAIRS.as_slice()) {
         Some(said) => Some(said),
@@ -98,6 +103,7 @@ fn said_of_pair(last: &[u8], here: &[u8]) -> Option<&'static str> {
     }
 }
 
+// A token's name, if it is one.
 fn name_of<'a>(token: Option<Token<'a>>) -> Option<&'a [u8]> {
     match token {
         Some(
@@ -110,6 +116,7 @@ fn name_of<'a>(token: Option<Token<'a>>) -> Option<&'a [u8]> {
     }
 }
 
+// Whether there is a token, and it is a number.
 fn is_number(token: Option<Token>) -> bool {
     match token {
         Some(
@@ -126,7 +133,8 @@ fn is_reserved(word: &[u8]) -> bool {
     is_one_of(word, RESERVED.as_slice())
 }
 
-// How many brackets are closed behind a token, where so many are closed behind the next one. None where it opens those round it.
+// Going back over tokens: how many closing brackets have been seen whose opening ones haven't, after this token, where there were `closed` before it.
+// None where it opens a bracket that is still open at the place.
 fn closed_before(closed: usize, kind: Kind) -> Option<usize> {
     match kind {
         Kind::Close => Some(closed.saturating_add(1)),
@@ -135,7 +143,7 @@ fn closed_before(closed: usize, kind: Kind) -> Option<usize> {
     }
 }
 
-/// A source's text and its tokens round the place.
+/// A source's text, and its tokens up to the place of the fault.
 #[derive(Clone, Copy)]
 struct Around<'s, 'a> {
     text: &'a [u8],
@@ -177,7 +185,7 @@ impl<'a> Around<'_, 'a> {
         None
     }
 
-    // Whether a `;` stands behind the last `val` in the same brackets.
+    // Whether a `;`, at the place or before it, stands behind the last `val` within the same brackets.
     fn is_val_ended(&self) -> bool {
         let mut is_ended = self.here() == b";".as_slice();
         let mut closed: usize = 0;
@@ -211,10 +219,12 @@ impl<'a> Around<'_, 'a> {
         between.unwrap_or(b"").iter().any(|byte| *byte == b'\n')
     }
 
-    // The last name behind which blanks and a bracket stand: over a line's end, where there is one. The name of a definition is none.
+    // The last name that blanks and a `(` follow, which makes it a call where two expressions may have been meant; one that a line's end and a `(`
+    // follow goes before. The name behind `def` is none.
     fn loose_call(&self) -> Option<Token<'a>> {
         let mut found: Option<Token<'a>> = None;
         let mut over_lines: Option<Token<'a>> = None;
+        // Whether `before` follows a `def`.
         let mut is_defined = false;
         let mut before: Option<Token<'a>> = None;
         for token in self.tokens.before.iter() {
@@ -234,7 +244,7 @@ impl<'a> Around<'_, 'a> {
         over_lines.or(found)
     }
 
-    // A word of another language, before the place or at it.
+    // A hint on a word of another language, before the place or at it.
     fn foreign_word(&self) -> Option<Hint<'a>> {
         let last = self.back(1);
         if last == b"if".as_slice() || is_one_of(self.here(), CHOOSING.as_slice()) {
@@ -253,7 +263,7 @@ impl<'a> Around<'_, 'a> {
         None
     }
 
-    // A word that is no call, and its brackets.
+    // A hint on brackets behind a reserved word that takes none: `stop()`.
     fn bracketed_word(&self) -> Option<Hint<'a>> {
         let last = self.back(1);
         if self.here() == b"(".as_slice() && is_one_of(last, WORDS.as_slice()) {
@@ -262,7 +272,7 @@ impl<'a> Around<'_, 'a> {
         None
     }
 
-    // The bracket that is still open where a line begins with `def`.
+    // A hint on the bracket that is still open where a line begins with `def`; unless that bracket is the token right before it.
     fn unclosed(&self) -> Option<Hint<'a>> {
         let here = self.tokens.here?;
         let last = self.tokens.back(1)?;
@@ -276,13 +286,13 @@ impl<'a> Around<'_, 'a> {
         Some(Hint::of_place(OPEN, b"", open.span.start))
     }
 
-    // Whether the token at the place is a `=` that compares.
+    // Whether the token at the place is a `=` that is to compare: the second of a `==`, or one behind an expression.
     fn is_equality(&self, what: What) -> bool {
         let equals = b"=".as_slice();
         self.here() == equals && (self.back(1) == equals || is_behind_expression(what))
     }
 
-    // A word or a sign of another language.
+    // A hint on a word or a sign of another language.
     fn foreign(&self, what: What) -> Option<Hint<'a>> {
         if let Some(hint) = self.foreign_word() {
             return Some(hint);
@@ -298,6 +308,7 @@ impl<'a> Around<'_, 'a> {
         None
     }
 
+    // A hint where an expression was expected.
     fn expression(&self) -> Option<Hint<'a>> {
         let last = self.back(1);
         let here = self.here();
@@ -321,7 +332,7 @@ impl<'a> Around<'_, 'a> {
         None
     }
 
-    // An operator with a name that stands before the place.
+    // A hint on an operator with a name, `>x>`, that stands before the place with nothing behind it.
     fn named_operator(&self) -> Option<Hint<'a>> {
         let sign = self.back(1);
         let name = name_of(self.tokens.back(2))?;
@@ -335,7 +346,7 @@ impl<'a> Around<'_, 'a> {
         }
     }
 
-    // Where definitions or `val`s stand, and no expression behind them.
+    // A hint where the text ends behind definitions or `val`s. A call may have taken up the brackets of the main expression.
     fn main_expression(&self) -> Hint<'a> {
         let Some(token) = self.loose_call() else {
             return Hint::plain(
@@ -350,7 +361,7 @@ impl<'a> Around<'_, 'a> {
         )
     }
 
-    // Whether what stands at the place begins a value, or is one sign of a comparison.
+    // Whether what stands at the place, behind a `<` or a `>`, shows that two values were to be compared.
     fn is_compared(&self) -> bool {
         match self.here() {
             b"(" | b"=" => true,
@@ -358,6 +369,7 @@ impl<'a> Around<'_, 'a> {
         }
     }
 
+    // A hint where a name was expected.
     fn name(&self) -> Hint<'a> {
         let here = self.here();
         if is_reserved(here) && !self.is_behind_arrow() {
@@ -366,6 +378,7 @@ impl<'a> Around<'_, 'a> {
         Hint::plain(self.name_words())
     }
 
+    // Whether a `<` or a `>` stands before the place.
     fn is_behind_arrow(&self) -> bool {
         match self.back(1) {
             b"<" | b">" => true,
@@ -373,6 +386,7 @@ impl<'a> Around<'_, 'a> {
         }
     }
 
+    // The words of that hint, by the token before the place.
     fn name_words(&self) -> &'static str {
         match self.back(1) {
             b"<" | b">" => {
@@ -390,6 +404,7 @@ impl<'a> Around<'_, 'a> {
         }
     }
 
+    // A hint where the second sign of `>x>` or `<x<` was expected.
     fn arrow(&self) -> Hint<'a> {
         if are_crossed(self.back(2), self.here()) {
             return Hint::plain(
@@ -401,6 +416,7 @@ impl<'a> Around<'_, 'a> {
         )
     }
 
+    // A hint where the `=` of a `def` or a `val` was expected.
     fn assign(&self) -> Hint<'a> {
         if self.here() == b"(".as_slice() {
             return Hint::plain("parameters belong to `def`: `def f(a) = ..`");
@@ -411,6 +427,7 @@ impl<'a> Around<'_, 'a> {
         Hint::plain(VAL)
     }
 
+    // A hint where the `(` behind a definition's name was expected.
     fn paren(&self) -> Hint<'a> {
         Hint::of_name(
             "parameters stand in brackets, and the brackets stay where there are none: `def %() = ..`",
@@ -426,7 +443,8 @@ impl<'a> Around<'_, 'a> {
         }
     }
 
-    // A bracket that isn't closed here. What it is where the bracket stands in this line.
+    // A hint where a closing bracket was expected. Where the bracket was opened in an earlier line, or a `def` follows, it says where; `otherwise` is
+    // for one opened in this line.
     fn close(&self, otherwise: &'static str) -> Hint<'a> {
         if let Some(open) = self.open_bracket() {
             if self.is_line_since(open) || self.here() == b"def".as_slice() {
@@ -439,7 +457,7 @@ impl<'a> Around<'_, 'a> {
         })
     }
 
-    // Whether a number with a `-` touches what stands before it.
+    // Whether a number with a `-` touches the token before it, as in `3-2`.
     fn is_minus(&self) -> bool {
         match (self.tokens.back(1), self.tokens.here, self.here()) {
             (Some(last), Some(token), [b'-', ..]) => last.span.end == token.span.start,
@@ -447,6 +465,7 @@ impl<'a> Around<'_, 'a> {
         }
     }
 
+    // A hint where an operator or the end of the text was expected.
     fn end(&self) -> Hint<'a> {
         match self.here() {
             b")" => Hint::plain("this `)` closes nothing"),
@@ -463,7 +482,7 @@ impl<'a> Around<'_, 'a> {
     }
 }
 
-// Whether an expression stands before the place.
+// Whether an expression stands before the place, by what was expected behind it.
 fn is_behind_expression(what: What) -> bool {
     match what {
         What::End | What::Close | What::CommaOrClose => true,
@@ -471,7 +490,7 @@ fn is_behind_expression(what: What) -> bool {
     }
 }
 
-/// The first hint that fits where this was wanted.
+/// The first hint that fits at the place behind these tokens, where `what` was expected. None where nothing helpful is known.
 pub(crate) fn hint_of<'a>(text: &'a [u8], tokens: &Tokens<'a>, what: What) -> Option<Hint<'a>> {
     let around = Around { text, tokens };
     if let Some(hint) = around.foreign(what) {
