@@ -9,7 +9,7 @@ use orc_rules::program::Program;
 #[derive(Clone, Copy)]
 pub struct Ended<'a> {
     pub program: &'a Program,
-    /// What answered its calls.
+    /// The table that answered its calls.
     pub answers: &'a Answers,
     pub summary: Summary,
     pub journal: &'a Journal,

@@ -1,4 +1,8 @@
 //! How a run ended: who waits for what, what could go on, or what looks like a mistake though it has halted.
+//!
+//! Of a quiet run (`quiet`) it says which calls never return and which parts wait for them; of a run that was cut (`cut`) what could come next; and
+//! of one for which the engine had no more room (`room`) how far each of the engine's limits is used up. `remarks.rt` has what it says of a halted
+//! one.
 
 use crate::ended::Ended;
 use crate::moves::{Moves, Wait};
@@ -16,13 +20,13 @@ use orc_syntax::{Ast, parse};
 use orc_verdict::mark_named;
 use std::alloc::{AllocError, Global};
 
-/// How many calls or cells are told, each in a line.
+/// How many calls or cells are shown at most that have a line each.
 const LINES: u64 = 8;
 
-/// How many things are told in one line.
+/// How many calls are shown in one line at most.
 const IN_A_LINE: u64 = 4;
 
-// The calls that are out: how many.
+// How many calls are pending.
 fn count_out(calls: &[Made]) -> u64 {
     let mut count: u64 = 0;
     for call in calls {
@@ -34,7 +38,7 @@ fn count_out(calls: &[Made]) -> u64 {
 }
 
 impl Scene<'_, '_> {
-    // Each call that is out, and why it never returns.
+    // Each pending call of a quiet run, and why it never returns.
     fn silent_calls(&self, page: &mut Page) {
         match Rules::new(self.alloc, self.subject.script_text()) {
             Ok(rules) => self.calls_out(page, &rules),
@@ -42,6 +46,7 @@ impl Scene<'_, '_> {
         }
     }
 
+    // A line for each of the first pending calls, and how many there are more.
     fn calls_out(&self, page: &mut Page, rules: &Rules) {
         let mut shown: u64 = 0;
         let mut number: u64 = 0;
@@ -55,6 +60,7 @@ impl Scene<'_, '_> {
         self.rest(page, count_out(&self.replay.calls), shown);
     }
 
+    // The line of one pending call, by its number from 1.
     fn silent_call(&self, page: &mut Page, number: u64, call: Made, rules: &Rules) {
         page.note("");
         page.say_number("call ", number, ", ");
@@ -66,7 +72,8 @@ impl Scene<'_, '_> {
         page.say("\n");
     }
 
-    // When and where a call was made, and why it never returns.
+    // When and where a call was made, and why it never returns. In a quiet run no pending call has a due time: the table says never, or the time
+    // would be too great.
     fn silence(&self, page: &mut Page, call: Made, called: Called, rules: &Rules) {
         page.say_number(", made at time ", called.at, " in ");
         self.place(page, call.spot);
@@ -76,7 +83,7 @@ impl Scene<'_, '_> {
         }
     }
 
-    // The line of the script that says never.
+    // The line of the script that says never. No built-in site does.
     fn never(&self, page: &mut Page, call: Made, rules: &Rules) {
         if let Some(Entry::Call(_, _, site, args)) = self.journal.get(call.entry) {
             let name = name_of(self.ended.answers, site);
@@ -102,6 +109,7 @@ impl Scene<'_, '_> {
         self.rest(page, all, shown);
     }
 
+    // The line of one cell: what it is for, how many tokens wait for it, where the first of them stands, and what could give it a value.
     fn wait(&self, page: &mut Page, moves: &Moves, wait: Wait) {
         page.note("");
         self.cell(page, wait.cell);
@@ -121,14 +129,15 @@ impl Scene<'_, '_> {
         page.say("\n");
     }
 
-    // What could give a value from inside these steps.
+    // What could give a value from inside these steps, which are those of the right side of a cell's pruning: its pending calls, or else a token in
+    // it that waits itself.
     fn giver(&self, page: &mut Page, moves: &Moves, inside: &[bool]) {
         if !self.calls_inside(page, inside) {
             self.waiting_inside(page, moves, inside);
         }
     }
 
-    // The calls that are out inside these steps: whether there are some.
+    // The pending calls inside these steps, and whether there are any.
     fn calls_inside(&self, page: &mut Page, inside: &[bool]) -> bool {
         let mut all: u64 = 0;
         let mut number: u64 = 0;
@@ -145,7 +154,7 @@ impl Scene<'_, '_> {
         all > 0
     }
 
-    // The first token that waits inside these steps.
+    // The first token that waits inside these steps, or `nothing`.
     fn waiting_inside(&self, page: &mut Page, moves: &Moves, inside: &[bool]) {
         for token in &moves.waiting {
             let step = self.replay.token(*token).step;
@@ -158,6 +167,7 @@ impl Scene<'_, '_> {
         page.say("nothing");
     }
 
+    // A quiet run: its pending calls, who waits for what, and what would end the wait.
     fn quiet(&self, page: &mut Page, moves: &Moves) {
         self.silent_calls(page);
         self.waits(page, moves);
@@ -181,7 +191,7 @@ impl Scene<'_, '_> {
         page.say("\n");
     }
 
-    // What the token of an entry stands on.
+    // What the token that an entry names stands on, in brackets; nothing where the entry names none, or that stands on an answer.
     fn on(&self, page: &mut Page, entry: &Entry) {
         let Some(token) = mark_named(entry) else {
             return;
@@ -195,7 +205,7 @@ impl Scene<'_, '_> {
         }
     }
 
-    // The calls that are out, with their due times.
+    // One line with the first pending calls and their due times; none where no call is pending.
     fn out(&self, page: &mut Page) {
         let all = count_out(&self.replay.calls);
         if all == 0 {
@@ -224,6 +234,8 @@ impl Scene<'_, '_> {
         }
     }
 
+    // A run that was cut: what could come next, which calls are pending, and how often definitions were called, as a recursion without an end may be
+    // why.
     fn cut(&self, page: &mut Page, moves: &Moves) {
         self.next(page, moves);
         self.out(page);
@@ -235,7 +247,7 @@ impl Scene<'_, '_> {
         }
     }
 
-    // What of the engine's room is taken.
+    // How far each of the engine's limits is used up, one of which has cut the run.
     fn room(&self, page: &mut Page, moves: &Moves) {
         match self.replay.frames(self.alloc) {
             Ok(frames) => self.taken(page, moves, frames),
@@ -243,6 +255,7 @@ impl Scene<'_, '_> {
         }
     }
 
+    // The lines of that, with the most left sides of `>x>` round one token.
     fn taken(&self, page: &mut Page, moves: &Moves, frames: u64) {
         page.note("the engine can hold no more; by the rules it could go on\n");
         page.note("");
@@ -254,12 +267,14 @@ impl Scene<'_, '_> {
         );
         page.number(MOST_TOKENS as u64);
         page.say_number(", open sides ", moves.sides, " of ");
+        // The engine has a group for the whole program besides.
         page.number((MOST_GROUPS as u64).saturating_sub(1));
         page.say_number(", left sides of `>x>` round one token ", frames, " of ");
         page.number(MOST_FRAMES as u64);
         page.say("\n");
     }
 
+    // The whole explanation. That of a halted run is empty where nothing looks like a mistake, so it writes its first line itself.
     fn end(&self, page: &mut Page, moves: &Moves) {
         if self.ended.summary.end == End::Halted {
             return self.halted(page);
@@ -277,12 +292,14 @@ impl Scene<'_, '_> {
                 self.cut(page, moves);
                 self.room(page, moves);
             }
+            // A halted run was explained above; of one without memory `explain_refusal` says all.
             End::Halted | End::Memory => {}
         }
     }
 }
 
-/// The text that explains that memory was refused in a run: a line of its end, and lines below it. The error is refused memory.
+/// The text that explains that memory was refused in a run: a first line on its end, and one on how far it came. It needs no journal. The error is
+/// refused memory for the text.
 pub fn explain_refusal(alloc: Global, summary: Summary) -> Result<String, AllocError> {
     let mut page = Page::new(alloc);
     begin(&mut page, summary);
@@ -291,7 +308,9 @@ pub fn explain_refusal(alloc: Global, summary: Summary) -> Result<String, AllocE
     page.finish()
 }
 
-/// The text that explains how a run of these files ended, by its journal: a line of its end, and lines below it. The error is refused memory.
+/// The text that explains how a run of these files ended, by its journal: a first line on its end, and lines below it; empty for a halted run in
+/// which nothing looks like a mistake. `subject` has the source and the script of the run. The error is refused memory, or a journal that the rules
+/// don't take, which no run writes.
 pub fn explain_end(alloc: Global, subject: &Subject, ended: &Ended) -> Result<String, AllocError> {
     // The source was read before: only memory can be refused here.
     let Ok(ast) = parse(alloc, subject.source.text) else {
@@ -301,6 +320,7 @@ pub fn explain_end(alloc: Global, subject: &Subject, ended: &Ended) -> Result<St
     end_of(alloc, subject, ended, &ast, &sketch)
 }
 
+// The text of `explain_end`, once the source is parsed and sketched.
 fn end_of(
     alloc: Global,
     subject: &Subject,

@@ -3,6 +3,9 @@
 //!
 //! `explain_end` takes a run that has ended, with its journal. The journal is replayed twice at once, by the checker's marked term, which knows
 //! what can come next, and on the program's sketch, which knows where it stands. It never recurs, and takes time in proportion to the journal.
+//!
+//! No promise of a run rests on this crate, so it is written to need few proofs: sums saturate, a look-up of what isn't there gives a default, and a
+//! loop that ends by a condition is a `for` with a bound that it never reaches.
 #![tactic(auto)]
 
 mod ended;

@@ -1,4 +1,4 @@
-//! What can come next in a run, and what waits.
+//! What can come next in a run, and what waits. A run that its limit cut can go on; in a quiet one no entry can come.
 
 use crate::replay::Replay;
 use orc_rules::entry::Entry;
@@ -7,17 +7,17 @@ use orc_rules::program::Program;
 use orc_verdict::{return_entry, token_entry};
 use std::alloc::{AllocError, Global};
 
-/// How many entries are kept.
+/// How many of the entries that can come next are kept, to be shown.
 const KEPT: usize = 4;
 
 /// A cell for which tokens wait.
 #[derive(Clone, Copy)]
 pub(crate) struct Wait {
     pub cell: u64,
-    /// How many tokens wait for it, and the one with the least number.
+    /// How many tokens wait for it, and the mark of the first of them, which is the least.
     pub tokens: u64,
     pub first: u64,
-    // The one that was counted last.
+    // The mark of the one that was counted last: a call may wait for one cell in several arguments, and counts once.
     last: u64,
 }
 
@@ -25,17 +25,19 @@ pub(crate) struct Wait {
 pub(crate) struct Moves {
     /// The first few entries that can: those of tokens by their numbers, `lost` and `right`, returns, or else a tick.
     pub entries: Vec<Entry>,
-    /// How many can come in all.
+    /// How many entries can come in all.
     pub count: u64,
-    /// The tokens, and those that wait, by their numbers.
+    /// How many tokens there are.
     pub tokens: u64,
+    /// The marks of those that wait for a cell, in ascending order.
     pub waiting: Vec<u64>,
-    /// The cells for which some wait, by their numbers.
+    /// One for each cell, cell 1 first, also for those for which no token waits.
     pub waits: Vec<Wait>,
-    /// How many right sides of prunings and left sides of otherwises are open.
+    /// How many right sides of prunings and left sides of otherwises are open: they haven't halted, nor has a value come out of them.
     pub sides: u64,
 }
 
+// Written out, so that a caller's proof sees one call and not the drop of each field.
 impl Drop for Moves {
     fn drop(self) {
         let Moves {
@@ -50,7 +52,8 @@ impl Drop for Moves {
 }
 
 impl Moves {
-    /// What can come next where a run stands. The error is refused memory.
+    /// What can come next where a run stands. The replay stays as it is, though it is borrowed exclusively to find the next due time. The error is
+    /// refused memory.
     pub(crate) fn new(
         alloc: Global,
         program: &Program,
@@ -76,6 +79,7 @@ impl Moves {
         moves.add_tokens(program, replay)?;
         moves.add_sides(replay)?;
         moves.add_returns(replay)?;
+        // Time goes on only where nothing else can happen.
         if moves.count == 0 {
             if let Some(time) = replay.marked.next_due() {
                 moves.add(Entry::Tick(time))?;
@@ -84,6 +88,7 @@ impl Moves {
         Ok(moves)
     }
 
+    // Counts an entry that can come next, and keeps it if it is one of the first few.
     fn add(&mut self, entry: Entry) -> Result<(), AllocError> {
         self.count = self.count.saturating_add(1);
         if self.entries.len() < KEPT {
@@ -92,6 +97,7 @@ impl Moves {
         Ok(())
     }
 
+    // Each mark of a token that the term still has: what the token can do, or for what it waits.
     fn add_tokens(&mut self, program: &Program, replay: &Replay) -> Result<(), AllocError> {
         for mark in 1..replay.marked.new_mark() {
             if replay.trail.token(mark).is_some() {
@@ -108,7 +114,7 @@ impl Moves {
         Ok(())
     }
 
-    // A token waits for cells.
+    // A token waits for the cells that have no value yet of its variable or its call's arguments.
     fn wait(&mut self, program: &Program, replay: &Replay, token: u64) -> Result<(), AllocError> {
         self.waiting.push(token)?;
         for position in 0..MOST_ARGUMENTS {
@@ -132,6 +138,7 @@ impl Moves {
         }
     }
 
+    // Each side that hasn't ended: right sides of prunings by their cells, and left sides of otherwises by their marks.
     fn add_sides(&mut self, replay: &Replay) -> Result<(), AllocError> {
         let mut cell: u64 = 0;
         for _cell in &replay.cells {
@@ -151,7 +158,7 @@ impl Moves {
         Ok(())
     }
 
-    // A side that has halted may end, so that it isn't open.
+    // A side that has halted can end with this entry; any other one is open.
     fn add_side(&mut self, has_halted: bool, entry: Entry) -> Result<(), AllocError> {
         if has_halted {
             self.add(entry)?;
@@ -161,6 +168,7 @@ impl Moves {
         Ok(())
     }
 
+    // Each pending call that is due now.
     fn add_returns(&mut self, replay: &Replay) -> Result<(), AllocError> {
         let mut call: u64 = 0;
         for made in &replay.calls {

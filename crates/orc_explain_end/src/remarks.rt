@@ -1,4 +1,7 @@
-//! What looks like a mistake in a run that has halted, and isn't one of the language.
+//! What looks like a mistake in a run that has halted, though the language allows it: calls that halted, lines of the script that answered no call,
+//! and definitions with the name of a built-in site.
+//!
+//! Each function here with a `page` writes what its comment names at the end of that page.
 
 use crate::replay::{Loss, Made};
 use crate::rules::{Rule, Rules};
@@ -11,25 +14,26 @@ use orc_rules::value::Value;
 use std::alloc::{AllocError, Global};
 use std::collections::HashMap;
 
-/// How many remarks of a kind are told.
+/// How many remarks of one kind are shown at most.
 const SHOWN: u64 = 4;
 
-/// Calls that were made at one spot, and for which the same is to be said.
+/// Calls that were made at one spot, a numbered place of the program's tree, and of which the same is to be said.
 #[derive(Clone, Copy)]
 struct Group {
     first: Made,
-    // The number of the first one.
+    // The number of the first one, from 1.
     number: u64,
     count: u64,
 }
 
-/// Such calls, those of each spot together, in the order of the first ones.
+/// Groups of calls, one for each spot, in the order of their first calls.
 struct Groups {
     list: Vec<Group>,
-    // The place in the list of a spot's group.
+    // By its spot the place of each group in the list.
     places: HashMap<usize, usize>,
 }
 
+// Written out, so that a caller's proof sees one call and not the drop of each field.
 impl Drop for Groups {
     fn drop(self) {
         let Groups { list: _, places: _ } = self;
@@ -44,6 +48,7 @@ impl Groups {
         }
     }
 
+    // Adds a call with its number to the group of its spot.
     fn add(&mut self, made: Made, number: u64) -> Result<(), AllocError> {
         let place = self.places.get(&made.spot).copied();
         match place {
@@ -73,10 +78,11 @@ struct Remarks {
     unanswered: Groups,
     // Other calls that halted.
     halted: Groups,
-    // Whether a line of the script has answered a call, by the lines' places in their list.
+    // For each line of the script, in the order of its list, whether it has answered a call.
     used: Vec<bool>,
 }
 
+// Written out, so that a caller's proof sees one call and not the drop of each field.
 impl Drop for Remarks {
     fn drop(self) {
         let Remarks {
@@ -88,7 +94,7 @@ impl Drop for Remarks {
     }
 }
 
-// What the built-in site of that name takes, where the arguments are something else.
+// What the built-in site of that name takes, if these arguments are something else. None where they fit, or there is no such site.
 fn wanted(name: &[u8], args: &[Value]) -> Option<&'static str> {
     match built_in_named(name) {
         Some(site) => wanted_by(site, args),
@@ -96,7 +102,7 @@ fn wanted(name: &[u8], args: &[Value]) -> Option<&'static str> {
     }
 }
 
-// Why a call of the built-in site of that name halts that has the arguments that it takes.
+// Why a call of the built-in site of that name halts though its arguments fit. None where none does, or there is no such site.
 fn why_built_in_halted(name: &[u8]) -> Option<&'static str> {
     match built_in_named(name) {
         Some(site) => why_halted(site),
@@ -104,7 +110,7 @@ fn why_built_in_halted(name: &[u8]) -> Option<&'static str> {
     }
 }
 
-// Whether an earlier line answers all calls that a later one would.
+// Whether an earlier line answers all calls that a later one would, so that the later one is never used. A pattern None takes every value.
 fn hides(rules: &Rules, earlier: &Rule, later: &Rule) -> bool {
     let hiding = rules.patterns(earlier);
     let hidden = rules.patterns(later);
@@ -117,7 +123,7 @@ fn hides(rules: &Rules, earlier: &Rule, later: &Rule) -> bool {
         })
 }
 
-// The first argument that a line's patterns don't take, from 1, with its pattern; and how many there are.
+// How many arguments a line's patterns don't take, and the first of them: its place, from 1, and the value that the pattern wants.
 fn differences(patterns: &[Option<Value>], args: &[Value]) -> (u64, Option<(u64, Value)>) {
     let mut count: u64 = 0;
     let mut first = None;
@@ -136,7 +142,8 @@ fn differences(patterns: &[Option<Value>], args: &[Value]) -> (u64, Option<(u64,
     (count, first)
 }
 
-// The line that is nearest to a call: of those for as many arguments the one with the fewest other values, else the first of the site.
+// The line of a site that is nearest to a call which none answers: of those for as many arguments the one with the fewest other values, else the
+// first. None where no line names the site.
 fn nearest<'a>(rules: &Rules<'a>, name: &[u8], args: &[Value]) -> Option<Rule<'a>> {
     let mut nearest: Option<Rule<'a>> = None;
     let mut least: u64 = 0;
@@ -152,7 +159,7 @@ fn nearest<'a>(rules: &Rules<'a>, name: &[u8], args: &[Value]) -> Option<Rule<'a
     nearest
 }
 
-// How many of a call's arguments a line's patterns don't take, the most there can be where they are for others.
+// How far a line is from a call: how many of the arguments its patterns don't take. With another number of patterns it is as far away as can be.
 fn distance(patterns: &[Option<Value>], args: &[Value]) -> u64 {
     if patterns.len() == args.len() {
         differences(patterns, args).0
@@ -161,7 +168,7 @@ fn distance(patterns: &[Option<Value>], args: &[Value]) -> u64 {
     }
 }
 
-// Why a line doesn't answer a call.
+// Why the nearest line doesn't answer a call.
 fn missed(page: &mut Page, rules: &Rules, rule: &Rule, args: &[Value]) {
     let patterns = rules.patterns(rule);
     page.say_number("; the nearest one, line ", rule.number as u64, "");
@@ -179,6 +186,7 @@ fn missed(page: &mut Page, rules: &Rules, rule: &Rule, args: &[Value]) {
 }
 
 impl Remarks {
+    // Of all calls of the run. The error is refused memory.
     fn new(alloc: Global, scene: &Scene, rules: &Rules) -> Result<Remarks, AllocError> {
         let mut remarks = Remarks {
             wrong: Groups::new(alloc),
@@ -202,6 +210,7 @@ impl Remarks {
         Ok(())
     }
 
+    // Puts one call, with its number from 1, where it belongs: it may have nothing wrong.
     fn add(
         &mut self,
         scene: &Scene,
@@ -222,7 +231,7 @@ impl Remarks {
         }
     }
 
-    // A call that its site could answer.
+    // A call that its site, or a line of the script, answered. It is noted only if that was halt.
     fn other(&mut self, made: Made, number: u64) -> Result<(), AllocError> {
         if made.has_halted {
             self.halted.add(made, number)
@@ -231,6 +240,7 @@ impl Remarks {
         }
     }
 
+    // A call of a script's site: notes which line answers it, or that none does.
     fn scripted(
         &mut self,
         rules: &Rules,
@@ -250,6 +260,7 @@ impl Remarks {
         }
     }
 
+    // How many lines of the script answered no call.
     fn unused(&self) -> u64 {
         let mut count: u64 = 0;
         for used in &self.used {
@@ -260,13 +271,15 @@ impl Remarks {
         count
     }
 
+    // Whether nothing is to be said of a run that has published something. Calls that were answered with halt don't count then: an otherwise may be
+    // meant for them.
     fn is_empty(&self) -> bool {
         self.wrong.list.is_empty() && self.unanswered.list.is_empty() && self.unused() == 0
     }
 }
 
 impl Scene<'_, '_> {
-    /// What is to be said of a run that has halted. Nothing at all where nothing looks wrong.
+    /// The whole explanation of a run that has halted: its first line, and what looks like a mistake. Nothing at all where nothing does.
     pub(crate) fn halted(&self, page: &mut Page) {
         let Ok(rules) = Rules::new(self.alloc, self.subject.script_text()) else {
             page.refuse();
@@ -278,6 +291,7 @@ impl Scene<'_, '_> {
         }
     }
 
+    // The explanation, from what was noted of the calls. `halted_calls` and `losses` come only where nothing was published.
     fn remarks(&self, page: &mut Page, remarks: &Remarks, rules: &Rules) {
         let is_silent = self.ended.summary.published == 0;
         if !is_silent && remarks.is_empty() && !self.hides_a_site() {
@@ -297,7 +311,7 @@ impl Scene<'_, '_> {
         self.hidden_sites(page);
     }
 
-    // `call 3, Ift(3), in line 1, column 5 halted`, the first call of a group.
+    // The beginning of a line on the first call of a group: `call 3, Ift(3), made in line 1, column 5, halted: `.
     fn halted_call(&self, page: &mut Page, group: &Group) {
         page.note("");
         page.say_number("call ", group.number, ", ");
@@ -307,7 +321,7 @@ impl Scene<'_, '_> {
         page.say(", halted: ");
     }
 
-    // How many calls more were made there.
+    // The end of such a line: how many more calls of the group there are.
     fn others(&self, page: &mut Page, group: &Group) {
         if group.count > 1 {
             page.say("; so did ");
@@ -317,6 +331,7 @@ impl Scene<'_, '_> {
         page.say("\n");
     }
 
+    // Calls of built-in sites whose arguments don't fit.
     fn wrong_calls(&self, page: &mut Page, groups: &Groups) {
         let mut shown: u64 = 0;
         for group in groups.list.iter().take(SHOWN as usize) {
@@ -337,6 +352,7 @@ impl Scene<'_, '_> {
         }
     }
 
+    // Calls of a script's sites that no line answers.
     fn unanswered_calls(&self, page: &mut Page, groups: &Groups, rules: &Rules) {
         let mut shown: u64 = 0;
         for group in groups.list.iter().take(SHOWN as usize) {
@@ -349,6 +365,7 @@ impl Scene<'_, '_> {
         self.rest(page, groups.list.len() as u64, shown);
     }
 
+    // The line that is nearest to the call of an entry, and why it doesn't answer it.
     fn nearest_line(&self, page: &mut Page, entry: usize, rules: &Rules) {
         if let Some(Entry::Call(_, _, site, args)) = self.journal.get(entry) {
             let name = name_of(self.ended.answers, site);
@@ -358,6 +375,7 @@ impl Scene<'_, '_> {
         }
     }
 
+    // Calls that halted though a line or a built-in site answered them.
     fn halted_calls(&self, page: &mut Page, groups: &Groups, rules: &Rules) {
         let mut shown: u64 = 0;
         for group in groups.list.iter().take(SHOWN as usize) {
@@ -382,7 +400,7 @@ impl Scene<'_, '_> {
         }
     }
 
-    // Where tokens came to nothing, since values were lost.
+    // Where tokens ended without a publication, since values that they needed were lost: a line for each spot.
     fn losses(&self, page: &mut Page) {
         for loss in &self.replay.losses {
             self.loss(page, *loss);
@@ -394,6 +412,7 @@ impl Scene<'_, '_> {
         }
     }
 
+    // The line of one spot: its text, and the value that was lost.
     fn loss(&self, page: &mut Page, loss: Loss) {
         page.note("`");
         self.words(page, loss.spot);
@@ -415,6 +434,7 @@ impl Scene<'_, '_> {
         page.say("\n");
     }
 
+    // Lines of the script that answered no call, each with a reason where one is found.
     fn unused_lines(&self, page: &mut Page, remarks: &Remarks, rules: &Rules) {
         let mut shown: u64 = 0;
         for (place, rule) in rules.list.iter().enumerate() {
@@ -454,7 +474,7 @@ impl Scene<'_, '_> {
         self.rest(page, all, all.min(SHOWN));
     }
 
-    // That an earlier line hides a line, or that its site was never called.
+    // The reason why a line answered no call: an earlier line hides it, or its site was never called. Nothing where neither is so.
     fn hidden(&self, page: &mut Page, rules: &Rules, place: usize, rule: &Rule) {
         for earlier in rules.list.iter().take(place) {
             if hides(rules, earlier, rule) {
@@ -472,6 +492,7 @@ impl Scene<'_, '_> {
         }
     }
 
+    // Whether the run called a site of this name.
     fn is_called(&self, name: &[u8]) -> bool {
         for made in &self.replay.calls {
             if let Some(Entry::Call(_, _, site, _)) = self.journal.get(made.entry) {

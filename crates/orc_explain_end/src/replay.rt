@@ -1,4 +1,6 @@
 //! A journal that is replayed on a program's sketch: where its tokens, its calls and its cells stand in the source.
+//!
+//! A spot is a numbered place of the program's tree, and a step is a side of the running term in which something stands (`orc_source_map`).
 
 use crate::ended::Ended;
 use orc_checker::Marked;
@@ -11,29 +13,29 @@ use orc_source_map::{Purpose, Shape, Sketch, Token, Trail, Way};
 use orc_term::arena::{Kind, Tip};
 use std::alloc::{AllocError, Global};
 
-/// How many spots with lost values are noted.
+/// How many spots at which values were lost are noted.
 const MOST_LOSSES: usize = 4;
 
-/// A call that was made.
+/// A call that was made, at this spot in this step.
 #[derive(Clone, Copy)]
 pub(crate) struct Made {
     pub spot: usize,
     pub step: usize,
     /// The place of its entry in the journal, from 0.
     pub entry: usize,
-    /// Whether it has neither returned nor was cancelled.
+    /// Whether it is pending: it has neither returned nor been cancelled.
     pub is_out: bool,
-    /// Whether it has returned without an answer.
+    /// Whether it has returned with halt.
     pub has_halted: bool,
 }
 
-/// The tokens that came to nothing at a spot, since a value that they needed was lost.
+/// The tokens that ended at a spot without a publication (`void`), since a value that they needed was lost.
 #[derive(Clone, Copy)]
 pub(crate) struct Loss {
     pub spot: usize,
     /// The cell from which the first of them would have had its value. None where it was lost before a definition was called with it.
     pub cell: Option<u64>,
-    /// How many they are.
+    /// How many such tokens there were.
     pub count: u64,
 }
 
@@ -44,9 +46,11 @@ pub(crate) struct Cell<'a> {
     pub spot: usize,
 }
 
-/// A journal's run, at its end.
+/// A run at the end of its journal.
 pub(crate) struct Replay<'a> {
+    /// The checker's marked term, which knows what can come next.
     pub marked: Marked,
+    /// Where the tokens stand on the sketch.
     pub trail: Trail,
     /// The calls, call 1 first.
     pub calls: Vec<Made>,
@@ -54,12 +58,13 @@ pub(crate) struct Replay<'a> {
     pub cells: Vec<Cell<'a>>,
     /// Where values were lost, at the first few spots.
     pub losses: Vec<Loss>,
-    /// How many tokens came to nothing by that at other spots.
+    /// How many tokens ended so at other spots.
     pub other_losses: u64,
     /// How often a definition was called.
     pub definitions: u64,
 }
 
+// Written out, so that a caller's proof sees one call and not the drop of each field.
 impl Drop for Replay<'_> {
     fn drop(self) {
         let Replay {
@@ -74,6 +79,7 @@ impl Drop for Replay<'_> {
     }
 }
 
+/// What is answered for a mark that has no token.
 const NO_TOKEN: Token = Token {
     spot: None,
     call: None,
@@ -89,6 +95,7 @@ impl<'a> Replay<'a> {
         journal: &Journal,
     ) -> Result<Replay<'a>, AllocError> {
         let mut replay = Replay {
+            // An engine records the cancels of a bind.
             marked: Marked::new(alloc, ended.program, true)?,
             trail: Trail::new(alloc, sketch)?,
             calls: Vec::new(alloc),
@@ -101,6 +108,7 @@ impl<'a> Replay<'a> {
         Ok(replay)
     }
 
+    // Follows all entries. What an entry says of its token is noted before the trail takes the token away.
     fn read(
         &mut self,
         ended: &Ended,
@@ -111,6 +119,7 @@ impl<'a> Replay<'a> {
             let Some(entry) = journal.get(at) else {
                 return Ok(());
             };
+            // Before the step, which takes the token from the term.
             if let Entry::Void(s) = entry {
                 self.add_loss(ended.program, s)?;
             }
@@ -127,7 +136,7 @@ impl<'a> Replay<'a> {
         Ok(())
     }
 
-    // What an entry makes besides tokens, or ends.
+    // Notes what an entry begins or ends besides tokens: a call, a cell, a call of a definition.
     fn note(&mut self, sketch: &Sketch<'a>, entry: &Entry, at: usize) -> Result<(), AllocError> {
         match entry {
             Entry::Call(s, _, _, _) => return self.add_call(*s, at),
@@ -140,6 +149,7 @@ impl<'a> Replay<'a> {
         Ok(())
     }
 
+    // Adds a call, made by the token of this mark in the entry at this place of the journal.
     fn add_call(&mut self, mark: u64, entry: usize) -> Result<(), AllocError> {
         let token = self.token(mark);
         self.calls.push(Made {
@@ -152,6 +162,7 @@ impl<'a> Replay<'a> {
         Ok(())
     }
 
+    // A call, from 1, is pending no longer.
     fn end_call(&mut self, call: u64, has_halted: bool) {
         if let Some(made) = self.calls.get_mut((call as usize).saturating_sub(1)) {
             made.is_out = false;
@@ -159,7 +170,7 @@ impl<'a> Replay<'a> {
         }
     }
 
-    // A token comes to nothing, since a value that it needs was lost.
+    // Counts a token that ends, since a value that it needs was lost, among those of its spot.
     fn add_loss(&mut self, program: &Program, token: u64) -> Result<(), AllocError> {
         let spot = self.token(token).spot.unwrap_or(0);
         for place in 0..self.losses.len() {
@@ -202,13 +213,15 @@ impl<'a> Replay<'a> {
 
     // The cell that was put for an operand, whatever has become of it.
     fn cell_of(&self, operand: Operand, scope: usize) -> Option<u64> {
+        // No cell has a value here, so a cell that was bound or lost is still one.
         match meaning(self.marked.scopes(), &[], operand, scope) {
             Some(Bound::Cell(cell)) => Some(cell),
             _ => None,
         }
     }
 
-    /// The program's node on which a token stands, and its scope.
+    /// The number of the program's node on which a token stands, and of its scope, which says what the names mean. None where it stands on an answer,
+    /// or there is no such token. It looks through the whole term.
     pub(crate) fn node_of(&self, token: u64) -> Option<(usize, usize)> {
         for slot in self.marked.nodes() {
             match slot.node().kind {
@@ -221,6 +234,7 @@ impl<'a> Replay<'a> {
         None
     }
 
+    // Adds the cell of a pruning that the token of this mark opens.
     fn add_cell(&mut self, sketch: &Sketch<'a>, mark: u64) -> Result<(), AllocError> {
         let Shape::Prune(_, _, purpose) = self.trail.shape(sketch, mark) else {
             return Ok(());
@@ -230,7 +244,7 @@ impl<'a> Replay<'a> {
         Ok(())
     }
 
-    /// The token of a mark, one that stands nowhere where there is none.
+    /// The token of a mark; one at no spot and in no step where there is none.
     pub(crate) fn token(&self, mark: u64) -> Token {
         self.trail.token(mark).unwrap_or(NO_TOKEN)
     }
@@ -243,8 +257,10 @@ impl<'a> Replay<'a> {
         }
     }
 
-    /// Which steps are inside the right side of a cell's pruning, from step 0 on. The error is refused memory.
+    /// For each step, from 0 on, whether it is inside the right side of a cell's pruning, from which the cell's value could come. The error is
+    /// refused memory.
     pub(crate) fn inside(&self, alloc: Global, cell: u64) -> Result<Vec<bool>, AllocError> {
+        // A step comes behind the one round it, so one pass is enough.
         let mut inside: Vec<bool> = Vec::new(alloc);
         inside.push(false)?;
         for step in self.trail.steps() {
@@ -257,7 +273,8 @@ impl<'a> Replay<'a> {
         Ok(inside)
     }
 
-    /// The most left sides of `>x>` that stand round one step, counted out to the next right side of a pruning. The error is refused memory.
+    /// The most left sides of `>x>` round one step, counted outwards up to the next right side of a pruning, as the limit `MOST_FRAMES` counts them.
+    /// Steps that are over count too. The error is refused memory.
     pub(crate) fn frames(&self, alloc: Global) -> Result<u64, AllocError> {
         let mut frames: Vec<u64> = Vec::new(alloc);
         let mut most: u64 = 0;

@@ -1,4 +1,7 @@
-//! Which calls the lines of a script answer.
+//! Which calls the lines of a script answer. A rule is a line of a script here, and no rule of Orc.
+//!
+//! The table that answers the calls of a run knows no line numbers, so the script's text is read here once more, which a loaded program had read
+//! without a fault.
 
 use orc_explain_fault::Line;
 use orc_lex::token::Span;
@@ -23,10 +26,11 @@ pub(crate) struct Rule<'a> {
 #[derive(Drop)]
 pub(crate) struct Rules<'a> {
     pub list: Vec<Rule<'a>>,
+    // Those of all lines, one line behind another: a value, or None for `_`.
     patterns: Vec<Option<Value>>,
 }
 
-// The number that a piece of a line spells.
+// The number that a piece of a line spells; None where it has over 64 bits. The sign is put on before the range is looked at, for the least number.
 fn number_of(text: &[u8]) -> Option<i64> {
     match text {
         [b'-', digits @ ..] => {
@@ -82,7 +86,7 @@ impl<'a> Rules<'a> {
         Ok(rules)
     }
 
-    // A line of this number, which was read as one of a script before.
+    // Adds the line with this number, of these bytes, if it is more than blanks and a comment.
     fn read(
         &mut self,
         alloc: Global,
@@ -96,6 +100,7 @@ impl<'a> Rules<'a> {
         };
         let name = site.text;
         let first = self.patterns.len();
+        // Behind the name and the `(`. A comma is no pattern.
         for piece in line.pieces.iter().skip(2) {
             if piece.text == b")".as_slice() {
                 break;
@@ -114,7 +119,7 @@ impl<'a> Rules<'a> {
         Ok(())
     }
 
-    /// The number of the line at a place of the list, from 1.
+    /// The number, from 1, of the line at a place of the list; 0 where there is none.
     pub(crate) fn number(&self, place: usize) -> u64 {
         match self.list.get(place) {
             Some(rule) => rule.number as u64,
@@ -138,7 +143,7 @@ impl<'a> Rules<'a> {
             })
     }
 
-    /// The place in the list of the first line that answers such calls.
+    /// The place in the list of the first line that fits such calls, which is the one that answers them. None where no line does.
     pub(crate) fn first(&self, name: &[u8], args: &[Value]) -> Option<usize> {
         for (place, rule) in self.list.iter().enumerate() {
             if self.fits(rule, name, args) {

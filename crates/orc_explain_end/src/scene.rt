@@ -1,4 +1,7 @@
-//! What is told of a run: its calls, entries and terms in words.
+//! A run that is explained, and how its calls, entries and terms are written.
+//!
+//! Each function here with a `page` writes what its comment names at the end of that page. A spot is a numbered place of the program's tree
+//! (`orc_source_map`).
 
 use crate::ended::Ended;
 use crate::replay::Replay;
@@ -15,10 +18,10 @@ use orc_source_map::{Purpose, Sketch};
 use orc_syntax::Definition;
 use std::alloc::Global;
 
-/// How many columns of a term are shown.
+/// How many columns of a part of the source are shown.
 const TERM: usize = 28;
 
-/// A run that has ended, replayed.
+/// A run that has ended, replayed, with all that an explanation reads. `journal` is that of `ended`.
 #[derive(Clone, Copy)]
 pub(crate) struct Scene<'s, 'a> {
     pub alloc: Global,
@@ -30,7 +33,7 @@ pub(crate) struct Scene<'s, 'a> {
     pub replay: &'s Replay<'a>,
 }
 
-/// The line of an end.
+/// The first line of an explanation: how the run ended, when, and after how many entries.
 pub(crate) fn begin(page: &mut Page, summary: Summary) {
     page.say(match summary.end {
         End::Halted => "orc: Halted",
@@ -43,7 +46,7 @@ pub(crate) fn begin(page: &mut Page, summary: Summary) {
     reach(page, summary);
 }
 
-/// How far a run came.
+/// The rest of a line on how far a run came: its time, and `, after N entries`.
 pub(crate) fn reach(page: &mut Page, summary: Summary) {
     page.number(summary.now);
     page.say_number(", after ", summary.entries, "");
@@ -61,7 +64,7 @@ pub(crate) fn say_more(page: &mut Page, all: u64, shown: u64) {
     }
 }
 
-/// The name of a site.
+/// The name of the site with this number in the table; empty where there is none.
 pub(crate) fn name_of(answers: &Answers, site: u32) -> &[u8] {
     match answers.name(site) {
         Some(name) => name,
@@ -70,7 +73,7 @@ pub(crate) fn name_of(answers: &Answers, site: u32) -> &[u8] {
 }
 
 impl Scene<'_, '_> {
-    /// A line that says how many were left out.
+    /// A line `and N more`, where there are more than were shown.
     pub(crate) fn rest(&self, page: &mut Page, all: u64, shown: u64) {
         if all > shown {
             page.note("");
@@ -84,7 +87,7 @@ impl Scene<'_, '_> {
         page.place(source.text, self.sketch.span(spot).start);
     }
 
-    /// `line L` of a place of the source.
+    /// `line L` of a byte of the source.
     pub(crate) fn line(&self, page: &mut Page, at: usize) {
         let source = self.subject.source;
         let text = source.text;
@@ -100,7 +103,7 @@ impl Scene<'_, '_> {
         }
     }
 
-    /// The line of an entry.
+    /// An entry as a line of a journal, without its LF.
     pub(crate) fn entry(&self, page: &mut Page, entry: &Entry) {
         if has_line(entry, self.ended.answers) {
             let mut text = Vec::new(self.alloc);
@@ -111,7 +114,7 @@ impl Scene<'_, '_> {
         }
     }
 
-    // The purpose of a cell.
+    // What the pruning of a cell, from 1, is for. Cell 1 is at place 0.
     fn purpose(&self, cell: u64) -> Purpose<'_> {
         let at = (cell as usize).saturating_sub(1);
         match self.replay.cells.get(at) {
@@ -120,7 +123,7 @@ impl Scene<'_, '_> {
         }
     }
 
-    /// What a cell's value is for.
+    /// What a cell's value is for: the variable or the argument, and its line.
     pub(crate) fn cell(&self, page: &mut Page, cell: u64) {
         match self.purpose(cell) {
             Purpose::Variable(name) => {
@@ -157,6 +160,7 @@ impl Scene<'_, '_> {
         squeeze(page, self.subject.source.part(self.sketch.span(spot)));
     }
 
+    // The arguments of a call in brackets, with the values that they have. `list` and `scope` are numbers of the program and of the marked term.
     fn operands(&self, page: &mut Page, list: usize, scope: usize) {
         page.say("(");
         for (i, operand) in self.ended.program.operands(list).iter().enumerate() {
@@ -172,7 +176,7 @@ impl Scene<'_, '_> {
         page.say(")");
     }
 
-    // A cell without a value, as it stands in a term.
+    // A cell without a value, as `x#1`: its variable, if it has one, and its number.
     fn awaited(&self, page: &mut Page, cell: u64) {
         if let Purpose::Variable(name) = self.purpose(cell) {
             page.word(name.text);
