@@ -7,7 +7,7 @@ use orc_rules::entry::Entry;
 use orc_verdict::Allowed;
 use std::alloc::Global;
 
-/// The cancel that has to come.
+/// The call whose `cancel` has to come next, if one is due: it is the only entry that is allowed then. None where no cancel is due.
 pub(crate) fn cancel_in(allowed: &Allowed) -> Option<u64> {
     match allowed.entries().first() {
         Some(Entry::Cancel(call)) => Some(*call),
@@ -15,7 +15,7 @@ pub(crate) fn cancel_in(allowed: &Allowed) -> Option<u64> {
     }
 }
 
-/// Says which entries are allowed.
+/// Writes the line of the first entries that are allowed, and how many more are. If none is, the term has halted, or it is quiet.
 pub(crate) fn say_allowed(
     page: &mut Page,
     alloc: Global,

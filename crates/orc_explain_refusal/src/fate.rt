@@ -1,4 +1,4 @@
-//! What has become of what an entry names.
+//! What has become of what a refused entry names, if that isn't in the term any more.
 
 use crate::named::{Named, named_by, place_of, stands_at};
 use orc_checker::Marked;
@@ -10,28 +10,32 @@ use orc_verdict::numbers_of;
 /// What has become of a token, a call, a cell or an otherwise, with the number of the entry that did it.
 #[derive(Clone, Copy)]
 pub(crate) enum Fate {
-    /// It stands, or never stood.
+    /// Nothing: it is there, or never was.
     Nothing,
+    /// An entry named it, and that used it up.
     UsedUp(u64),
+    /// The call has returned.
     Returned(u64),
+    /// The call was cancelled.
     Cancelled(u64),
     /// A `bind` dropped the side in which it stood.
     Bound(u64),
     /// A `lost` or a `right` dropped the side in which it stood.
     Ended(u64),
-    /// The left side of the otherwise published.
+    /// The left side of the otherwise has published, which takes the otherwise's number from it.
     Left(u64),
 }
 
-/// One that is watched while entries are applied.
+/// What an entry names, watched while the entries before it are applied.
 #[derive(Clone, Copy)]
 pub(crate) struct Watch {
     pub named: Named,
     pub fate: Fate,
+    // The number of its node. None as long as it hasn't come up.
     place: Option<usize>,
 }
 
-// Whether an entry brings it.
+// Whether an entry makes what is named.
 fn is_brought(named: Named, entry: &Entry) -> bool {
     let new = numbers_of(entry);
     match named {
@@ -43,7 +47,7 @@ fn is_brought(named: Named, entry: &Entry) -> bool {
     }
 }
 
-// Whether an entry uses it up.
+// Whether an entry uses up what is named. A `bind` uses up its cell beside its token.
 fn is_used(named: Named, entry: &Entry) -> bool {
     match (named, named_by(entry)) {
         (Named::Token(mark), Named::Token(used)) => mark == used,
@@ -58,7 +62,7 @@ fn is_used(named: Named, entry: &Entry) -> bool {
 }
 
 impl Watch {
-    /// Watches it from the beginning of a run on.
+    /// Watches what is named from the beginning of a run on, whose marked term this is.
     pub(crate) fn new(named: Named, marked: &Marked) -> Watch {
         Watch {
             named,
@@ -67,8 +71,9 @@ impl Watch {
         }
     }
 
-    /// Takes note of an entry that was applied as that number.
+    /// Takes note of the entry with this number, from 1, which has just been applied to the term.
     pub(crate) fn note(&mut self, marked: &Marked, entry: &Entry, number: u64) {
+        // A bind drops a pending call first; the `cancel` behind it says so of the call itself.
         match (self.named, self.fate, entry) {
             (Named::Call(call), Fate::Bound(_), Entry::Cancel(cancelled)) if *cancelled == call => {
                 self.fate = Fate::Cancelled(number);
@@ -86,7 +91,7 @@ impl Watch {
         }
     }
 
-    // What the entry has done that took it away.
+    // The fate of what is named, which was at the node at this place until this entry was applied.
     fn ended_by(&self, marked: &Marked, place: usize, entry: &Entry, number: u64) -> Fate {
         if is_used(self.named, entry) {
             return match self.named {
@@ -105,7 +110,7 @@ impl Watch {
         }
     }
 
-    /// Whether it stands.
+    /// Whether what is named is in the term.
     pub(crate) fn stands(&self) -> bool {
         match (self.place, self.fate) {
             (Some(_), Fate::Nothing) => true,
@@ -113,7 +118,7 @@ impl Watch {
         }
     }
 
-    /// Says that it isn't there, and why.
+    /// Writes that what is named isn't there, and why: the entry that took it away, or that it never was there.
     pub(crate) fn say(&self, marked: &Marked, page: &mut Page) {
         let (kind, number, next) = match self.named {
             Named::Token(mark) => ("mark", mark, marked.new_mark()),

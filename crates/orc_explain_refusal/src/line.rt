@@ -1,4 +1,4 @@
-//! The lines of entries.
+//! Entries as lines of a journal, and the words of such a line.
 
 use orc_journal_text::{has_line, write_entry};
 use orc_lex::token::Span;
@@ -19,6 +19,7 @@ pub(crate) fn line_of(
             write_entry(entry, answers, &mut line)?;
         }
     }
+    // `write_entry` ends a line with its LF.
     let _line_feed = line.pop();
     Ok(line)
 }
@@ -35,7 +36,7 @@ pub(crate) fn say_entry(page: &mut Page, alloc: Global, answers: &Answers, entry
     }
 }
 
-/// The n-th word of a line, counted from 0; its end where there are fewer.
+/// The bytes of the n-th word of a line, from 0; an empty span at the line's end where there are fewer words.
 pub(crate) fn field(line: &[u8], n: usize) -> Span {
     let mut number: usize = 0;
     let mut start: usize = 0;

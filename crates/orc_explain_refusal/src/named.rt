@@ -1,11 +1,11 @@
-//! What an entry names, and where that stands.
+//! What an entry names, and at which node of the marked term that is.
 
 use orc_checker::Marked;
 use orc_rules::entry::Entry;
 use orc_term::arena::{Double, Kind, Single, Tip};
 use orc_verdict::mark_named;
 
-/// What an entry asks to be there.
+/// What an entry needs to find in the term, by its number: a token by its mark, a pending call, the pruning of a cell, or an otherwise by its mark.
 #[derive(Clone, Copy)]
 pub(crate) enum Named {
     Token(u64),
@@ -15,7 +15,7 @@ pub(crate) enum Named {
     Nothing,
 }
 
-/// What an entry names first.
+/// What an entry names first; nothing for a `tick` and a `cancel`.
 pub(crate) fn named_by(entry: &Entry) -> Named {
     if let Some(mark) = mark_named(entry) {
         return Named::Token(mark);
@@ -50,7 +50,7 @@ pub(crate) fn stands_at(marked: &Marked, place: usize, named: Named) -> bool {
     }
 }
 
-/// The node that is named. It looks at all nodes.
+/// The number of the node that is named; None where there is none. It looks at all nodes.
 pub(crate) fn place_of(marked: &Marked, named: Named) -> Option<usize> {
     for (place, slot) in marked.nodes().iter().enumerate() {
         if is_named(slot.node().kind, named) {

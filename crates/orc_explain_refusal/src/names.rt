@@ -13,7 +13,9 @@ use std::alloc::{AllocError, Global};
 pub(crate) struct Names<'r, 's> {
     ast: &'r Ast<'s>,
     answers: &'r Answers,
+    // The source's variables, by their numbers.
     variables: Variables<'s>,
+    // The variable of each cell, by the cell's number; that of cell 0, which there isn't, is None.
     cells: Vec<Option<u32>>,
 }
 
@@ -67,7 +69,8 @@ impl<'r, 's> Names<'r, 's> {
         })
     }
 
-    /// The place among a call's arguments, from 0, for which a number stands that no variable has.
+    /// The place, from 0, of the argument for which the scope check made a variable of its own: these have the numbers behind those of the source's
+    /// variables, place by place. None for a variable of the source.
     pub(crate) fn argument(&self, name: u32) -> Option<usize> {
         (name as usize).checked_sub(self.variables.len())
     }
@@ -79,7 +82,7 @@ impl<'r, 's> Names<'r, 's> {
         }
     }
 
-    /// Writes a cell: its variable and its number.
+    /// Writes a cell as `x#1`: its variable, nothing where that is no variable of the source, and its number.
     pub(crate) fn say_cell(&self, page: &mut Page, cell: u64) {
         if let Some(Some(name)) = self.cells.get(cell as usize) {
             self.say_variable(page, *name);
@@ -87,7 +90,7 @@ impl<'r, 's> Names<'r, 's> {
         page.tell("#%", &[Fill::Number(cell)]);
     }
 
-    /// Writes a sign, with the name that it binds where that is a variable.
+    /// Writes a sign, with the name that it binds where that is a variable of the source: `>x>`, or `>>` for one without a name.
     pub(crate) fn say_sign(&self, page: &mut Page, sign: Sign) {
         let (before, behind) = match sign {
             Sign::Par => (" | ", ""),

@@ -1,4 +1,6 @@
-//! Why an entry is refused, said under its place.
+//! Why an entry is refused, with carets under the word of its line that is wrong.
+//!
+//! Words of an entry's line are counted from 0: word 0 is its kind, word 1 what it names first.
 
 use crate::allowed::cancel_in;
 use crate::line::{field, say_entry};
@@ -23,13 +25,14 @@ pub(crate) struct Refused<'r> {
     pub allowed: &'r Allowed,
     /// None where a cancel is due behind the last entry.
     pub entry: Option<&'r Entry>,
+    /// Its line without the LF; empty where there is no entry.
     pub line: &'r [u8],
-    /// The number of its line in the journal's file.
+    /// The number of its line in the journal's file, from 1.
     pub number: u64,
 }
 
 impl Refused<'_> {
-    // Shows the entry with carets under a word of its line, counted from 0, or else under the whole line. What is said next stands behind them.
+    // Shows the entry with carets under a word of its line, or under the whole line where that is None. What is said next stands behind the carets.
     fn show(&self, page: &mut Page, word: Option<usize>) {
         let part = match word {
             Some(number) => field(self.line, number),
@@ -61,7 +64,8 @@ impl Refused<'_> {
                     None => page.say("no cancel is due\n"),
                 }
             }
-            // The token is missing, or where it stands, the cell that a `bind` names beside it.
+            // What isn't there is what the entry names first, or, if that is there, the cell that a `bind` names beside its token, which is its word
+            // 2.
             RuleFault::Mark if self.replay.first.stands() => {
                 self.show(page, Some(2));
                 self.replay.second.say(&self.replay.marked, page);
@@ -89,7 +93,7 @@ impl Refused<'_> {
         }
     }
 
-    // The entry that the token may have in its place.
+    // Another entry than the term has for this token: says which one it has, or that the token waits.
     fn say_form(&self, page: &mut Page, alloc: Global, entry: &Entry) {
         let mark = mark_named(entry).unwrap_or(0);
         match entry_of(&self.replay.marked, self.program, mark) {
@@ -108,7 +112,7 @@ impl Refused<'_> {
         }
     }
 
-    // The token waits for those of its arguments that are cells without a value.
+    // The term has no entry for the token: it waits for those of its arguments that are cells without a value. Or no token is named.
     fn say_waits(&self, page: &mut Page, mark: u64) {
         let marked = &self.replay.marked;
         let mut cells: u64 = 0;
@@ -134,7 +138,7 @@ impl Refused<'_> {
         page.say("\n");
     }
 
-    // The first number that an entry gives to what it makes and that isn't the next one.
+    // The first new number in the entry that isn't the next one of its kind.
     fn say_number(&self, page: &mut Page, entry: &Entry) {
         let marked = &self.replay.marked;
         let new = numbers_of(entry);
@@ -158,7 +162,7 @@ impl Refused<'_> {
         }
     }
 
-    // What the table says of the call that an entry returns, and when the call was made.
+    // What the table says of the call that an entry returns, and at what time the call was made.
     fn returned(&self, entry: &Entry) -> Option<(Found, u64)> {
         let (Entry::Return(call, _, _) | Entry::ReturnHalt(call)) = entry else {
             return None;
@@ -168,6 +172,7 @@ impl Refused<'_> {
         Some((called.found, called.at))
     }
 
+    // A return with another answer than the table's, which is the last word of its line.
     fn say_answer(&self, page: &mut Page, entry: &Entry) {
         let answer = match entry {
             Entry::Return(_, _, _) => 3,
@@ -183,6 +188,7 @@ impl Refused<'_> {
         }
     }
 
+    // A return that isn't due now, or a tick that isn't allowed.
     fn say_time(&self, page: &mut Page, entry: &Entry) {
         self.show(page, Some(1));
         let (Entry::Return(call, _, _) | Entry::ReturnHalt(call)) = entry else {
@@ -210,6 +216,7 @@ impl Refused<'_> {
         }
     }
 
+    // A tick to another time than the next due one, or while something else can happen.
     fn say_tick(&self, page: &mut Page) {
         match self.allowed.entries().first() {
             Some(Entry::Tick(time)) => {

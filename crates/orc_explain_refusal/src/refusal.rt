@@ -1,4 +1,4 @@
-//! What is explained of an entry that is refused.
+//! The whole explanation of a refused entry: the entry in its file, why it is refused, the term before it, and what is allowed there.
 
 use crate::allowed::say_allowed;
 use crate::line::line_of;
@@ -19,7 +19,7 @@ use orc_syntax::{Ast, parse};
 use orc_verdict::{Allowed, CheckFault};
 use std::alloc::{AllocError, Global};
 
-/// What a refused journal is checked against.
+/// A refused journal, and the program and the table that it is checked against.
 struct Case<'s> {
     ast: Ast<'s>,
     program: Program,
@@ -39,7 +39,7 @@ impl Drop for Case<'_> {
     }
 }
 
-// The program of a tree that was checked before.
+// The program of a tree. It was checked before without a fault, so the error is refused memory.
 fn program_of(alloc: Global, ast: &Ast, answers: &Answers) -> Result<Program, AllocError> {
     let names = answers.names(alloc)?;
     match orc_scope::check(alloc, ast, names.as_slice()) {
@@ -49,7 +49,7 @@ fn program_of(alloc: Global, ast: &Ast, answers: &Answers) -> Result<Program, Al
 }
 
 impl<'s> Case<'s> {
-    // Reads texts that were read before: only memory can be refused here.
+    // Reads texts that were read before without a fault, so the error is refused memory.
     fn new(
         alloc: Global,
         source: &'s [u8],
@@ -73,7 +73,8 @@ impl<'s> Case<'s> {
         })
     }
 
-    // The explanation of the entry at a place, counted from 0. The error is refused memory.
+    // Writes the explanation of the entry at a place, from 0, of the journal with this name. A place behind the last entry is where a `cancel` is
+    // due. The error is refused memory.
     fn say(
         &self,
         page: &mut Page,
@@ -85,6 +86,7 @@ impl<'s> Case<'s> {
         let mut replay = Replay::new(alloc, &self.program, &self.answers, &self.journal, place)?;
         let allowed = Allowed::new(alloc, &mut replay.marked, &self.program, &self.answers)?;
         let number = line_number(place);
+        // The entry's line has the greatest number that is shown.
         page.widen(number);
         page.inset();
         page.tell(
@@ -124,7 +126,7 @@ impl<'s> Case<'s> {
         Ok(())
     }
 
-    // The term before the entry. The error is refused memory.
+    // Writes the term before the entry, and below it its marks. The error is refused memory.
     fn say_term(
         &self,
         page: &mut Page,
@@ -154,13 +156,13 @@ impl<'s> Case<'s> {
     }
 }
 
-// The number of an entry's line in its file: the first one is the header.
+// The number, from 1, of the line of the entry at a place, from 0: line 1 is the header.
 fn line_number(place: usize) -> u64 {
     (place as u64).saturating_add(2)
 }
 
 /// The text that explains why a journal is refused, below the fault's own line: `source`, `script` and `journal` were read without a fault, and
-/// `fault` is the verdict on the journal. The error is refused memory.
+/// `fault` is the verdict on the journal. It says of refused memory only that. The error is refused memory.
 pub fn explain_refusal(
     alloc: Global,
     source: &[u8],
@@ -174,6 +176,7 @@ pub fn explain_refusal(
         return page.finish();
     }
     let case = Case::new(alloc, source, script, journal.text)?;
+    // A fault counts entries from 1.
     let place = (fault.at as usize).saturating_sub(1);
     case.say(&mut page, alloc, journal.name, place, fault.why)?;
     page.finish()

@@ -12,11 +12,11 @@ use std::alloc::{AllocError, Global};
 /// The marked term before an entry, and what its entries have done.
 pub(crate) struct Replay {
     pub marked: Marked,
-    /// For each call the place of its entry, from 0.
+    /// For each call, call 1 first, the place of its entry, from 0.
     calls: Vec<usize>,
-    /// What the refused entry names.
+    /// What the refused entry names first, and what has become of it.
     pub first: Watch,
-    /// The cell that it names beside a token.
+    /// The cell that a `bind` names beside its token, and what has become of it.
     pub second: Watch,
 }
 
@@ -33,7 +33,7 @@ impl Drop for Replay {
 }
 
 impl Replay {
-    /// Applies the entries before a place, counted from 0. The error is refused memory: they were taken before.
+    /// Applies the entries before a place, from 0, which the checker has taken before; so the error is refused memory.
     pub(crate) fn new(
         alloc: Global,
         program: &Program,
@@ -64,6 +64,7 @@ impl Replay {
         Ok(replay)
     }
 
+    // Applies the entry at a place, and notes what it does to what is watched.
     fn apply(
         &mut self,
         program: &Program,
@@ -83,7 +84,7 @@ impl Replay {
         Ok(())
     }
 
-    /// The entry of a call.
+    /// The entry in which the call with this number, from 1, was made. None where it wasn't made before the refused entry.
     pub(crate) fn call(&self, journal: &Journal, call: u64) -> Option<Entry> {
         let at = *self.calls.get(call.checked_sub(1)? as usize)?;
         journal.get(at)

@@ -1,17 +1,18 @@
-//! The two lines of a term: itself, and its marks below.
+//! The two lines that show a term: the term itself, and below it the carets under what is named and the numbers of the marks.
 
 use crate::strip::Strip;
 use orc_report::{Fill, Page, Window};
 use std::alloc::{AllocError, Global};
 
-/// The columns behind a line in which numbers have room.
+/// How many columns behind the end of the term numbers and words may take in the line below it.
 const BEHIND: usize = 32;
 
 impl Strip<'_, '_> {
     /// Writes the term, and below it its marks.
     pub(crate) fn show(&self, page: &mut Page, alloc: Global) {
+        // If memory was refused to the term, the explanation isn't given out either.
         page.heed(&self.page);
-        // The columns that are shown: all, or some round what is named.
+        // The columns that are shown: all, or some round what the entry names.
         let named = match self.named {
             Some(named) => Some(named.start),
             None => None,
@@ -20,6 +21,7 @@ impl Strip<'_, '_> {
         let text = self.page.as_str().as_bytes();
         let shown = text.get(window.first..window.end).unwrap_or(b"");
         show_line(page, window, ".. ", shown, " ..");
+        // The line below the term.
         let Ok(rule) = self.rule(alloc, window) else {
             page.refuse();
             return;
@@ -30,11 +32,13 @@ impl Strip<'_, '_> {
         }
     }
 
-    // The carets under what is named, the numbers of the marks beside it, and what the carets mean. The error is refused memory.
+    // The line below the term, in the window's columns: carets under what is named, the numbers of the marks that have room, and behind the carets
+    // what they mean. The error is refused memory.
     fn rule(&self, alloc: Global, window: Window) -> Result<Vec<u8>, AllocError> {
         let mut signs = Vec::new(alloc);
         let (start, end) = match self.named {
             Some(named) if named.start >= window.first => (named.start, named.end.min(window.end)),
+            // Nothing is named, or it isn't in the window: no carets.
             _ => (0, 0),
         };
         let columns = window.end.saturating_sub(window.first);
@@ -60,7 +64,7 @@ impl Strip<'_, '_> {
     }
 }
 
-// Writes a line below a term's head: what is shown of it, with these signs where its front and its end are cut.
+// Writes one of the two lines, five blanks further in than a note: what is shown of it, with these signs where its front and its end are cut.
 fn show_line(page: &mut Page, window: Window, front: &str, shown: &[u8], end: &str) {
     page.inset();
     page.say("     ");
@@ -76,8 +80,8 @@ fn show_line(page: &mut Page, window: Window, front: &str, shown: &[u8], end: &s
     page.say("\n");
 }
 
-// Puts words with a number where there is room for them, apart from what stands beside them; the last ones where nothing stands behind them. The
-// error is refused memory.
+// Puts words with a number into a line of blanks from column `start` on, if they have room there: a blank on both sides, or, for the last words of
+// the line, nothing from `start` to its end. The number of a mark for which there is no room is left out. The error is refused memory.
 fn put(
     signs: &mut Vec<u8>,
     alloc: Global,
@@ -96,6 +100,7 @@ fn put(
         (start.saturating_sub(1), end.saturating_add(1))
     };
     let mut is_free = true;
+    // A range that reaches over the end of the line has no room.
     for sign in signs.get(room.0..room.1).unwrap_or(b"^") {
         is_free = is_free && *sign == b' ';
     }

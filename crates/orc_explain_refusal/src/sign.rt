@@ -1,6 +1,6 @@
-//! The signs between the parts of a term.
+//! The signs between the two parts of an operation in a term, and when a part needs brackets.
 
-/// What joins two parts: an operator with the number of its variable, or an opened pruning with its cell.
+/// What joins two parts: an operator with the number of its variable, if it has one, or an opened pruning with its cell.
 #[derive(Clone, Copy)]
 pub(crate) enum Sign {
     Par,
@@ -10,7 +10,8 @@ pub(crate) enum Sign {
     Opened(u64),
 }
 
-/// How tightly a sign binds, and its left and its right part have to; and the variable that it binds in each.
+/// How tightly a sign binds, and how tightly its left and its right part have to bind to need no brackets; and the variable that it binds in either
+/// part.
 #[derive(Clone, Copy)]
 pub(crate) struct Levels {
     pub own: usize,
@@ -21,6 +22,7 @@ pub(crate) struct Levels {
 }
 
 impl Sign {
+    /// The levels follow the grammar of sources: `;` 1, `<x<` 2, `|` 3 and `>x>` 4. All but `>x>` group to the left.
     pub(crate) fn levels(self) -> Levels {
         let (own, left, right, bound_left, bound_right) = match self {
             Sign::Other => (1, 1, 2, None, None),

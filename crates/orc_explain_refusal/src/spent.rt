@@ -1,17 +1,17 @@
-//! The parts of a marked term in which nothing is left to tell.
+//! The parts of a marked term that are spent: they have halted, and no token stands in them. They are shown as `stop`, or left out beside a `|`.
 
 use orc_checker::Marked;
 use orc_term::arena::{Kind, Tip};
 use std::alloc::{AllocError, Global};
 
-/// For each node of a marked term whether a token stands in it, where it has halted.
+/// For each node of a marked term whether it has halted and a token still stands in it, as one on a `stop` may.
 #[derive(Drop)]
 pub(crate) struct Spent {
     is_held: Vec<bool>,
 }
 
 impl Spent {
-    /// The error is refused memory.
+    /// Looks at all nodes of a term. The error is refused memory.
     pub(crate) fn new(alloc: Global, marked: &Marked) -> Result<Spent, AllocError> {
         let mut is_held = Vec::new(alloc);
         for _node in marked.nodes() {
@@ -26,7 +26,8 @@ impl Spent {
         Ok(spent)
     }
 
-    // A token stands in the node at a place and in those above it. All calls together look at each node once.
+    // A token stands in the node at a place, and so in those above it, as far as they have halted. A node that is held already ends the climb, so all
+    // calls together hold each node once.
     fn hold(&mut self, marked: &Marked, from: usize) {
         let mut place = from;
         for _node in marked.nodes() {

@@ -1,4 +1,7 @@
 //! A term in one line, with what stands under it.
+//!
+//! A strip is written from left to right, by tasks on a stack (`task.rt`), so that a deep term needs no recursion and a long one stops early. Off the
+//! way to what the entry names, a part that takes too many columns is taken back and becomes `..`.
 
 use crate::names::Names;
 use crate::replay::Replay;
@@ -11,20 +14,21 @@ use orc_report::Page;
 use orc_rules::program::Program;
 use std::alloc::Global;
 
-/// A part off the way to what is named that takes more columns is left out.
+/// A part off the way to what is named becomes `..` if it takes more columns than this.
 const LONGEST_PART: usize = 28;
 
-/// What is written behind the place that is shown, in columns.
+/// How many columns are written behind the beginning of what is named, or from the beginning of the term where nothing is: more than are ever shown.
 pub(crate) const AHEAD: usize = 300;
 
-/// Where a mark's number goes.
+/// A mark's number, and the column below which it is written.
 #[derive(Clone, Copy)]
 pub(crate) struct Note {
     pub column: usize,
     pub mark: u64,
 }
 
-/// A part that is left out where it is long: where it began, and how many nodes of the program were seen in it.
+/// A part that is being written and becomes `..` if it is long: its first column, how many nodes of the program were seen in it, and whether it
+/// stands in a part that is long already.
 #[derive(Clone, Copy)]
 struct Part {
     start: usize,
@@ -47,16 +51,21 @@ pub(crate) struct Strip<'r, 's> {
     pub names: &'r Names<'r, 's>,
     pub way: &'r Way,
     pub spent: &'r Spent,
+    /// The term, as far as it is written.
     pub page: Page,
+    /// The marks in it, from left to right.
     pub notes: Vec<Note>,
+    /// Where what the refused entry names is. None until that is written.
     pub named: Option<Stretch>,
-    /// Whether something stands behind what was written.
+    /// Whether the term goes on behind what was written.
     pub is_cut: bool,
-    /// The variables of the source that is being written.
+    /// The variables that signs of the term bind in the part that is being written.
     pub bound: Vec<u32>,
     /// So many columns are written at most.
     pub most: usize,
+    // What is still to be written, the next task last.
     tasks: Vec<Task>,
+    // The parts that have begun, the innermost last.
     parts: Vec<Part>,
 }
 
@@ -83,7 +92,7 @@ impl Drop for Strip<'_, '_> {
 }
 
 impl<'r, 's> Strip<'r, 's> {
-    /// The term before an entry. Where memory is refused, its page says so.
+    /// Writes the term before an entry. Where memory is refused, its page says so.
     pub(crate) fn new(
         alloc: Global,
         program: &'r Program,
@@ -111,7 +120,7 @@ impl<'r, 's> Strip<'r, 's> {
         };
         match way.top() {
             Some(top) => {
-                // What stands left of the named part is short.
+                // All that is left of the named part is written, since its parts are short; `way_node` sets the limit once the named part begins.
                 strip.most = usize::MAX;
                 strip.push(Task::Way(top, 0));
             }
@@ -121,6 +130,7 @@ impl<'r, 's> Strip<'r, 's> {
         strip
     }
 
+    // Does the tasks until none is left, enough columns are written or memory is refused. There are fewer tasks than the loop has turns.
     fn write(&mut self) {
         for _task in 0..u64::MAX {
             if self.page.len() > self.most {
@@ -134,7 +144,8 @@ impl<'r, 's> Strip<'r, 's> {
         }
     }
 
-    // Writes a part as far as its own parts. One that is left out ends all the same, and binds its names.
+    // Does one task: writes a part and puts tasks for its own parts on the stack. Of a part that is long nothing more is written; but its ends and
+    // the names that it binds are followed, so that the stacks stay in step.
     fn act(&mut self, task: Task) {
         let is_long = self.is_long();
         match task {
@@ -176,14 +187,14 @@ impl<'r, 's> Strip<'r, 's> {
         }
     }
 
-    /// Lets a part wait, which is then written next.
+    /// Puts a task on the stack: it is done next, unless others are put on it.
     pub(crate) fn push(&mut self, task: Task) {
         if self.tasks.push(task).is_err() {
             self.page.refuse();
         }
     }
 
-    // Ends a part: it is left out where it has become long, and so are the notes in it.
+    // Ends the innermost part. If it has become long, it is taken back, with the notes in it, and `..` is written.
     fn close(&mut self, is_long: bool) {
         let Some(part) = self.parts.pop() else {
             return;
@@ -203,7 +214,8 @@ impl<'r, 's> Strip<'r, 's> {
         self.page.say("..");
     }
 
-    // Whether the part that is being written is left out: each node of the program takes a column at least.
+    // Whether the part that is being written is long. Each node of the program takes a column at least, so enough of them make it long before they
+    // are written.
     fn is_long(&self) -> bool {
         match self.parts.last() {
             Some(part) => {
@@ -215,7 +227,7 @@ impl<'r, 's> Strip<'r, 's> {
         }
     }
 
-    /// Lets an operation wait with its parts, in brackets where its place wants a tighter form.
+    /// Puts the tasks of an operation on the stack, what comes last first; in brackets if its sign binds less tightly than is `wanted` at its place.
     pub(crate) fn push_joined(&mut self, sign: Sign, wanted: usize, left: Side, right: Side) {
         let levels = sign.levels();
         let is_inner = levels.own < wanted;
@@ -230,7 +242,7 @@ impl<'r, 's> Strip<'r, 's> {
         }
     }
 
-    // Lets a side wait in which this name is bound.
+    // Puts the tasks of a side on the stack, in which this name is bound.
     fn push_side(&mut self, side: Side, name: Option<u32>) {
         if side.is_part {
             self.push(Task::Close);
@@ -249,7 +261,7 @@ impl<'r, 's> Strip<'r, 's> {
     }
 }
 
-/// A side of an operation, left out where it is a part that is long.
+/// A side of an operation. If it `is_part`, it becomes `..` where it is long.
 #[derive(Clone, Copy)]
 pub(crate) struct Side {
     pub task: Task,

@@ -1,29 +1,32 @@
-//! What is still to be written of a term.
+//! What is still to be written of a term. `Strip` keeps these tasks on a stack, the next one on top, so that writing a term doesn't recur.
 
 use crate::sign::Sign;
 use orc_rules::param::Operand;
 
-/// A part of a term that is still to be written. Where a part has to bind tightly, its level says how.
+/// A part of a term that is still to be written, or what is done between parts. A level is how tightly a part has to bind to stand there without
+/// brackets (`Sign::levels`), from 0, with which it never gets any.
 #[derive(Clone, Copy)]
 pub(crate) enum Task {
-    /// A node of the marked term.
+    /// The node of the marked term with this number; its level.
     Node(usize, usize),
-    /// The node of that place on the way, where the named one is 0.
+    /// The node at this place of the way, where the named one is at 0; its level.
     Way(usize, usize),
-    /// A node of the program in a scope.
+    /// The node of the program with this number, in a scope; its level.
     Source(usize, usize, usize),
     /// An argument in a scope.
     Operand(Operand, usize),
+    /// The sign between two parts.
     Sign(Sign),
+    /// These words.
     Say(&'static str),
-    /// A part begins that is left out where it is long.
+    /// A part begins that becomes `..` where it is long.
     Open,
     /// That part ends.
     Close,
-    /// What is named ends, which began in that column.
+    /// What the refused entry names ends here; it began in this column.
     Underline(usize),
-    /// From here on a name is a variable of the term's own.
+    /// From here on a name is a variable that a sign in the term binds, so it is written as such and not looked up in a scope.
     Bind(u32),
-    /// The name bound last is none any more.
+    /// Here ends what the name is bound in that was bound last.
     Unbind,
 }

@@ -1,4 +1,7 @@
-//! The parts of a marked term and of its sources.
+//! What is written of each node of a marked term, and of each node of the program that isn't begun yet.
+//!
+//! A node of the marked term has begun; what a token still has to do, and the right sides of `>x>` and of `;`, are nodes of the program, in a scope
+//! that says what their names mean. `wanted` is how tightly a part has to bind to need no brackets.
 
 use crate::sign::Sign;
 use crate::strip::{AHEAD, Note, Side, Strip};
@@ -10,7 +13,7 @@ use orc_rules::param::{Operand, Param};
 use orc_rules::program::TermNode;
 use orc_term::arena::{Double, Kind, Single, Tip};
 
-/// A call, with the expressions that stand as its arguments, by their places.
+/// A call, with the nodes of the expressions that the source has as its arguments, by their places; None where it has a literal or a name.
 #[derive(Clone, Copy)]
 struct Called {
     node: TermNode,
@@ -18,11 +21,11 @@ struct Called {
 }
 
 impl<'r, 's> Strip<'r, 's> {
-    /// Writes a node of the way: the named one, or one above it.
+    /// Writes the node at a place of the way: the named one, at 0, or one above it.
     pub(crate) fn way_node(&mut self, at: usize, wanted: usize) {
         if let Some(node) = self.way.node(at) {
             if at == 0 {
-                // From here on the line goes on for so long that all that is shown is written.
+                // From here on so many columns are written that all that can be shown is among them.
                 let start = self.page.len();
                 self.most = start.saturating_add(AHEAD);
                 self.push(Task::Underline(start));
@@ -31,7 +34,7 @@ impl<'r, 's> Strip<'r, 's> {
         }
     }
 
-    /// Writes a node off the way. A part that has halted is `stop`.
+    /// Writes a node off the way. A part that has halted, and in which no token stands, is `stop`.
     pub(crate) fn node(&mut self, at: usize, wanted: usize) {
         if self.spent.is_spent(&self.replay.marked, at) {
             self.page.say("stop");
@@ -40,7 +43,7 @@ impl<'r, 's> Strip<'r, 's> {
         }
     }
 
-    // Whether a part of a node is the one of this place on the way.
+    // Whether a part of a node is the node at place `below` of the way.
     fn is_on_way(&self, part: u32, below: Option<usize>) -> bool {
         match below {
             Some(place) => self.way.node(place) == Some(part as usize),
@@ -48,7 +51,7 @@ impl<'r, 's> Strip<'r, 's> {
         }
     }
 
-    // A part of a node, whose own part on the way is the one of this place.
+    // The task for a part of a node. `below` is the place on the way of that node's own part, None for a node off the way and for the named one.
     fn part(&self, part: u32, level: usize, below: Option<usize>) -> Side {
         match below {
             Some(place) if self.is_on_way(part, below) => Side {
@@ -62,7 +65,7 @@ impl<'r, 's> Strip<'r, 's> {
         }
     }
 
-    // Writes the parts of a node, whose own part on the way is the one of this place.
+    // Puts the tasks for the parts of a node on the stack, or writes it if it has none. `below` is as in `part`.
     fn parts_of(&mut self, at: usize, wanted: usize, below: Option<usize>) {
         let kind = match self.replay.marked.nodes().get(at) {
             Some(slot) => slot.node().kind,
@@ -70,10 +73,11 @@ impl<'r, 's> Strip<'r, 's> {
         };
         let (sign, left, right, scope) = match kind {
             Kind::Leaf(tip) => return self.tip(tip, wanted),
+            // An otherwise that has published is its left side.
             Kind::One(Single::Passed, part) => return self.push(
                 self.part(part, wanted, below).task,
             ),
-            // Of the sides of a `|` one that has halted is left out.
+            // Beside a `|` a side is left out that has halted.
             Kind::Two(Double::Both, left, right) if self.is_left_out(left, below) => {
                 return self.push(self.part(right, wanted, below).task);
             }
@@ -106,6 +110,7 @@ impl<'r, 's> Strip<'r, 's> {
         !self.is_on_way(part, below) && self.spent.is_spent(&self.replay.marked, part as usize)
     }
 
+    // Writes a node without parts. The number of a token's mark is noted for the line below.
     fn tip(&mut self, tip: Tip, wanted: usize) {
         if let Tip::Token(mark, _, _) | Tip::Bears(mark, _) = tip {
             let column = self.page.len();
@@ -119,7 +124,7 @@ impl<'r, 's> Strip<'r, 's> {
                 self.push(Task::Source(node as usize, scope as usize, wanted));
             }
             Tip::Bears(_, value) => self.page.value(value),
-            // A call that is out.
+            // A pending call, as `?1:Fast(7)`.
             Tip::Waits(call) => {
                 self.page.tell("?%:", &[Fill::Number(call)]);
                 if let Some(Entry::Call(_, _, site, args)) = self.replay.call(self.journal, call) {
@@ -142,6 +147,7 @@ impl<'r, 's> Strip<'r, 's> {
             TermNode::Prune(left, name, right) => (Sign::Prune(name), left, right),
             TermNode::Other(left, right) => (Sign::Other, left, right),
             TermNode::Operand(operand) => return self.operand(operand, scope),
+            // `called` took the calls.
             TermNode::Stop | TermNode::Site(_, _) | TermNode::Call(_, _) => {
                 return self.page.say("stop");
             }
@@ -158,8 +164,9 @@ impl<'r, 's> Strip<'r, 's> {
         self.push_joined(sign, wanted, left, right);
     }
 
-    // The call that a node is, with the prunings of its arguments round it: the first argument's is the innermost, and each of them is that of the
-    // operand at its place.
+    // The call that a node was in the source, where its arguments were no prunings yet: a call, or one with the prunings of its arguments round it.
+    // The first argument's is the innermost, so their places fall from the outside in (`room`), and each has the variable that stands at its place in
+    // the call. None where the node is anything else.
     fn called(&self, node: usize) -> Option<Called> {
         let mut given = [None; MOST_ARGUMENTS];
         let mut at = node;
@@ -194,6 +201,7 @@ impl<'r, 's> Strip<'r, 's> {
         None
     }
 
+    // Puts the tasks for a call's arguments on the stack, the last one first, and writes its name.
     fn call(&mut self, called: Called, scope: usize) {
         let (name, list) = match called.node {
             TermNode::Site(site, list) => (self.names.site(site), list),
@@ -215,7 +223,7 @@ impl<'r, 's> Strip<'r, 's> {
         }
     }
 
-    /// Writes an argument in a scope: what is put for it.
+    /// Writes what an argument means in a scope: a value, a cell or void; or a variable, where the term itself binds it.
     pub(crate) fn operand(&mut self, operand: Operand, scope: usize) {
         match operand {
             Operand::Name(name) if self.bound.contains(&name) => {

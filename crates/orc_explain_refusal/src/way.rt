@@ -1,4 +1,5 @@
-//! The way down a marked term to the part that an entry names.
+//! The way from the part of a marked term that an entry names up to the whole. Parts on the way are shown whole; those beside it are cut where they
+//! are long, and what is above it isn't shown.
 
 use crate::named::{Named, place_of};
 use crate::spent::Spent;
@@ -7,20 +8,20 @@ use orc_rules::entry::{Entry, RuleFault};
 use orc_term::arena::{Double, Kind, Node, Single};
 use std::alloc::{AllocError, Global};
 
-/// So many levels above the named part are shown at most.
+/// So many levels above the named part are shown at most. A node for which nothing is written is no level.
 const LEVELS: usize = 12;
 
-/// The nodes from the named part upward as far as they are shown, none where nothing is named.
+/// The numbers of the nodes from the named part, at place 0, upwards as far as they are shown; none where no part of the term is named.
 #[derive(Drop)]
 pub(crate) struct Way {
     nodes: Vec<usize>,
-    /// What stands behind the carets: words, and the number that fills them.
+    /// What stands behind the carets: words, and the number that fills them. None for a side that hasn't halted, which the entry's line explains.
     pub label: Option<(&'static str, u64)>,
-    /// Whether nodes above it aren't shown.
+    /// Whether there are nodes above it that aren't shown.
     pub is_inner: bool,
 }
 
-// The side that an entry says has halted.
+// The node of the side of which a `lost` or a `right` says that it has halted. None for other entries, or where there is no such side.
 fn side_of(marked: &Marked, entry: &Entry) -> Option<usize> {
     let named = match entry {
         Entry::Lost(cell) => Named::Cell(*cell),
@@ -35,7 +36,7 @@ fn side_of(marked: &Marked, entry: &Entry) -> Option<usize> {
     }
 }
 
-// Whether nothing is written for a node but one of its parts.
+// Whether a node is written as its part on the way alone: an otherwise that has published, or a `|` whose other side is spent.
 fn is_silent(marked: &Marked, spent: &Spent, above: Node, part: usize) -> bool {
     match above.kind {
         Kind::One(Single::Passed, _) => true,
@@ -48,7 +49,8 @@ fn is_silent(marked: &Marked, spent: &Spent, above: Node, part: usize) -> bool {
 }
 
 impl Way {
-    /// The way to what a refused entry names. The error is refused memory.
+    /// The way from what a refused entry names: from its token or its call, or, for a side that hasn't halted, from that side. The error is refused
+    /// memory.
     pub(crate) fn new(
         alloc: Global,
         marked: &Marked,
@@ -78,6 +80,7 @@ impl Way {
         Ok(way)
     }
 
+    // Notes the nodes from a place up to the whole, or to the highest level that is shown. The error is refused memory.
     fn climb(&mut self, marked: &Marked, spent: &Spent, from: usize) -> Result<(), AllocError> {
         let mut place = from;
         let mut levels: usize = 0;
@@ -106,17 +109,17 @@ impl Way {
         Ok(())
     }
 
-    /// Whether a part is named, so that the others are shortened.
+    /// Whether a part is named, so that long parts beside the way are cut.
     pub(crate) fn is_short(&self) -> bool {
         !self.nodes.is_empty()
     }
 
-    /// The place of the highest node that is shown. None where nothing is named.
+    /// The place on the way of the highest node that is shown. None where nothing is named.
     pub(crate) fn top(&self) -> Option<usize> {
         self.nodes.len().checked_sub(1)
     }
 
-    /// The node of that place, where the named one is 0.
+    /// The number of the node at this place of the way, where the named one is at 0.
     pub(crate) fn node(&self, place: usize) -> Option<usize> {
         self.nodes.get(place).copied()
     }
