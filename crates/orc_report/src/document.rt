@@ -1,8 +1,8 @@
-//! The texts that a page shows.
+//! A file's name and its text, of which a page shows lines.
 
 use orc_lex::token::Span;
 
-/// A file as the command line names it, and what was read of it.
+/// A file: what an explanation calls it, and its bytes.
 #[derive(Clone, Copy)]
 pub struct Document<'a> {
     pub name: &'a str,
@@ -10,13 +10,13 @@ pub struct Document<'a> {
 }
 
 impl<'a> Document<'a> {
-    /// The bytes of a part of the text, none where it has no such part.
+    /// The bytes of a part of the text; empty where the text has no such part.
     pub fn part(&self, span: Span) -> &'a [u8] {
         let part = self.text.get(span.start..span.end);
         part.unwrap_or(b"")
     }
 
-    /// Where the line of this number stands, without its LF; the end of the text where there are fewer lines.
+    /// The bytes of the line with this number, from 1, without its LF; an empty span at the text's end where there are fewer lines.
     pub fn line(&self, number: usize) -> Span {
         let mut line: usize = 1;
         let mut start: usize = 0;

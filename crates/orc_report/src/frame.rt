@@ -1,4 +1,13 @@
-//! A line of a text, with carets under a part of it.
+//! A line of a text, with carets under a part of it:
+//!
+//! ```text
+//!  --> FILE, line 2, column 8
+//!   |
+//! 2 | f(1) | f(1, 2)
+//!   |        ^
+//! ```
+//!
+//! The bar `|` stands behind the gutter, which is as wide as the line's number. Columns are characters.
 
 ghost use Rattle.std.specs.Prelude.{◌≤◌, ◌<◌, ◌^◌, ◌-◌};
 
@@ -10,10 +19,10 @@ use orc_lex::token::Span;
 /// How many columns of a line are shown.
 const SHOWN: u64 = 100;
 
-/// How many columns before a place are shown at most.
+/// How many columns before the place that is pointed at are shown at most.
 const BEFORE: u64 = 60;
 
-// The line that begins there, without the blanks at its end.
+// The line that begins at this byte, without its LF and the blanks at its end.
 fn line_from(text: &[u8], start: usize) -> &[u8] {
     let rest = text.get(start..).unwrap_or(b"");
     let end = match rest.iter().position(|byte| *byte == b'\n') {
@@ -24,11 +33,12 @@ fn line_from(text: &[u8], start: usize) -> &[u8] {
     line.trim_ascii_end()
 }
 
+// A blank within a line.
 fn is_blank(byte: u8) -> bool {
     matches!(byte, b' ' | b'\t' | b'\r')
 }
 
-/// How many columns of a line are left out in front, where a place of this column is shown.
+/// How many columns of a line are left out in front where a place at this column, from 1, is shown with at most 60 columns before it.
 pub fn left_out(column: u64) -> u64 {
     column.saturating_sub(BEFORE).saturating_sub(1)
 }
@@ -46,37 +56,37 @@ pub fn digits(number: u64) -> u64
 }
 
 impl Page {
-    /// A line without a number: what stands left of the bar is as wide as the numbers are.
+    /// Writes the beginning of a line without a number: blanks as wide as the numbers are, and the bar.
     pub fn margin(&mut self) {
         self.inset();
         self.say(" |");
     }
 
-    /// As many blanks as the numbers are wide.
+    /// Writes as many blanks as the numbers at the left are wide.
     pub fn inset(&mut self) {
         self.fill(' ', self.gutter);
     }
 
-    /// The numbers that stand at the left are as wide as this one from now on.
+    /// Makes room at the left for numbers as wide as this one. It is to be the greatest that is shown.
     pub fn widen(&mut self, number: u64) {
         self.gutter = digits(number);
     }
 
-    /// `line L` of a place of a text.
+    /// Writes `line L` of the byte at `at`, from 0, or of the text's end where there are fewer bytes.
     pub fn line(&mut self, text: &[u8], at: usize) {
         let place = place_of(text, at.min(text.len()));
         self.say_number("line ", place.line as u64, "");
     }
 
-    /// `line L, column C` of a place of a text.
+    /// Writes `line L, column C` of the byte at `at`, from 0, or of the text's end where there are fewer bytes.
     pub fn place(&mut self, text: &[u8], at: usize) {
         let place = place_of(text, at.min(text.len()));
         self.say_number("line ", place.line as u64, "");
         self.say_number(", column ", place.column as u64, "");
     }
 
-    // The columns of a line behind the first so many, after a blank. What begins at the place is a column, whatever it is. No blank is written
-    // before something follows it.
+    // Writes a blank and the columns of a line behind the first so many, or ` ..` in place of those. The byte at the place is a column of its own,
+    // even in the middle of a character: a fault may be there. Blanks are written only once something follows them, so no line ends with one.
     fn columns(&mut self, line: &[u8], first: u64, place: usize) {
         let mut blanks: u64 = 1;
         if first > 0 {
@@ -105,7 +115,8 @@ impl Page {
         }
     }
 
-    /// A line with its number: 100 of its columns, the first so many left out. What begins at the place, a byte of the line, is a column.
+    /// Writes a line with its number: at most 100 of its columns, behind the `first` ones, which are left out. The byte of the line at `place` is a
+    /// column of its own, even where no character begins.
     pub fn row(&mut self, number: u64, line: &[u8], first: u64, place: usize) {
         self.fill(' ', self.gutter.saturating_sub(digits(number)));
         self.number(number);
@@ -114,10 +125,12 @@ impl Page {
         self.say("\n");
     }
 
-    /// Carets under a part of a line, at least one, where the first so many of its columns are left out. What is said next stands behind them.
+    /// Writes carets under a part of the line that `row` has shown without its `first` columns, at least one. `part` counts the bytes of the line,
+    /// and may lie behind its end. What is said next stands behind the carets.
     pub fn carets(&mut self, line: &[u8], first: u64, part: Span) {
         self.margin();
         self.say(" ");
+        // Below the `..` of a line that is cut in front.
         if first > 0 {
             self.say("  ");
         }
@@ -133,7 +146,8 @@ impl Page {
         self.say(" ");
     }
 
-    /// Shows the line in which a span begins, with carets under it. What is said next stands behind the carets.
+    /// Shows the line in which a span of a document begins, below the document's name, with carets under as much of the span as is in that line. What
+    /// is said next stands behind the carets.
     pub fn point(&mut self, document: &Document, span: Span) {
         let text = document.text;
         let at = span.start.min(text.len());

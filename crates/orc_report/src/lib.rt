@@ -1,8 +1,12 @@
 //! A text for people that is written piece by piece, with the lines of other texts in it and carets under their places.
 //!
-//! A `Page` notes a refused memory and writes no more, so that a text of a hundred pieces has one exit. It shows a `Document` line by line, in
-//! ASCII: 100 columns of a line at most, with what is meant underlined. A sentence is written with what fills its places. Lines and columns of a place are told by `place_of`. The documents that a
-//! command line names are its `Subject`. A longer line than fits is shown by a `Window`.
+//! A `Page` notes that memory was refused and writes no more, so that a text of a hundred pieces has one exit. It shows a line of a `Document` in
+//! ASCII, 100 columns of it at most, with carets under what is meant. `Page::tell` writes a sentence and what fills its places. `place_of` gives the
+//! line and the column of a byte. The documents that a command line names are its `Subject`. A `Window` says which columns of a long line are shown,
+//! and `Near` finds the name that may have been meant.
+//!
+//! No promise of a run rests on this crate, so most of it is written to need few proofs: sums saturate, and a look-up of what isn't there gives a
+//! default.
 #![tactic(auto)]
 
 mod document;

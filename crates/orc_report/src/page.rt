@@ -1,4 +1,4 @@
-//! A text that is written piece by piece.
+//! A text that is written piece by piece. Its methods write at its end what their comments name.
 
 ghost use Rattle.std.specs.Prelude.{◌≡◌, true, false};
 
@@ -9,17 +9,17 @@ use std::fmt;
 /// The longest word that is shown whole, in bytes.
 const LONGEST_WORD: usize = 100;
 
-/// A text. Where memory is refused nothing more is written, and the text isn't given out.
+/// A text that is being written. Once memory for a piece is refused, nothing more is written, and `finish` answers that error.
 #[derive(Drop)]
 pub struct Page {
     text: String,
     is_refused: bool,
-    /// How wide the numbers of the lines are that stand at the left.
+    /// How many columns the numbers of lines take that stand at the left.
     pub(crate) gutter: u64,
 }
 
 impl Page {
-    /// No text.
+    /// An empty text.
     pub fn new(alloc: Global) -> Page {
         Page {
             text: String::new(alloc),
@@ -28,7 +28,7 @@ impl Page {
         }
     }
 
-    /// The text. The error is that memory for a part of it was refused.
+    /// The whole text. The error is that memory for a part of it was refused.
     pub fn finish(self) -> Result<String, AllocError> {
         let Page {
             text,
@@ -42,17 +42,17 @@ impl Page {
         }
     }
 
-    /// What has been written.
+    /// What has been written so far.
     pub fn as_str(&self) -> &str {
         self.text.as_str()
     }
 
-    /// How many bytes have been written. Each is a column, since all is ASCII.
+    /// How many bytes have been written. Each is a column as long as all that was said is ASCII.
     pub fn len(&self) -> usize {
         self.text.len()
     }
 
-    /// Takes back what stands behind that many bytes.
+    /// Takes back what stands behind the first `len` bytes; nothing where there are no more.
     pub fn truncate(&mut self, len: usize) {
         for _byte in len..self.text.len() {
             if self.text.len() > len {
@@ -68,7 +68,7 @@ impl Page {
         }
     }
 
-    /// Where memory for a part of another text was refused, this one isn't given out either.
+    /// Counts memory that was refused to another text as refused to this one, which is to hold it.
     pub fn heed(&mut self, other: &Page)
         ensures refused { other.now.is_refused ≡ true → self.new.is_refused ≡ true }
         ensures kept { other.now.is_refused ≡ false → self.new ≡ self.old }
@@ -78,7 +78,7 @@ impl Page {
         }
     }
 
-    /// Where memory for what belongs into this text was refused, it isn't given out.
+    /// Notes that memory was refused for what belongs into this text: nothing more is written, and it isn't given out.
     pub fn refuse(&mut self)
         ensures { self.new.is_refused ≡ true }
     {
@@ -92,13 +92,14 @@ impl Page {
         self.is_refused
     }
 
-    /// A sign as it stands.
+    /// One character as it stands.
     pub fn sign(&mut self, sign: char) {
         if !self.is_refused {
             self.is_refused = self.text.push(sign).is_err();
         }
     }
 
+    // An item as `Display` writes it.
     fn print<T: fmt::Display + Drop>(&mut self, item: T) {
         if !self.is_refused {
             self.is_refused = write!(self.text, "{item}").is_err();
@@ -151,14 +152,14 @@ impl Page {
         self.say(")");
     }
 
-    /// The number of a character, as Unicode writes it.
+    /// The number of a character in hexadecimal with four digits at least, as Unicode writes it behind `U+`.
     pub fn code(&mut self, code: u32) {
         if !self.is_refused {
             self.is_refused = write!(self.text, "{code:04X}").is_err();
         }
     }
 
-    /// The same sign so many times.
+    /// One character so many times.
     pub fn fill(&mut self, sign: char, times: u64) {
         for _time in 0..times {
             self.sign(sign);
@@ -192,7 +193,7 @@ impl Page {
         self.say(behind);
     }
 
-    /// The name of a file.
+    /// The name of a file; what isn't printable ASCII is a `?`.
     pub fn path(&mut self, path: &str) {
         for sign in path.chars() {
             let is_shown = sign.is_ascii() && !sign.is_ascii_control();
@@ -200,7 +201,7 @@ impl Page {
         }
     }
 
-    /// A number of things: their name takes an `s` but for one of them.
+    /// A number of things, `1 call` or `2 calls`: their name takes an `s` but for one of them.
     pub fn count(&mut self, number: u64, name: &str) {
         self.number(number);
         self.say(" ");
@@ -210,21 +211,21 @@ impl Page {
         }
     }
 
-    /// A line of its own below what was shown.
+    /// The beginning of a line ` = ` below what was shown. The caller ends the line.
     pub fn note(&mut self, text: &str) {
         self.inset();
         self.say(" = ");
         self.say(text);
     }
 
-    /// Such a line that says what to do.
+    /// A whole line ` = help: ` that says what to do.
     pub fn help(&mut self, text: &str) {
         self.note("help: ");
         self.say(text);
         self.say("\n");
     }
 
-    /// Such a line that says what may stand there.
+    /// A whole line ` = expected: ` that says what may stand there.
     pub fn expected(&mut self, text: &str) {
         self.note("expected: ");
         self.say(text);

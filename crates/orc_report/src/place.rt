@@ -1,4 +1,4 @@
-//! Lines and columns.
+//! The line and the column of a byte of a text.
 
 ghost use Rattle.std.specs.Prelude.{◌≡◌, ◌≢◌, ℕ, ◌+◌, ◌-◌, ◌<◌, ◌≤◌, length, slice_index, slice_range};
 ghost use Rattle.std.specs.List.{count_by};
@@ -11,11 +11,11 @@ pub struct Place {
     pub line: usize,
     /// Its column in characters, counted from 1.
     pub column: usize,
-    /// The place of its line's first byte.
+    /// Where its line's first byte stands in the text, counted from 0.
     pub start: usize,
 }
 
-/// Whether a byte of UTF-8 begins a character.
+/// Whether a byte of UTF-8 begins a character. Each further byte of a character is from 128 to 191.
 pub fn begins_character(byte: u8) -> bool
     ensures { result ≡ begins_character byte }
 {
@@ -62,8 +62,8 @@ pub(crate) fn characters(bytes: &[u8]) -> usize
     count
 }
 
-/// The line and the column of a byte of a text, or of the text's end. Lines end with LF. Columns count the characters of UTF-8 that begin
-/// before the byte in its line.
+/// The line and the column, both from 1, of the byte at `at`, from 0, or of the text's end. Lines end with LF. The column is one more than the number
+/// of characters of UTF-8 that begin before the byte in its line.
 pub fn place_of(text: &[u8], at: usize) -> Place
     requires { at ≤ length text.now }
     ensures line { result.line ≡ 1 + count_by is_line_feed (slice_range text.now 0 at) }

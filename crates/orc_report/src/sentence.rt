@@ -1,4 +1,4 @@
-//! Sentences as data: words with places to fill.
+//! Sentences as data, so that they can be in a table: words with places to fill.
 
 use crate::page::Page;
 use orc_rules::value::Value;
@@ -8,7 +8,7 @@ use orc_rules::value::Value;
 pub enum Fill<'a> {
     /// Words as they stand.
     Text(&'a str),
-    /// A word of a text, as far as a page shows it.
+    /// A word of a text, of which at most 100 bytes are shown.
     Word(&'a [u8]),
     /// The name of a file.
     Path(&'a str),
@@ -20,14 +20,15 @@ pub enum Fill<'a> {
     Value(Value),
     /// A call's values in their brackets.
     Values(&'a [Value]),
-    /// `line L, column C` of a place of a text.
+    /// `line L, column C` of this byte of a text, from 0.
     Place(&'a [u8], usize),
-    /// `line L` of a place of a text.
+    /// `line L` of this byte of a text, from 0.
     Line(&'a [u8], usize),
 }
 
 impl Page {
-    /// A sentence in ASCII, in which each `%` is the next of what fills it.
+    /// Writes a sentence in ASCII, with the next fill in place of each `%`. A `%` without a fill is left out, and so is a fill
+    /// without a `%`.
     pub fn tell(&mut self, sentence: &str, fills: &[Fill]) {
         let mut next: usize = 0;
         for byte in sentence.as_bytes() {
@@ -51,7 +52,7 @@ impl Page {
         }
     }
 
-    /// Such a sentence as a line of its own below what was shown.
+    /// Writes a sentence as `tell` does, as a whole line ` = ` below what was shown.
     pub fn remark(&mut self, sentence: &str, fills: &[Fill]) {
         self.note("");
         self.tell(sentence, fills);

@@ -1,4 +1,4 @@
-//! What a command line names.
+//! The files that a command line names, with what was read of them.
 
 ghost use Rattle.std.specs.Prelude.{◌≡◌};
 
@@ -10,12 +10,12 @@ pub struct Subject<'a> {
     pub source: Document<'a>,
     /// None where no script was given.
     pub script: Option<Document<'a>>,
-    /// None where the command takes no journal.
+    /// None where the command line names no journal.
     pub journal: Option<Document<'a>>,
 }
 
 impl<'a> Subject<'a> {
-    /// A program's file alone.
+    /// A program's file alone, without a script and a journal.
     pub fn of_source(name: &'a str, text: &'a [u8]) -> Subject<'a>
         ensures name { result.source.name.now ≡ name.now }
         ensures text { result.source.text.now ≡ text.now }

@@ -1,4 +1,4 @@
-//! The name that may have been meant.
+//! The name that may have been meant, among those that exist, by how few edits lead to it.
 
 ghost use Rattle.std.specs.Prelude.{◌≤◌};
 
@@ -6,18 +6,18 @@ use std::alloc::{AllocError, Global};
 use std::marker::Model;
 use strsim::osa_distance;
 
-/// Longer names are compared with nothing.
+/// The longest name, in bytes, for which another one is looked for.
 const LONGEST: usize = 64;
 
-/// A name from which on two edits are few.
+/// A name of at least so many bytes may be two edits away from the one that was meant; a shorter one, one edit.
 const LONG: usize = 6;
 
-/// The search for the nearest of some names.
+/// The search for the nearest of some names. They are shown to it one by one; the last one that it takes is the nearest.
 #[derive(Drop)]
 pub struct Near<'n> {
     alloc: Global,
     name: &'n [u8],
-    // The most edits of a name that is to be taken.
+    // A name is taken only if it is at most so many edits away. Each one that is taken lowers it.
     most: usize,
     // Whether a name that differs in capitals alone may still be taken.
     is_open: bool,
@@ -33,7 +33,7 @@ impl<'n> Model for Near<'n> {
     ghost view = { λ n. n.most };
 }
 
-// Whether two names differ in capitals alone.
+// Whether two names are the same but for capital letters.
 fn are_alike(a: &[u8], b: &[u8]) -> bool {
     a.len() == b.len()
         && a.iter()
@@ -51,8 +51,8 @@ fn edits(alloc: Global, a: &[u8], b: &[u8]) -> Result<Option<usize>, AllocError>
 }
 
 impl<'n> Near<'n> {
-    /// Nothing yet for this name. What is taken is two edits away at most, or one where the name has under six bytes, and none where it has one. Nothing
-    /// is near a name of over 64 bytes.
+    /// Begins the search for what this name may have meant. It takes a name at most two edits away; one where `name` has 2 to 5 bytes; none where it
+    /// has one byte. Nothing is near a name of over 64 bytes.
     pub fn new(alloc: Global, name: &'n [u8]) -> Near<'n>
         ensures { result ≤ 2 }
     {
@@ -70,12 +70,13 @@ impl<'n> Near<'n> {
         }
     }
 
-    /// Whether memory was refused: then none is taken any more.
+    /// Whether memory was refused to the search, which takes nothing more then.
     pub fn is_refused(&self) -> bool {
         self.is_refused
     }
 
-    /// Whether one more name is nearer than those before, and near enough. One that differs in capitals alone is the nearest.
+    /// Shows one more name to the search: whether it takes it, being near enough and nearer than those before. One that differs in capitals alone is
+    /// the nearest, and the last one taken. It takes nothing where memory is refused.
     pub fn takes(&mut self, candidate: &[u8]) -> bool
         ensures { self.new ≤ self.old }
     {
@@ -86,6 +87,7 @@ impl<'n> Near<'n> {
             self.is_open = false;
             return true;
         }
+        // Each edit changes the length by one at most, so such a name needn't be compared.
         if self.most == 0 || self.name.len().abs_diff(candidate.len()) > self.most {
             return false;
         }

@@ -1,29 +1,30 @@
-//! The part of a long line that is shown.
+//! Which columns of a long line are shown.
 
 ghost use Rattle.std.specs.Prelude.{◌≤◌, ◌+◌};
 
-/// A longer line isn't shown whole, in columns.
+/// The longest line that is shown whole, in columns.
 const LONGEST: usize = 76;
 
-/// What is shown of a longer line.
+/// How many columns are shown of a longer line.
 const SHOWN: usize = 70;
 
-/// What is shown of it before what is named, at most.
+/// How many columns are shown at most before what is named, which stands near the middle then.
 const BEFORE: usize = 34;
 
-/// The columns of a line that are shown, from `first` on and before `end`.
+/// The columns of a line that are shown, counted from 0: from `first` on and before `end`.
 #[derive(Clone, Copy)]
 pub struct Window {
     pub first: usize,
     pub end: usize,
-    /// Whether something stands before it, and behind it.
+    /// Whether something that isn't shown stands before them, and behind them.
     pub is_front_cut: bool,
     pub is_end_cut: bool,
 }
 
 impl Window {
-    /// What is shown of a line of `len` columns, 76 of them at most: all, or some round the column at which what is `named` begins. Something stands behind
-    /// the line where it `is_cut`, and on both sides of it where it `is_inner`.
+    /// Which columns are shown of a line of `len` columns, 76 of them at most: all, or some round the column `named`, from 0, at which what the
+    /// reader is to look at begins, or the first ones where it is None. `is_cut` says that the line goes on behind its `len` columns; `is_inner` that
+    /// it is a part from the middle of a text, which goes on at both sides.
     pub fn of(len: usize, named: Option<usize>, is_cut: bool, is_inner: bool) -> Window
         ensures { result.end ≤ result.first + 76 }
     {
