@@ -1,4 +1,7 @@
 //! A program's tree as numbered spots, in which each expression argument is a pruning round its call.
+//!
+//! A spot is the number, from 0, of a part of the program: of a node of its tree, or of the pruning that an argument is written out as. The parser
+//! lists the nodes of an expression with each operator behind its parts, so that a stack of pending parts is all that is needed to read them.
 
 use orc_lex::token::{Plain, Span};
 use orc_syntax::{Ast, Expr, Name, Node, Operator, Part};
@@ -19,18 +22,21 @@ pub enum Purpose<'a> {
 /// What stands at a spot, with the spots of its parts.
 #[derive(Clone, Copy)]
 pub enum Shape<'a> {
-    /// `stop`, a value or a variable.
+    /// `stop`, a value or a variable. It has no parts.
     Leaf,
-    /// A call, with the definition of its name where there is one.
+    /// A call, with the place, from 0, of the definition of its name where there is one. None is a site.
     Call(Option<usize>),
+    /// The spots of the left and the right side of a `|`.
     Par(usize, usize),
+    /// The left and the right side of a `>x>`.
     Seq(usize, usize),
+    /// The left and the right side of a `<x<`, a `val` or an argument, and what the right side's value is for.
     Prune(usize, usize, Purpose<'a>),
-    /// An otherwise, with the place of its left side in the source.
+    /// The left and the right side of a `;`, and the place of the left one in the source.
     Other(usize, usize, Span),
 }
 
-// A part that its whole is still to take.
+// A part that was read, and that the operator, the call or the `val` which it belongs to hasn't taken yet.
 #[derive(Clone, Copy)]
 struct Pending {
     spot: usize,
@@ -39,8 +45,10 @@ struct Pending {
     is_simple: bool,
 }
 
+/// The span of a spot that there isn't.
 const NOWHERE: Span = Span { start: 0, end: 0 };
 
+/// What is taken where nothing is pending, which a parsed program never does.
 const NO_PART: Pending = Pending {
     spot: 0,
     span: NOWHERE,
@@ -52,11 +60,15 @@ pub struct Sketch<'a> {
     shapes: Vec<Shape<'a>>,
     // Where each of them stands in the source.
     spans: Vec<Span>,
+    // The places of the definitions by their names.
     definitions: HashMap<&'a [u8], usize>,
+    // The spots of the definitions' bodies, and last that of the main expression.
     bodies: Vec<usize>,
+    // The parts that nothing has taken yet, the last one on top. Empty once the program is read.
     pending: Vec<Pending>,
 }
 
+// Written out, so that a caller's proof sees one call and not the drop of each field.
 impl Drop for Sketch<'_> {
     fn drop(self) {
         let Sketch {
@@ -88,13 +100,14 @@ impl<'a> Sketch<'a> {
         self.shapes.get(spot).copied().unwrap_or(Shape::Leaf)
     }
 
-    /// The bytes of the source in which what stands at a spot is written, brackets round the whole aside; of the pruning of an argument, those of its call.
-    /// None at all where there is no such spot.
+    /// The bytes of the source in which what stands at a spot is written, brackets round the whole aside; of the pruning of an argument, those of its
+    /// call. An empty span where there is no such spot.
     pub fn span(&self, spot: usize) -> Span {
         self.spans.get(spot).copied().unwrap_or(NOWHERE)
     }
 
-    /// The spot of a definition's body; behind the last definition stands the main expression.
+    /// The spot of the body of the definition at this place, from 0; that of the main expression at the place behind the last definition; 0 behind
+    /// that.
     pub fn body(&self, definition: usize) -> usize {
         self.bodies.get(definition).copied().unwrap_or(0)
     }
@@ -104,6 +117,7 @@ impl<'a> Sketch<'a> {
         self.bodies.last().copied().unwrap_or(0)
     }
 
+    // The definitions' names come first, since a body may call a later definition.
     fn read(&mut self, ast: &Ast<'a>) -> Result<(), AllocError> {
         for (i, definition) in ast.definitions.iter().enumerate() {
             self.definitions.insert(definition.name.text, i)?;
@@ -114,6 +128,7 @@ impl<'a> Sketch<'a> {
         self.read_expression(&ast.main)
     }
 
+    // Reads an expression, after which its whole alone is pending.
     fn read_expression(&mut self, expression: &Expr<'a>) -> Result<(), AllocError> {
         for node in &expression.nodes {
             self.read_node(*node)?;
@@ -123,8 +138,10 @@ impl<'a> Sketch<'a> {
         Ok(())
     }
 
+    // Reads a node, whose parts are pending, the last one on top: the right side is taken before the left.
     fn read_node(&mut self, node: Node<'a>) -> Result<(), AllocError> {
         match node.part {
+            // A `stop` is no simple argument: it is written out as the right side of a pruning.
             Part::Plain(Plain::Stop) => self.put(Shape::Leaf, node.span, false),
             Part::Plain(_) | Part::Variable(_) => self.put(Shape::Leaf, node.span, true),
             Part::Call(name, count) => self.read_call(name, count, node.span),
@@ -168,7 +185,8 @@ impl<'a> Sketch<'a> {
         Ok(())
     }
 
-    // The pruning of an argument, from 0, round a call whose arguments begin there among the parts; that very call where the argument is simple.
+    // The spot of the pruning of an argument, by its place from 0, round `call`; that of `call` itself where the argument is simple. `first` is where
+    // the call's arguments begin among the pending parts.
     fn wrap(
         &mut self,
         call: usize,
@@ -186,6 +204,7 @@ impl<'a> Sketch<'a> {
         }
     }
 
+    // Adds a spot, and gives its number.
     fn add(&mut self, shape: Shape<'a>, span: Span) -> Result<usize, AllocError> {
         let spot = self.shapes.len();
         self.spans.push(span)?;
@@ -193,6 +212,7 @@ impl<'a> Sketch<'a> {
         Ok(spot)
     }
 
+    // Adds a spot, which is pending then.
     fn put(&mut self, shape: Shape<'a>, span: Span, is_simple: bool) -> Result<(), AllocError> {
         let spot = self.add(shape, span)?;
         self.pending.push(Pending {
@@ -203,6 +223,7 @@ impl<'a> Sketch<'a> {
         Ok(())
     }
 
+    // Takes the last pending part.
     fn take(&mut self) -> Pending {
         self.pending.pop().unwrap_or(NO_PART)
     }

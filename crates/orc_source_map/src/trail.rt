@@ -1,34 +1,38 @@
 //! Where the tokens of a run stand on its program's sketch.
+//!
+//! A token has a spot, and a step: which sides enclose it in the running term. One spot can have many steps, since a definition's body and the right
+//! side of a `>x>` run again and again. A `|`, the left side of a pruning and a call of a definition make no step: they change nothing about what
+//! takes a publication. Here `mark` is the number by which a journal names a token or an otherwise.
 
 use crate::sketch::{Shape, Sketch};
 use orc_rules::entry::Entry;
 use std::alloc::{AllocError, Global};
 use std::collections::HashMap;
 
-/// Where a step leads in.
+/// Into which side a step leads.
 #[derive(Clone, Copy)]
 pub enum Way {
-    /// The left side of a `>x>`, whose right side stands at a spot.
+    /// The left side of a `>x>`, whose right side is at this spot.
     SeqLeft(usize),
-    /// The right side of the pruning of a cell.
+    /// The right side of the pruning of this cell.
     PruneRight(u64),
-    /// The left side of the otherwise of a mark.
+    /// The left side of the otherwise with this mark.
     OtherwiseLeft(u64),
-    /// The right side of the otherwise of a mark.
+    /// The right side of the otherwise with this mark, which stands in its place.
     Then(u64),
 }
 
-/// A step inwards. Steps are counted from 1; 0 is the whole.
+/// A step from the running term into one of its sides. Steps are numbered from 1, as they come up; 0 is the whole term.
 #[derive(Clone, Copy)]
 pub struct Step {
     pub way: Way,
-    /// The step round it.
+    /// The number of the step round it, which is less than its own.
     pub outer: usize,
-    /// The innermost step at or round it that leads into no `>x>`.
+    /// The innermost step at or round it that leads into a pruning or an otherwise; 0 where there is none.
     pub home: usize,
 }
 
-/// A token: its spot, or the call on whose answer it stands; and its step.
+/// A token: its spot, or else the number of the call on whose answer it stands, which is at no spot; and its step.
 #[derive(Clone, Copy)]
 pub struct Token {
     pub spot: Option<usize>,
@@ -36,22 +40,26 @@ pub struct Token {
     pub step: usize,
 }
 
-// An otherwise that was entered: the spot of its right side, and the step round it.
+// An otherwise whose left side was entered: the spot of its right side, and the step round both.
 #[derive(Clone, Copy)]
 struct Entered {
     right: usize,
     outer: usize,
 }
 
-/// Where the tokens of a run stand. Of a token that was dropped with its side nothing is noted: it is kept where it stood.
+/// Where the tokens of a run stand. A bind drops tokens whose marks its entry doesn't name: these are kept where they stood, so a token of the trail
+/// may be gone from the term.
 pub struct Trail {
+    // By their marks.
     tokens: HashMap<u64, Token>,
+    // The otherwises whose right sides haven't begun, by their marks.
     others: HashMap<u64, Entered>,
-    // The step of each call that is out.
+    // The step of each pending call, by its number.
     calls: HashMap<u64, usize>,
     steps: Vec<Step>,
 }
 
+// Written out, so that a caller's proof sees one call and not the drop of each field.
 impl Drop for Trail {
     fn drop(self) {
         let Trail {
@@ -76,12 +84,13 @@ impl Trail {
         Ok(trail)
     }
 
-    /// The token of a mark. None where there is none.
+    /// The token of a mark. None where there is none, or its entry has used it up.
     pub fn token(&self, mark: u64) -> Option<Token> {
         self.tokens.get(&mark).copied()
     }
 
-    /// Whether a mark is that of an otherwise whose right side hasn't begun.
+    /// Whether a mark is that of an otherwise that was entered and whose right side hasn't begun. It may have been dropped with its side, or have
+    /// published.
     pub fn is_entered(&self, mark: u64) -> bool {
         self.others.contains_key(&mark)
     }
@@ -109,7 +118,7 @@ impl Trail {
         }
     }
 
-    /// Follows the next entry of a run. The error is refused memory; the trail is of no use then.
+    /// Follows the next entry of a run, which is to be one that the rules take. The error is refused memory; the trail is of no use then.
     pub fn follow(&mut self, sketch: &Sketch, entry: &Entry) -> Result<(), AllocError> {
         match entry {
             Entry::Fork(s, a, b) => self.fork(sketch, *s, *a, *b),
@@ -129,10 +138,12 @@ impl Trail {
                 let _gone = self.tokens.remove(s);
                 Ok(())
             }
+            // Neither moves a token. What a `lost` drops holds at most tokens on a `stop`.
             Entry::Lost(_) | Entry::Tick(_) => Ok(()),
         }
     }
 
+    // Both sides of a `|` stay in the token's step.
     fn fork(
         &mut self,
         sketch: &Sketch,
@@ -149,6 +160,7 @@ impl Trail {
         Ok(())
     }
 
+    // A token enters the left side of a `>x>`.
     fn enter_left(&mut self, sketch: &Sketch, mark: u64, first: u64) -> Result<(), AllocError> {
         let shape = self.shape(sketch, mark);
         let step = self.take(mark);
@@ -159,6 +171,7 @@ impl Trail {
         Ok(())
     }
 
+    // A token enters the left side of an otherwise, which keeps its mark.
     fn enter_first(&mut self, sketch: &Sketch, mark: u64, first: u64) -> Result<(), AllocError> {
         let shape = self.shape(sketch, mark);
         let outer = self.take(mark);
@@ -170,6 +183,7 @@ impl Trail {
         Ok(())
     }
 
+    // A pruning is opened: a token each for its left and its right side.
     fn open(
         &mut self,
         sketch: &Sketch,
@@ -188,6 +202,7 @@ impl Trail {
         Ok(())
     }
 
+    // A call of a definition becomes its body.
     fn define(&mut self, sketch: &Sketch, mark: u64, first: u64) -> Result<(), AllocError> {
         let shape = self.shape(sketch, mark);
         let step = self.take(mark);
@@ -197,6 +212,7 @@ impl Trail {
         Ok(())
     }
 
+    // A publication goes to the right side of a `>x>`, a copy of which begins.
     fn send(&mut self, mark: u64, first: u64) -> Result<(), AllocError> {
         let step = self.take(mark);
         if let Some((right, outer)) = self.taker(step) {
@@ -205,12 +221,14 @@ impl Trail {
         Ok(())
     }
 
+    // A token becomes a pending call.
     fn call(&mut self, mark: u64, number: u64) -> Result<(), AllocError> {
         let step = self.take(mark);
         self.calls.insert(number, step)?;
         Ok(())
     }
 
+    // A call returns with a value, on which a token stands.
     fn answer(&mut self, call: u64, first: u64) -> Result<(), AllocError> {
         if let Some(step) = self.calls.remove(&call) {
             let token = Token {
@@ -232,9 +250,11 @@ impl Trail {
         Ok(())
     }
 
-    // Where what is published in a step goes on: the right side of the nearest `>x>` round it, and the step round that.
+    // What takes a publication from inside a step: the spot of the right side of the nearest `>x>` round it, and the step round that `>x>`. None
+    // where it is the right side of a pruning, or nothing.
     fn taker(&self, from: usize) -> Option<(usize, usize)> {
         let mut number = from;
+        // Each turn goes one step outwards, so there are no more turns than steps.
         for _step in 0..self.steps.len() {
             let step = self.step(number)?;
             match step.way {
@@ -246,6 +266,7 @@ impl Trail {
         None
     }
 
+    // A token comes to stand at a spot.
     fn put(&mut self, mark: u64, spot: usize, step: usize) -> Result<(), AllocError> {
         let token = Token {
             spot: Some(spot),
@@ -256,7 +277,7 @@ impl Trail {
         Ok(())
     }
 
-    // A token goes: its step.
+    // An entry uses up a token's mark: the token's step, or 0 where there is no such token.
     fn take(&mut self, mark: u64) -> usize {
         match self.tokens.remove(&mark) {
             Some(token) => token.step,
@@ -264,7 +285,7 @@ impl Trail {
         }
     }
 
-    // A step inwards: its number.
+    // Adds a step from `outer` inwards, and gives its number.
     fn add_step(&mut self, way: Way, outer: usize) -> Result<usize, AllocError> {
         let number = self.steps.len().saturating_add(1);
         let home = match way {
