@@ -1,4 +1,4 @@
-//! The names of the rows.
+//! The labels of the rows.
 
 use crate::picture::Subject;
 use crate::story::Kind;
@@ -8,9 +8,10 @@ use orc_rules::entry::Entry;
 use orc_source_map::Purpose;
 use std::alloc::{AllocError, Global};
 
-/// How many columns of a left side are shown, where it is longer than `LONGEST`.
+/// How many columns are shown of an otherwise's left side that is longer than `LONGEST`.
 const SHOWN: usize = 18;
 
+/// The longest left side that is shown whole, in columns.
 const LONGEST: usize = 19;
 
 /// What the labels are made of.
@@ -21,7 +22,7 @@ pub(crate) struct Texts<'s, 'a> {
 }
 
 impl Texts<'_, '_> {
-    /// The label of a span.
+    /// The label of a span of this kind. The error is refused memory.
     pub(crate) fn label(&self, kind: Kind) -> Result<String, AllocError> {
         let mut page = Page::new(self.alloc);
         match kind {
@@ -48,7 +49,7 @@ impl Texts<'_, '_> {
         page.finish()
     }
 
-    // The words of a left side with single blanks between them, cut where they are long.
+    // Writes the source of a left side with one blank for all between two words, cut where it is long.
     fn left_side(&self, page: &mut Page, place: Span) {
         let mut line = Page::new(self.alloc);
         let text = self

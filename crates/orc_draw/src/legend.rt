@@ -1,4 +1,4 @@
-//! What the signs of an SVG picture mean: only those that occur.
+//! The legend of an SVG picture: what its signs mean, of most of them only where they occur.
 
 use crate::markup::Markup;
 use crate::picture::Picture;
@@ -16,20 +16,23 @@ pub(crate) struct Legend {
     width: u64,
 }
 
-/// What a sign is of.
+/// What a sign stands for.
 #[derive(Clone, Copy)]
 enum Sign {
     Answered,
     Halted,
     Cancelled,
+    /// A call of Rwait.
     Pause,
+    /// A call that is still pending.
     Out,
     Bound,
     Lost,
+    /// The right side of an otherwise begins.
     Resumed,
 }
 
-/// The signs that are explained where they occur, by their templates, and what they mean.
+/// The signs that are explained only where they occur, with the SVG of each, and what they mean.
 const SIGNS: [(Sign, &str, &str); 8] = [
     (
         Sign::Answered,
@@ -73,7 +76,7 @@ const SIGNS: [(Sign, &str, &str); 8] = [
     ),
 ];
 
-// Whether a sign occurs in a picture.
+// Whether a sign occurs in a picture: whether a row has a span of this kind that ended so. The first arm that fits says.
 fn occurs(picture: &Picture, sign: Sign) -> bool {
     for row in &picture.rows.rows {
         if let Some(span) = picture.span(row) {
@@ -100,6 +103,7 @@ fn occurs(picture: &Picture, sign: Sign) -> bool {
 }
 
 impl Legend {
+    /// A legend whose first line of letters is this far down, on a sheet of this width.
     pub(crate) fn new(down: u64, width: u64) -> Legend {
         Legend {
             across: 12 * PARTS,
@@ -108,13 +112,15 @@ impl Legend {
         }
     }
 
-    /// The lower edge of the sheet.
+    /// The lower edge of the sheet below the legend, in pixels.
     pub(crate) fn bottom(&self) -> u64 {
         self.down.saturating_add(14)
     }
 
-    // A sign by its template, and what it means.
+    // Adds a sign by its SVG, which may be empty, and what it means, in a new line where the sheet has no room for it in this one. A letter is taken
+    // to be 6.65 pixels wide.
     fn add(&mut self, page: &mut Page, template: &str, text: &str) {
+        // 48 pixels are for the sign and the gap behind the text.
         let room = (text.len() as u64)
             .saturating_mul(6_650_000)
             .saturating_add(48 * PARTS);
@@ -138,7 +144,7 @@ impl Legend {
         self.across = self.across.saturating_add(room);
     }
 
-    /// Writes what the signs of a picture mean, and whether its times are to scale.
+    /// Writes what the signs of a picture mean, how many calls aren't drawn, and that its times aren't to scale unless `is_true`.
     pub(crate) fn write(
         &mut self,
         alloc: Global,
@@ -156,6 +162,7 @@ impl Legend {
             "<circle class=\"pub\" cx=\"11\" r=\"5\"/>",
             "published",
         );
+        // With more times `svg.rt` draws no bands.
         if picture.slots.instants.len() <= 40 {
             let sign = "<rect class=\"instant\" y=\"-7\" width=\"22\" height=\"14\"/>";
             self.add(page, sign, "one time, entries in order");

@@ -1,14 +1,15 @@
-//! What a picture's text has beside a page's words: templates with places in them, and escaped letters.
+//! What the text of an SVG needs beyond what a page writes: templates with numbers in them, and escaped letters.
 
 use crate::scale::PARTS;
 use orc_report::Page;
 
-/// Pieces of SVG.
+/// A text to which pieces of SVG are written.
 pub(crate) trait Markup {
-    /// A text between tags: `<`, `>` and `&` are escaped.
+    /// Writes a text that stands between tags: `<`, `>` and `&` are escaped.
     fn escaped(&mut self, text: &str);
 
-    /// A template, in which each `%` is the next number as a length in parts, to a tenth of a pixel, and each `@` as it stands.
+    /// Writes a template in ASCII. Each `%` in it is the next number, a length in parts, as pixels with one decimal; each `@` is the next number as
+    /// it stands. Without a number it is 0.
     fn form(&mut self, template: &str, numbers: &[u64]);
 }
 
@@ -30,6 +31,7 @@ impl Markup for Page {
             let number = numbers.get(next).copied().unwrap_or(0);
             match *byte {
                 b'%' => {
+                    // Rounded to the nearest tenth of a pixel.
                     let tenths = number.saturating_add(PARTS / 20) / (PARTS / 10);
                     self.number(tenths / 10);
                     self.say(".");

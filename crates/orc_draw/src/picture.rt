@@ -27,6 +27,7 @@ pub enum Theme {
 /// How a picture is written.
 #[derive(Clone, Copy, Debug, PartialEq, Eq)]
 pub enum Form {
+    /// As SVG, in these colours.
     Svg(Theme),
     /// As rows of text of about so many columns.
     Text(u64),
@@ -36,14 +37,14 @@ pub enum Form {
 #[derive(Clone, Copy, Debug, PartialEq, Eq)]
 pub struct Options {
     pub form: Form,
-    /// Whether calls of built-in sites that take no time have rows too.
+    /// Whether calls of built-in sites other than Rwait, which take no time, have rows too.
     pub all: bool,
 }
 
-/// What is drawn: a program by its source and its tree, the sites that answered, and a journal that was checked against them, with what
-/// the check has said.
+/// What is drawn: a program by its source and its tree, the table that answered its calls, a journal that was checked against both, and the state of
+/// the run at its end.
 pub struct Subject<'a> {
-    /// What the picture is called.
+    /// The title of the picture.
     pub name: &'a str,
     pub source: &'a [u8],
     pub ast: Ast<'a>,
@@ -52,6 +53,7 @@ pub struct Subject<'a> {
     pub state: State,
 }
 
+// Written out, so that a caller's proof sees one call and not the drop of each field.
 impl Drop for Subject<'_> {
     fn drop(self) {
         let Subject {
@@ -65,16 +67,19 @@ impl Drop for Subject<'_> {
     }
 }
 
-/// What is known of a picture before it is written.
+/// A picture before it is written, as far as both forms share it.
 pub(crate) struct Picture<'a> {
     pub name: &'a str,
+    /// One line on the run: how it ended, and what it published.
     pub summary: String,
     pub story: Story<'a>,
     pub rows: Rows,
     pub slots: Slots,
+    /// The publications, those of each time together.
     pub publications: Vec<Publications>,
 }
 
+// Written out, so that a caller's proof sees one call and not the drop of each field.
 impl Drop for Picture<'_> {
     fn drop(self) {
         let Picture {
@@ -101,8 +106,8 @@ pub fn draw(alloc: Global, subject: &Subject, options: Options) -> Result<String
     Ok(written)
 }
 
-/// The rows of that picture as text of about so many columns, without the line that names it and without what says how many calls aren't drawn: they
-/// stand below a text that says what the journal is of. The faults are those of [`draw`].
+/// The rows of the picture of a journal as text of about `width` columns, without the title and without the line on calls that aren't drawn: they are
+/// for a place below a text that says what run it is. The faults are those of [`draw`].
 pub fn draw_rows(alloc: Global, subject: &Subject, width: u64) -> Result<String, DrawFault> {
     let picture = Picture::new(alloc, subject, false)?;
     let written = text::write_rows(alloc, &picture, width)?;
@@ -134,10 +139,10 @@ impl<'a> Picture<'a> {
     }
 }
 
-// The most values that a summary or one time shows.
+// The most values that the summary shows, and the most of one time.
 const FEW: u64 = 6;
 
-// How many entries there are, where the run stands, and what was published.
+// The summary: how many entries there are, the state of the run and its time, and the first values that were published.
 fn summary(alloc: Global, subject: &Subject, story: &Story) -> Result<String, AllocError> {
     let mut page = Page::new(alloc);
     page.tell(
@@ -170,12 +175,15 @@ fn summary(alloc: Global, subject: &Subject, story: &Story) -> Result<String, Al
 /// The publications of one time.
 #[derive(Drop)]
 pub(crate) struct Publications {
+    /// When the first of them was.
     pub first: Moment,
     pub count: u64,
+    // The first few values, with commas between them.
     values: Page,
 }
 
 impl Publications {
+    // One publication more.
     fn add(&mut self, value: Value) {
         if self.count < FEW {
             if self.count > 0 {
@@ -189,6 +197,7 @@ impl Publications {
     /// How many columns `say` writes.
     pub(crate) fn width(&self) -> u64 {
         if self.count > FEW {
+            // ` values` has seven.
             digits(self.count).saturating_add(7)
         } else {
             self.values.len() as u64

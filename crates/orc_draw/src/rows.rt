@@ -1,4 +1,4 @@
-//! The rows of a picture: each shown span with its label, in a tree.
+//! The rows of a picture, from top to bottom: the spans that are shown, each below the one that it stands in.
 
 ghost use Rattle.std.specs.Prelude.{◌≤◌, length, IfOk};
 ghost use Rattle.orc_rules.specs.declared.limits.TheConstants.{MOST_ROWS};
@@ -9,7 +9,7 @@ use crate::story::{End, Kind, Span};
 use orc_rules::limits::MOST_ROWS;
 use std::alloc::{AllocError, Global};
 
-/// A row: its span, how far it stands in, and its label.
+/// A row: the place of its span among the story's, how many rows it stands in, and its label.
 #[derive(Drop)]
 pub(crate) struct Row {
     pub span: usize,
@@ -17,14 +17,15 @@ pub(crate) struct Row {
     pub label: String,
 }
 
-/// The rows, and for each span its row where it has one.
+/// The rows in their order, and for each span the place of its row, if it has one.
 #[derive(Drop)]
 pub(crate) struct Rows {
     pub rows: Vec<Row>,
     of_span: Vec<Option<usize>>,
 }
 
-// For each span the first one in it and the next one beside it, and the first one of all.
+// The spans as a tree: for each the first one that stands directly in it, and the next one that stands in the same one; and the first one that stands
+// in none.
 #[derive(Drop)]
 struct Tree {
     inner: Vec<Option<usize>>,
@@ -32,14 +33,15 @@ struct Tree {
     first: Option<usize>,
 }
 
-// A span that the walk is still to reach, and how far what stands there stands in.
+// A span to which the walk over the tree is still to come, and how many rows it stands in.
 #[derive(Clone, Copy)]
 struct Ahead {
     span: usize,
     depth: u64,
 }
 
-// Whether something in a span, or the span itself, has a row.
+// For each span whether it is worth a row, by itself or since something in it is: each call, and each pruning that got its value, or ended, later
+// than it was opened. The error is refused memory.
 fn kept_spans(alloc: Global, spans: &[Span]) -> Result<Vec<bool>, AllocError> {
     let mut kept = Vec::new(alloc);
     for span in spans {
@@ -49,7 +51,7 @@ fn kept_spans(alloc: Global, spans: &[Span]) -> Result<Vec<bool>, AllocError> {
             Kind::Otherwise(_) => false,
         })?;
     }
-    // A span stands behind the one round it.
+    // A span comes behind the one that it stands in, so what is in it was seen before it here.
     for place in (0..spans.len()).rev() {
         if kept.get(place).copied().unwrap_or(false) {
             if let Some(outer) = spans.get(place).and_then(|span| span.outer) {
@@ -62,7 +64,7 @@ fn kept_spans(alloc: Global, spans: &[Span]) -> Result<Vec<bool>, AllocError> {
     Ok(kept)
 }
 
-// Whether a pruning's value came at a later time than it was opened.
+// Whether a span ended at a later time than it began.
 fn ends_later(span: &Span) -> bool {
     match span.end {
         Some((_, at)) => at.time != span.began.time,
@@ -70,7 +72,7 @@ fn ends_later(span: &Span) -> bool {
     }
 }
 
-// Whether a span has a row where it is kept: an otherwise has one only where it took its right side.
+// Whether a span that is worth a row has one: an otherwise only if its right side began.
 fn is_row(span: &Span) -> bool {
     match (span.kind, span.end) {
         (Kind::Otherwise(_), Some((End::Resumed, _))) => true,
@@ -80,6 +82,7 @@ fn is_row(span: &Span) -> bool {
 }
 
 impl Tree {
+    // The spans are put in from the last to the first, so that those in one span are in their order. The error is refused memory.
     fn new(alloc: Global, spans: &[Span]) -> Result<Tree, AllocError> {
         let mut tree = Tree {
             inner: Vec::new(alloc),
@@ -100,7 +103,7 @@ impl Tree {
         Ok(tree)
     }
 
-    // A span becomes the first one in another: the one that was.
+    // Makes a span the first one in another, or of all, and gives the one that was the first.
     fn put_first(&mut self, outer: Option<usize>, span: usize) -> Option<usize> {
         match outer {
             None => self.first.replace(span),
@@ -111,10 +114,12 @@ impl Tree {
         }
     }
 
+    // The first span in this one.
     fn inner(&self, span: usize) -> Option<usize> {
         self.inner.get(span).copied().flatten()
     }
 
+    // The next span that stands in the same one.
     fn next(&self, span: usize) -> Option<usize> {
         self.next.get(span).copied().flatten()
     }
@@ -142,7 +147,8 @@ impl Rows {
         Ok(rows)
     }
 
-    // Adds the rows of what is ahead, and of all that stands in it or behind it.
+    // Adds the rows of the spans that are ahead, of those in them and of those behind them. The next one is on top of `ahead`: what is in a span
+    // comes before what is behind it.
     fn walk(
         &mut self,
         ahead: &mut Vec<Ahead>,
@@ -173,7 +179,7 @@ impl Rows {
         Ok(())
     }
 
-    // Adds the row of a span that is kept: whether it has one.
+    // Adds the row of a span that is worth one, and says whether it has one.
     fn add(
         &mut self,
         spans: &[Span],
@@ -205,7 +211,7 @@ impl Rows {
         Ok(true)
     }
 
-    /// The row of a span.
+    /// The place of a span's row, if it has one.
     pub(crate) fn row_of(&self, span: usize) -> Option<usize> {
         self.of_span.get(span).copied().flatten()
     }

@@ -1,14 +1,14 @@
 //! The width of a picture, shared among its times.
 //!
-//! A time is a band as wide as its slots; between two bands lies a gap. Gaps are as wide as the time between, where the longest is at most
-//! 25 times the shortest, and else grow with the number of its binary digits.
+//! A time is a band as wide as its slots; between two bands is a gap. Gaps are in proportion to the time between, where the longest is at most
+//! 25 times the shortest; otherwise to the number of binary digits of the time between.
 
 ghost use Rattle.std.specs.Prelude.{◌≤◌};
 
 use crate::slot::{Instant, Slot};
 use std::alloc::{AllocError, Global};
 
-/// How many parts a column or a pixel has: places are counted in parts.
+/// How many parts a column of a text, or a pixel of an SVG, has. Places are counted in parts, so that shares of a width can be whole numbers.
 pub const PARTS: u64 = 1_000_000;
 
 /// How wide a picture is, and how it is shared, all in parts.
@@ -16,9 +16,9 @@ pub const PARTS: u64 = 1_000_000;
 pub struct Measure {
     /// The width of the plot.
     pub width: u64,
-    /// The widest slot.
+    /// The width of a slot where there is room enough.
     pub slot: u64,
-    /// The least gap.
+    /// The least width of a gap, where there is room enough.
     pub gap: u64,
     /// What is left free at the right end.
     pub margin: u64,
@@ -34,7 +34,7 @@ pub struct Scale {
     pub is_true: bool,
 }
 
-// a * b / c; what is out of range is the greatest number.
+// a * b / c, rounded down, where a c of 0 counts as 1. A share that is over 64 bits is the greatest number of them.
 fn share(a: u64, b: u64, c: u64) -> u64 {
     let product = (a as u128).saturating_mul(b as u128);
     let quotient = product / (c.max(1) as u128);
@@ -44,7 +44,7 @@ fn share(a: u64, b: u64, c: u64) -> u64 {
     }
 }
 
-// The times between neighbours.
+// The time between each instant and the next one.
 fn gaps_of(alloc: Global, instants: &[Instant]) -> Result<Vec<u64>, AllocError> {
     let mut gaps = Vec::new(alloc);
     let mut before: Option<u64> = None;
@@ -58,7 +58,7 @@ fn gaps_of(alloc: Global, instants: &[Instant]) -> Result<Vec<u64>, AllocError> 
 }
 
 impl Measure {
-    // The width of a slot, where there are so many.
+    // The width of a slot, where there are so many: all of them take six tenths of the plot at most.
     fn slot(&self, total: u64) -> u64
         ensures { result ≤ self.now.slot }
     {
@@ -68,7 +68,8 @@ impl Measure {
 }
 
 impl Scale {
-    /// Shares a width among the instants of a picture.
+    /// Shares a width among the instants of a picture, whose bands are `total` slots wide together. The whole may become wider, since no gap is
+    /// narrower than the least one. The error is refused memory.
     pub fn new(
         alloc: Global,
         instants: &[Instant],
@@ -92,10 +93,11 @@ impl Scale {
             whole = whole.saturating_add(*gap);
         }
         let slot = measure.slot(total);
-        // What is left for the gaps.
+        // What is left for the gaps: what the slots leave, and four tenths of the plot at least.
         let free = share(measure.width, 4, 10)
             .max(measure.width.saturating_sub(slot.saturating_mul(total)))
             .saturating_sub(measure.margin);
+        // The least gap, or half of an even share where there are too many gaps for that.
         let least = measure
             .gap
             .min(share(free, 1, (gaps.len() as u64).saturating_mul(2)));
@@ -117,17 +119,17 @@ impl Scale {
         Ok(scale)
     }
 
-    /// Where an instant's band begins.
+    /// Where the band of the instant at this place begins, in parts from the left edge of the plot.
     pub fn begin(&self, instant: usize) -> u64 {
         self.begins.get(instant).copied().unwrap_or(0)
     }
 
-    /// How far in its band a slot begins.
+    /// How far a slot begins from the left edge of its band, in parts.
     pub fn within(&self, slot: Slot) -> u64 {
         self.slot.saturating_mul(slot.place)
     }
 
-    /// Makes the whole as narrow as this, where it is wider.
+    /// Makes the whole as narrow as this width, in parts, if it is wider.
     pub fn squeeze(&mut self, width: u64) {
         let whole = self.end;
         if whole > width {

@@ -2,14 +2,14 @@
 
 ghost use Rattle.std.specs.Prelude.{◌≤◌};
 
-/// A time that a picture shows, and how many slots it has.
+/// A time that a picture shows, in units of logical time, and how many slots it has: one for each of its entries that are drawn.
 #[derive(Clone, Copy)]
 pub struct Instant {
     pub time: u64,
     pub slots: u64,
 }
 
-/// The slot of an entry: the number of its instant, and which of its slots.
+/// The slot of an entry, whose number is from 1: the place of its instant among all, from 0, and the place of the slot in that, from 0.
 #[derive(Clone, Copy)]
 pub struct Slot {
     pub entry: u64,
@@ -18,7 +18,7 @@ pub struct Slot {
 }
 
 impl Instant {
-    /// How many slots wide its band is.
+    /// How many slots wide its band is: one without slots is as wide as one.
     pub fn width(&self) -> u64
         ensures { 1 ≤ result }
     {

@@ -1,4 +1,4 @@
-//! Where each entry stands across a picture: its time, and its slot among the entries of that time.
+//! Where each entry stands from left to right: its time, and its slot among the entries of that time.
 
 use crate::rows::Rows;
 use crate::slot::{Instant, Slot};
@@ -13,7 +13,8 @@ pub(crate) struct Slots {
 }
 
 impl Slots {
-    /// The slots of a story's events, from time 0 to its last time.
+    /// The instants and slots of a story's events, from time 0 to its last time, `now`. Events of spans without a row have none. The error is refused
+    /// memory.
     pub(crate) fn new(
         alloc: Global,
         events: &[Event],
@@ -39,7 +40,7 @@ impl Slots {
         Ok(slots)
     }
 
-    // The last instant is the one of this time.
+    // Makes an instant of this time the last one, unless it is that already. Times come in ascending order.
     fn reach(&mut self, time: u64) -> Result<(), AllocError> {
         if self.instants.last().map(|last| last.time) != Some(time) {
             self.instants.push(Instant { time, slots: 0 })?;
@@ -47,7 +48,7 @@ impl Slots {
         Ok(())
     }
 
-    // A cancel shares the slot of its bind.
+    // Adds the slot of an event to the last instant. A cancel shares the slot of its bind, which is right before it.
     fn add(&mut self, event: &Event) -> Result<(), AllocError> {
         let is_cancel = matches!(event.shown, Shown::Cancel);
         let instant = self.instants.len().saturating_sub(1);
@@ -66,7 +67,7 @@ impl Slots {
         Ok(())
     }
 
-    /// The slot of an entry, or of the last one before it at its time, or the first of that time.
+    /// The slot of a moment's entry; if that isn't drawn, of the last one before it at its time; if there is none, the first slot of that time.
     pub(crate) fn slot(&self, at: Moment) -> Slot {
         let behind = self.slots.partition_point(|slot| slot.entry <= at.entry);
         if let Some(slot) = behind.checked_sub(1).and_then(|last| self.slots.get(last)) {
@@ -89,7 +90,7 @@ impl Slots {
         }
     }
 
-    /// How many slots there are, at least one for each time.
+    /// How many slots wide all bands are together, at least one for each time.
     pub(crate) fn total(&self) -> u64 {
         let mut total: u64 = 0;
         for instant in &self.instants {

@@ -1,4 +1,7 @@
 //! What happened in a run: its calls, prunings and otherwises, from when to when, one inside the other.
+//!
+//! Each of them is a span. The journal is followed on the program's sketch (`orc_source_map`): the step of a token says in which pruning or otherwise
+//! a new span stands. A `bind`, a `lost` or a `right` ends a span and drops all in it.
 
 use crate::fault::DrawFault;
 use orc_calls::{Counts, due_time};
@@ -22,11 +25,13 @@ pub(crate) struct Moment {
 /// A call that is shown.
 #[derive(Clone, Copy)]
 pub(crate) struct Called {
+    /// Its number in the journal.
     pub number: u64,
     /// The place of its entry in the journal, from 0.
     pub at: usize,
-    /// Its due time; none where it is never due.
+    /// Its due time; None where it is never due.
     pub due: Option<u64>,
+    /// Whether it is a call of Rwait.
     pub is_pause: bool,
 }
 
@@ -34,6 +39,7 @@ pub(crate) struct Called {
 #[derive(Clone, Copy)]
 pub(crate) enum Kind<'a> {
     Call(Called),
+    /// A pruning, with what its value is for.
     Pruning(Purpose<'a>),
     /// An otherwise, with the place of its left side in the source.
     Otherwise(Place),
@@ -48,27 +54,29 @@ pub(crate) enum End {
     Halted,
     /// A call is dropped with the side in which it stands.
     Cancelled,
-    /// A pruning gets its value, and the span of the call that has answered it.
+    /// A pruning gets its value; with the span of the call whose answer that is, if it is one that is shown.
     Bound(Value, Option<usize>),
-    /// A pruning gets none.
+    /// A pruning's right side has halted without a value.
     Lost,
     /// The right side of an otherwise begins.
     Resumed,
-    /// A value has come out of the left side of an otherwise.
+    /// The left side of an otherwise has published, so that its right side never begins.
     Left,
     /// A pruning or an otherwise is dropped with the side in which it stands.
     Dropped,
 }
 
-/// A call, a pruning or an otherwise, from its entry on.
+/// A call, a pruning or an otherwise, from the entry that began it on.
 #[derive(Clone, Copy)]
 pub(crate) struct Span<'a> {
     pub kind: Kind<'a>,
     pub began: Moment,
+    /// None as long as it hasn't ended.
     pub end: Option<(End, Moment)>,
-    /// The pruning in whose right side, or the otherwise in which it stands.
+    /// The place of the innermost span that it stands in: of a pruning, in its right side, or of an otherwise. None where it stands in none.
     pub outer: Option<usize>,
-    // The newest span directly in it, and the one before it in its outer span, while they may still be dropped.
+    // The spans directly in this one are a list from the newest back: its head, and for a span in it the one before. What was dropped is taken out of
+    // it.
     newest: Option<usize>,
     before: Option<usize>,
 }
@@ -78,36 +86,46 @@ pub(crate) struct Span<'a> {
 pub(crate) enum Shown {
     /// That this span begins or ends.
     Span(usize),
+    /// A publication of the whole program.
     Publication(Value),
+    /// The cancel of a call.
     Cancel,
 }
 
+/// An entry of which a picture shows something.
 #[derive(Clone, Copy)]
 pub(crate) struct Event {
     pub shown: Shown,
     pub at: Moment,
 }
 
-/// The story of a journal.
+/// What a journal tells: its spans, in the order in which they began, and its events, in the order of their entries.
 pub(crate) struct Story<'a> {
     pub spans: Vec<Span<'a>>,
     pub events: Vec<Event>,
+    /// The time behind the last entry.
     pub now: u64,
     /// How many calls of built-in sites that take no time aren't shown.
     pub small: u64,
+    // How many calls are shown.
     calls: u64,
+    // Whether all calls are shown.
     is_whole: bool,
+    // How often each site was called with the same arguments, by which the table answers.
     counts: Counts,
+    // Where the tokens are.
     trail: Trail,
     // The spans of the calls that are shown, of the open prunings by their cells, and of the otherwises by their marks.
     shown: HashMap<u64, usize>,
     cells: HashMap<u64, usize>,
     others: HashMap<u64, usize>,
-    // The spans that are still to be dropped.
+    // The spans that are still to be dropped. Empty between two entries.
     dropping: Vec<usize>,
+    // Whether memory was refused while an entry was followed.
     is_refused: bool,
 }
 
+// Written out, so that a caller's proof sees one call and not the drop of each field.
 impl Drop for Story<'_> {
     fn drop(self) {
         let Story {
@@ -129,8 +147,8 @@ impl Drop for Story<'_> {
 }
 
 impl<'a> Story<'a> {
-    /// What a journal tells that was checked against the program of a sketch and a table of sites: with the calls of all sites where it is
-    /// to be whole. A fault is refused memory, or that too many calls are shown.
+    /// Follows a journal that was checked against the program of a sketch and a table of sites. `is_whole` asks for all calls, also those of built-in
+    /// sites that take no time. A fault is refused memory, or over `MOST_ROWS` calls to show.
     pub(crate) fn new(
         alloc: Global,
         sketch: &Sketch<'a>,
@@ -157,6 +175,7 @@ impl<'a> Story<'a> {
         Ok(story)
     }
 
+    // Follows all entries. What an entry says of its token is noted before the trail takes the token away.
     fn read(
         &mut self,
         sketch: &Sketch<'a>,
@@ -187,7 +206,7 @@ impl<'a> Story<'a> {
         Ok(())
     }
 
-    // What is shown of an entry that is no call. Nothing is shown of the others.
+    // Notes what an entry other than a call begins, ends or shows. Entries that only move tokens show nothing.
     fn tell(&mut self, sketch: &Sketch<'a>, entry: &Entry, at: Moment) {
         match entry {
             Entry::Tick(time) => {
@@ -233,7 +252,7 @@ impl<'a> Story<'a> {
                 self.leave(*s, at);
                 self.note(Shown::Publication(*value), at)
             }
-            // A call that was dropped: where cancels are recorded, it ends at the entry of its cancel.
+            // A bind has dropped the call. Where the journal has cancels, its span ends at the entry of its cancel, and else at the bind.
             Entry::Cancel(k) => {
                 if let Some(span) = self.shown.get(k).copied() {
                     self.set_end(span, End::Cancelled, at);
@@ -244,6 +263,8 @@ impl<'a> Story<'a> {
         }
     }
 
+    // Begins the span of a call, if it is shown, and finds when it is due. The mark is that of the token that makes it. The answers of calls that
+    // aren't shown don't depend on how many there were.
     fn call(
         &mut self,
         answers: &Answers,
@@ -276,11 +297,13 @@ impl<'a> Story<'a> {
 
     // ---- steps
 
+    // The step of the token of a mark, 0 for the whole.
     fn step_of(&self, mark: u64) -> usize {
         self.trail.token(mark).map_or(0, |token| token.step)
     }
 
-    // What a token publishes goes outwards to the nearest `>x>` or pruning. A value comes out of each left side of an otherwise on the way.
+    // What a token publishes goes outwards to the nearest `>x>` or pruning, or out of the whole. Each otherwise whose left side it leaves on the way
+    // ends.
     fn leave(&mut self, mark: u64, at: Moment) {
         let mut number = self.step_of(mark);
         for _step in 0..self.trail.steps().len() {
@@ -289,6 +312,7 @@ impl<'a> Story<'a> {
             };
             match step.way {
                 Way::SeqLeft(_) | Way::PruneRight(_) => return,
+                // The right side stands in the place of its otherwise, whose span has ended.
                 Way::Then(_) => {}
                 Way::OtherwiseLeft(mark) => {
                     match self.others.get(&mark).copied() {
@@ -303,7 +327,8 @@ impl<'a> Story<'a> {
         }
     }
 
-    // The span in which a step stands: an otherwise that a value has left is none.
+    // The innermost span in which a step stands. An otherwise whose left side has published is none: what is left of that side stands in the span
+    // round it.
     fn span_round(&self, from: usize) -> Option<usize> {
         let mut number = from;
         for _step in 0..self.trail.steps().len() {
@@ -326,13 +351,13 @@ impl<'a> Story<'a> {
 
     // ---- spans
 
-    // How a span has ended.
+    // How a span has ended; None where it hasn't.
     fn end_of(&self, span: usize) -> Option<End> {
         let (end, _at) = self.spans.get(span)?.end?;
         Some(end)
     }
 
-    // Begins a span at the token of a mark.
+    // Begins a span where the token of a mark stands, and gives the place of the span.
     fn begin(&mut self, kind: Kind<'a>, mark: u64, began: Moment) -> usize {
         let span = self.spans.len();
         let outer = self.span_round(self.step_of(mark));
@@ -354,7 +379,7 @@ impl<'a> Story<'a> {
         span
     }
 
-    // The newest span in a span becomes another one: the one before.
+    // Makes another span the newest in a span, and gives the one that was.
     fn set_newest(&mut self, span: usize, newest: Option<usize>) -> Option<usize> {
         match self.spans.get_mut(span) {
             Some(outer) => {
@@ -366,17 +391,19 @@ impl<'a> Story<'a> {
         }
     }
 
+    // Ends a span, whether or not it had ended.
     fn set_end(&mut self, span: usize, end: End, at: Moment) {
         if let Some(span) = self.spans.get_mut(span) {
             span.end = Some((end, at));
         }
     }
 
+    // Notes an event.
     fn note(&mut self, shown: Shown, at: Moment) {
         self.is_refused = self.events.push(Event { shown, at }).is_err() || self.is_refused;
     }
 
-    // A span ends, and what stands in it is dropped.
+    // Ends a span, if there is one, and drops all in it.
     fn close(&mut self, span: Option<usize>, end: End, at: Moment) {
         if let Some(span) = span {
             self.drop_inside(span, at);
@@ -385,10 +412,11 @@ impl<'a> Story<'a> {
         }
     }
 
+    // Drops all spans in a span, at whatever depth.
     fn drop_inside(&mut self, span: usize, at: Moment) {
         let newest = self.set_newest(span, None);
         self.drop_later(newest);
-        // Each span is taken out once at most: what leads to it is forgotten.
+        // A span is taken out once at most, since nothing leads to it then, so there are no more turns than spans.
         for _span in 0..self.spans.len() {
             let Some(dropped) = self.dropping.pop() else {
                 return;
@@ -400,13 +428,14 @@ impl<'a> Story<'a> {
         }
     }
 
+    // Puts a span, if there is one, among those that are still to be dropped.
     fn drop_later(&mut self, span: Option<usize>) {
         if let Some(span) = span {
             self.is_refused = self.dropping.push(span).is_err() || self.is_refused;
         }
     }
 
-    // A span is dropped, unless it has ended: the one before it.
+    // Ends a span as dropped, unless it has ended, and gives the one before it in its list.
     fn drop_one(&mut self, span: usize, at: Moment) -> Option<usize> {
         let dropped = self.spans.get_mut(span)?;
         if dropped.end.is_none() {

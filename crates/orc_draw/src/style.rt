@@ -1,6 +1,6 @@
-//! The colours and letters of an SVG picture.
+//! The colours and letters of an SVG picture, as the rules of its style sheet. `svg.rt` and `legend.rt` use the classes.
 
-/// Light colours.
+/// The rules of light colours.
 pub(crate) const LIGHT: &str =
     ".end{stroke:#ffffff;stroke-width:3px;paint-order:stroke}.bg{fill:#ffffff}text{fill:#1f2328}\
 .dim,.num,.axis,.leg,.nevt,.cutt{fill:#6e7781}.instant{fill:#f1f3f5}.rule{stroke:#c9d1d9}\
@@ -13,7 +13,7 @@ pub(crate) const LIGHT: &str =
 .ospan{stroke:#d29922;stroke-width:2;stroke-dasharray:5 3}.right{fill:#d29922}\
 .lost{fill:#ffffff;stroke:#8a5a00;stroke-width:2}";
 
-/// Dark colours.
+/// The rules of dark colours, for the same classes.
 pub(crate) const DARK: &str =
     ".end{stroke:#0d1117;stroke-width:3px;paint-order:stroke}.bg{fill:#0d1117}text{fill:#e6edf3}\
 .dim,.num,.axis,.leg,.nevt,.cutt{fill:#8b949e}.instant{fill:#171c24}.rule{stroke:#30363d}\
@@ -26,7 +26,8 @@ pub(crate) const DARK: &str =
 .ospan{stroke:#bb8009;stroke-width:2;stroke-dasharray:5 3}.right{fill:#bb8009}\
 .lost{fill:#0d1117;stroke:#e3b341;stroke-width:2}";
 
-/// The letters of labels, apart from their size in pixels, which stands before.
+/// The rules of letters. The size of labels, in pixels, is written before this, and that of a call's number behind it: both depend on how many rows
+/// there are.
 pub(crate) const FAMILY: &str =
     "px ui-monospace,Menlo,Consolas,\"DejaVu Sans Mono\",monospace}.title{font-size:14px;font-weight:bold}\
 .leg,.axis,.sub{font-size:11px}.scope,.bindt,.pubv{font-weight:bold}.pubv{font-size:12px}.num{font-size:";

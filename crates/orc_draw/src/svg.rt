@@ -1,4 +1,8 @@
 //! A picture as SVG.
+//!
+//! Places across are in parts (`scale::PARTS` to a pixel), so that the width can be shared among the times; places down are in pixels where their
+//! names or comments don't say parts. In a template, `%` is a length in parts and `@` a number as it stands (`Markup::form`). Letters have about the
+//! same width, so the room for a text is its length times a number of parts.
 
 use crate::legend::Legend;
 use crate::markup::Markup;
@@ -11,16 +15,19 @@ use crate::text::{say_end, say_fate};
 use orc_report::{Page, digits};
 use std::alloc::{AllocError, Global};
 
-// In pixels: the top of the plot and of the first row, and the line of the publications.
+// How far down the plot begins, in pixels: the line of times is above it.
 const HEAD: u64 = 52;
 
+// How far down the first row begins, in pixels.
 const TOP: u64 = 98;
 
+// How far down the dots of publications are, in pixels.
 const PUBLICATIONS: u64 = 68;
 
-// The most times that have bands, and the most publications that have lines.
+// With more times than these, times have thin lines in place of bands.
 const MOST_BANDS: usize = 40;
 
+// With more publications than these, they have no lines down through the rows.
 const MOST_LINES: u64 = 12;
 
 /// How large rows are, in pixels: their height, that of a bar, and that of a letter.
@@ -38,12 +45,15 @@ struct Size {
 struct Sheet<'a> {
     picture: &'a Picture<'a>,
     size: Size,
+    // The width of the labels, where the plot's frame begins.
     gutter: u64,
+    // The left and the right edge of the plot.
     left: u64,
     right: u64,
+    // The width of the whole sheet.
     width: u64,
     scale: Scale,
-    // For each row of a call whose answer won: where the pruning was bound.
+    // For each row: if its call's answer won, where the pruning that it won was bound; otherwise 0.
     wins: Vec<u64>,
 }
 
@@ -65,11 +75,12 @@ pub(crate) fn write(alloc: Global, picture: &Picture, theme: Theme) -> Result<St
     page.finish()
 }
 
+// So many pixels in parts.
 fn pixels(count: u64) -> u64 {
     count.saturating_mul(PARTS)
 }
 
-// The size of so many rows, the deepest of which stands in so far.
+// The size of rows where there are so many, the deepest of which stands in `depth` others: many rows are lower, and deep ones are less indented.
 fn size_of_rows(rows: u64, depth: u64) -> Size {
     let (row, bar, letter) = if rows <= 60 {
         (24, 13, 12)
@@ -91,11 +102,12 @@ fn size_of_rows(rows: u64, depth: u64) -> Size {
     }
 }
 
-// The width of what stands left of the plot: the labels, each with its call's number.
+// The width of the labels, each with its call's number, in parts. A letter is 0.602 of its height wide.
 fn gutter_of(picture: &Picture, size: &Size) -> u64 {
     let mut widest = pixels(120);
     for row in &picture.rows.rows {
         let kind = picture.span(row).map(|span| span.kind);
+        // A call's number takes the room of six letters.
         let number = if matches!(kind, Some(Kind::Call(_))) {
             6
         } else {
@@ -111,6 +123,7 @@ fn gutter_of(picture: &Picture, size: &Size) -> u64 {
 }
 
 impl<'a> Sheet<'a> {
+    // Measures the sheet of a picture: over 60 rows the plot is wider. The error is refused memory.
     fn new(alloc: Global, picture: &'a Picture<'a>) -> Result<Sheet<'a>, AllocError> {
         let rows = &picture.rows.rows;
         let count = rows.len() as u64;
@@ -119,6 +132,7 @@ impl<'a> Sheet<'a> {
             deepest = deepest.max(row.depth);
         }
         let size = size_of_rows(count, deepest);
+        // In pixels: 760, and 4 more for each row over 60.
         let plot = count
             .saturating_sub(60)
             .saturating_mul(4)
@@ -134,6 +148,7 @@ impl<'a> Sheet<'a> {
         let gutter = gutter_of(picture, &size);
         let left = gutter.saturating_add(pixels(10));
         let right = left.saturating_add(scale.end).saturating_add(pixels(6));
+        // The line of letters at the top: those of the title are 8.6 pixels wide, those of the summary 6.7.
         let name = (picture.name.len() as u64).saturating_mul(8_600_000);
         let summary = (picture.summary.len() as u64).saturating_mul(6_700_000);
         let title = pixels(40).saturating_add(name).saturating_add(summary);
@@ -143,6 +158,7 @@ impl<'a> Sheet<'a> {
             gutter,
             left,
             right,
+            // Behind the plot there is room for the words at the ends of bars.
             width: right.saturating_add(pixels(168)).max(title),
             scale,
             wins: Vec::new(alloc),
@@ -154,6 +170,7 @@ impl<'a> Sheet<'a> {
         Ok(sheet)
     }
 
+    // Notes of each row whose call won a pruning that has a row where that was bound.
     fn find_wins(&mut self) {
         for row in &self.picture.rows.rows {
             if let Some((End::Bound(_, Some(call)), at)) = self
@@ -173,12 +190,12 @@ impl<'a> Sheet<'a> {
 
     // ---- places
 
-    // Below the last row.
+    // The lower edge of the last row, in pixels.
     fn bottom(&self) -> u64 {
         self.down(self.picture.rows.rows.len())
     }
 
-    // The upper edge of a row.
+    // The upper edge of a row, in pixels.
     fn down(&self, row: usize) -> u64 {
         TOP.saturating_add((row as u64).saturating_mul(self.size.row))
     }
@@ -188,6 +205,7 @@ impl<'a> Sheet<'a> {
         pixels(self.down(row)).saturating_add(pixels(self.size.row) / 2)
     }
 
+    // The left edge of an instant's band.
     fn band(&self, instant: usize) -> u64 {
         self.left.saturating_add(self.scale.begin(instant))
     }
@@ -200,6 +218,7 @@ impl<'a> Sheet<'a> {
             .saturating_add(self.scale.slot / 2)
     }
 
+    // Where a span begins.
     fn begin(&self, span: &Span) -> u64 {
         self.across(span.began)
     }
@@ -214,6 +233,8 @@ impl<'a> Sheet<'a> {
 
     // ---- the frame
 
+    // Writes the beginning of the SVG, down to this lower edge: its size, its title, its style sheet, its background, and the line of letters at the
+    // top.
     fn head(&self, page: &mut Page, theme: Theme, bottom: u64) {
         let width = self.width.saturating_add(PARTS / 2) / PARTS;
         page.form(
@@ -237,6 +258,7 @@ impl<'a> Sheet<'a> {
             "</style><rect class=\"bg\" width=\"100%\" height=\"100%\"/><text class=\"title\" x=\"12\" y=\"20\">",
         );
         page.escaped(self.picture.name);
+        // The summary stands behind the title, whose letters are 8.6 pixels wide.
         let tenths = (self.picture.name.len() as u64).saturating_mul(86);
         let behind = tenths.saturating_add(5) / 10;
         page.form(
@@ -247,6 +269,7 @@ impl<'a> Sheet<'a> {
         page.say("</text>");
     }
 
+    // Writes the band of each time, or a line where there are too many times, and the line of times above.
     fn times(&self, page: &mut Page) {
         let instants = &self.picture.slots.instants;
         let are_bands = instants.len() <= MOST_BANDS;
@@ -296,6 +319,7 @@ impl<'a> Sheet<'a> {
 
     // ---- publications
 
+    // Writes the dot of each publication, with a line down through the rows where there are few, and the values below the dots.
     fn publications(&self, page: &mut Page) {
         page.form(
             "<text class=\"lab\" x=\"12\" y=\"@\">publishes</text>\n",
@@ -335,9 +359,10 @@ impl<'a> Sheet<'a> {
         }
     }
 
-    // The values of a time, where they don't reach as far as this.
+    // Writes the values of a time if they end before this limit, or else how many there are if that has room, or nothing.
     fn values(&self, page: &mut Page, some: &Publications, limit: u64) {
         let place = self.across(some.first);
+        // These letters are 7.3 pixels wide.
         let end = place.saturating_add(some.width().saturating_mul(7_300_000));
         let is_short = end > limit;
         if is_short && (some.count < 2 || place.saturating_add(pixels(60)) >= limit) {
@@ -357,7 +382,7 @@ impl<'a> Sheet<'a> {
 
     // ---- rows
 
-    // The tinted box round the rows of what stands in a pruning.
+    // Writes for each pruning the tinted box round its row and the rows of what stands in it.
     fn boxes(&self, page: &mut Page) {
         let rows = &self.picture.rows.rows;
         for (i, row) in rows.iter().enumerate() {
@@ -378,6 +403,7 @@ impl<'a> Sheet<'a> {
         }
     }
 
+    // Writes the row of each span.
     fn rows(&self, page: &mut Page) {
         for (i, row) in self.picture.rows.rows.iter().enumerate() {
             if let Some(span) = self.picture.span(row) {
@@ -389,16 +415,18 @@ impl<'a> Sheet<'a> {
         }
     }
 
-    // Where the letters of a row stand.
+    // The base line of a row's letters, in parts.
     fn line(&self, row: usize) -> u64 {
         self.middle(row)
             .saturating_add(self.size.letter.saturating_mul(350_000))
     }
 
+    // Where the label of a row begins.
     fn indent(&self, row: &Row) -> u64 {
         pixels(12).saturating_add(row.depth.saturating_mul(self.size.indent))
     }
 
+    // Writes the row of a call, at this place: its label, its number, its bar, and how it ended.
     fn call(&self, page: &mut Page, i: usize, row: &Row, span: &Span, called: Called) {
         let class = class_of(span);
         page.say("<g><title>");
@@ -432,7 +460,7 @@ impl<'a> Sheet<'a> {
         page.say("</text></g>\n");
     }
 
-    // The mark at a call's end, and the words behind it.
+    // Writes the sign at a call's end, and the words behind it. The caller closes their tag.
     fn call_end(&self, page: &mut Page, i: usize, row: &Row, span: &Span, called: Called) {
         let end = self.end(span);
         let class = class_of(span);
@@ -466,6 +494,7 @@ impl<'a> Sheet<'a> {
         page.say("<text class=\"end ");
         page.say(class);
         page.form("t\" x=\"%\" y=\"%\">", &[behind, self.line(i)]);
+        // In a picture of many rows the label is far from the bar, so it is written behind that too.
         let is_crowded = self.picture.rows.rows.len() > 60;
         if is_crowded && self.begin(span) > self.gutter.saturating_add(pixels(400)) {
             page.escaped(row.label.as_str());
@@ -478,6 +507,7 @@ impl<'a> Sheet<'a> {
         }
     }
 
+    // Writes a cross round a point, all in parts.
     fn cross(&self, page: &mut Page, x: u64, y: u64, reach: u64) {
         let (left, right) = (x.saturating_sub(reach), x.saturating_add(reach));
         let (up, down) = (y.saturating_sub(reach), y.saturating_add(reach));
@@ -487,11 +517,12 @@ impl<'a> Sheet<'a> {
         );
     }
 
-    // How far a mark reaches from its middle.
+    // How far a sign reaches from its middle, in parts.
     fn reach(&self) -> u64 {
         (pixels(self.size.bar) / 2).min(pixels(6))
     }
 
+    // Writes the row of a pruning or an otherwise, at this place: its label, its line, and how it ended.
     fn side(&self, page: &mut Page, i: usize, row: &Row, span: &Span) {
         let (begin, end, middle) = (self.begin(span), self.end(span), self.middle(i));
         page.form(
@@ -523,7 +554,7 @@ impl<'a> Sheet<'a> {
         page.say("</text>\n");
     }
 
-    // The mark at the end of a pruning or an otherwise, as far as the words behind it.
+    // Writes the sign at the end of a pruning or an otherwise, in parts at x and y, and opens the tag of the words behind it, whose class it finds.
     fn side_end(&self, page: &mut Page, i: usize, span: &Span, x: u64, y: u64) {
         let q = self.reach();
         let (left, right) = (x.saturating_sub(q), x.saturating_add(q));
@@ -576,7 +607,7 @@ impl<'a> Sheet<'a> {
         );
     }
 
-    // From the answer that won to the value that it became.
+    // Writes the green line from each answer that won to the pruning whose value it became.
     fn winners(&self, page: &mut Page) {
         for (i, row) in self.picture.rows.rows.iter().enumerate() {
             if let Some((End::Bound(_, Some(call)), at)) = self
@@ -602,7 +633,7 @@ impl<'a> Sheet<'a> {
     }
 }
 
-// How many rows stand in the one before them.
+// How many rows stand in the row at a place: those behind it that are deeper.
 fn inner_rows(rows: &[Row], at: usize, depth: u64) -> u64 {
     let mut count: u64 = 0;
     for row in rows.iter().skip(at.saturating_add(1)) {
@@ -614,7 +645,7 @@ fn inner_rows(rows: &[Row], at: usize, depth: u64) -> u64 {
     count
 }
 
-/// The class of a call's bar.
+/// The class of a call's bar, by how the call ended. That of the words behind it has one `t` more.
 pub(crate) fn class_of(span: &Span) -> &'static str {
     match span.end {
         Some((End::Answered(_), _)) => "ok",
@@ -624,7 +655,7 @@ pub(crate) fn class_of(span: &Span) -> &'static str {
     }
 }
 
-// What is told of a pruning or an otherwise where the reader points at it: when it stood.
+// Writes the title of a pruning or an otherwise, which a viewer shows where the reader points at it: from when to when it was open.
 fn say_stay(page: &mut Page, span: &Span) {
     let name = match span.kind {
         Kind::Pruning(_) => "pruning",
@@ -643,7 +674,7 @@ fn say_stay(page: &mut Page, span: &Span) {
     page.say("</title>");
 }
 
-// What is told of a call where the reader points at it.
+// Writes what a viewer shows of a call where the reader points at it.
 fn say_tip(page: &mut Page, row: &Row, span: &Span, called: Called) {
     page.form("call @: ", &[called.number]);
     page.escaped(row.label.as_str());

@@ -1,4 +1,4 @@
-//! A picture as rows of text.
+//! A picture as rows of text. Left of the plot each row has its label and the number of its call; columns of the plot are counted from 0.
 
 use crate::picture::Picture;
 use crate::rows::Row;
@@ -7,14 +7,16 @@ use crate::story::{Called, End, Kind, Moment, Span};
 use orc_report::{Fill, Page, digits};
 use std::alloc::{AllocError, Global};
 
-// The widest label, and the columns that belong to no label, number or plot: blanks between them, and what stands behind a bar.
+// The widest label, in columns. A longer one is cut.
 const WIDEST: u64 = 30;
 
+// The narrowest column of labels: `publishes` has nine letters.
 const NARROWEST: u64 = 9;
 
+// The columns that belong to no label, number or plot: blanks between them, and what stands behind a bar.
 const APART: u64 = 21;
 
-// The columns of a picture: its labels, its numbers and its plot.
+// How many columns the labels and the numbers of calls take, and how the plot is shared among the times.
 #[derive(Drop)]
 struct Columns<'a> {
     picture: &'a Picture<'a>,
@@ -31,7 +33,7 @@ struct Stroke {
     last: char,
 }
 
-/// Writes a picture as text of about so many columns.
+/// Writes a picture as text of about so many columns. The error is refused memory.
 pub(crate) fn write(alloc: Global, picture: &Picture, width: u64) -> Result<String, AllocError> {
     let mut page = Page::new(alloc);
     let columns = Columns::new(alloc, &*picture, width)?;
@@ -51,7 +53,7 @@ pub(crate) fn write(alloc: Global, picture: &Picture, width: u64) -> Result<Stri
     page.finish()
 }
 
-/// Writes its rows alone.
+/// Writes the rows of a picture alone. The error is refused memory.
 pub(crate) fn write_rows(
     alloc: Global,
     picture: &Picture,
@@ -63,7 +65,7 @@ pub(crate) fn write_rows(
     page.finish()
 }
 
-// The whole columns of so many parts, which were cut off at each share: a thousandth more makes up for that.
+// How many whole columns so many parts are. Each share of a width was rounded down, so a thousandth of a column more is added before.
 fn columns_of(parts: u64) -> u64 {
     parts.saturating_add(PARTS / 1_000) / PARTS
 }
@@ -99,10 +101,12 @@ impl<'a> Columns<'a> {
         })
     }
 
+    // The column of the plot's right edge.
     fn right(&self) -> u64 {
         columns_of(self.scale.end)
     }
 
+    // The column in which an instant's band begins.
     fn begin(&self, instant: usize) -> u64 {
         columns_of(self.scale.begin(instant))
     }
@@ -114,7 +118,7 @@ impl<'a> Columns<'a> {
         self.begin(slot.instant).saturating_add(within)
     }
 
-    // The times, what was published, and the rows of the calls and of the sides.
+    // Writes the line of times, that of publications, and the rows of calls, prunings and otherwises.
     fn rows(&self, page: &mut Page) {
         self.times(page);
         self.publications(page);
@@ -123,7 +127,7 @@ impl<'a> Columns<'a> {
         }
     }
 
-    // What stands left of the plot.
+    // Writes a label, indented, in the columns of labels; one that is too long ends with `..`.
     fn head(&self, page: &mut Page, label: &str, indent: u64) {
         let length = indent.saturating_add(label.len() as u64);
         let is_cut = length > self.label;
@@ -140,7 +144,7 @@ impl<'a> Columns<'a> {
         }
     }
 
-    // The number of a call, or blanks.
+    // Writes the number of a call, or blanks, in its columns.
     fn number(&self, page: &mut Page, number: Option<u64>) {
         page.say(" ");
         match number {
@@ -153,7 +157,7 @@ impl<'a> Columns<'a> {
         page.say("  ")
     }
 
-    // A number that would touch the one before it is left out, and one that would touch that of the last time.
+    // Writes the line of times. A number that would touch the one before it is left out, and so is one that would touch that of the last time.
     fn times(&self, page: &mut Page) {
         self.head(page, "time", 0);
         self.number(page, None);
@@ -173,6 +177,7 @@ impl<'a> Columns<'a> {
         page.say("\n")
     }
 
+    // Writes the line of publications: a `*` for those of each time, and the values where they have room before the next `*`.
     fn publications(&self, page: &mut Page) {
         let all = &self.picture.publications;
         if all.is_empty() {
@@ -186,6 +191,7 @@ impl<'a> Columns<'a> {
             let begin = self.column(some.first);
             let next = match all.get(i.saturating_add(1)) {
                 Some(next) => self.column(next.first),
+                // Behind the plot there is room.
                 None => self.right().saturating_add(40),
             };
             let width = some.width();
@@ -204,6 +210,7 @@ impl<'a> Columns<'a> {
         page.say("\n")
     }
 
+    // Writes the row of a span: its label, its number, its bar, and how it ended.
     fn row(&self, page: &mut Page, row: &Row) {
         let Some(span) = self.picture.span(row) else {
             return;
@@ -224,7 +231,7 @@ impl<'a> Columns<'a> {
         page.say("\n")
     }
 
-    // A bar from where a span begins to where it ends, or to the right edge.
+    // Writes a bar, or the line of a pruning or an otherwise, from where the span begins to where it ends, or to the right edge.
     fn bar(&self, page: &mut Page, span: &Span) {
         let stroke = stroke_of(span);
         let begin = self.column(span.began);
@@ -242,7 +249,7 @@ impl<'a> Columns<'a> {
     }
 }
 
-// The stroke of a bar, or of the line of a side.
+// The stroke of a call's bar, or of the line of a pruning or an otherwise. docs/orc.md, Pictures, lists them.
 fn stroke_of(span: &Span) -> Stroke {
     let is_call = matches!(span.kind, Kind::Call(_));
     let (fill, last) = match span.end {
@@ -261,12 +268,12 @@ fn stroke_of(span: &Span) -> Stroke {
     }
 }
 
-/// How many calls aren't drawn, in words.
+/// Writes how many calls aren't drawn.
 pub(crate) fn say_small(page: &mut Page, small: u64) {
     page.tell("% of no time", &[Fill::Count(small, "built-in call")]);
 }
 
-/// How a call ends, in words.
+/// Writes how a call ended: its value, `halt`, or when it was due.
 pub(crate) fn say_fate(page: &mut Page, span: &Span, called: Called) {
     let due = Fill::Number(called.due.unwrap_or(0));
     match (span.end, called.due) {
@@ -279,7 +286,7 @@ pub(crate) fn say_fate(page: &mut Page, span: &Span, called: Called) {
     }
 }
 
-/// How a pruning or an otherwise ends, in words.
+/// Writes how a pruning or an otherwise ended.
 pub(crate) fn say_end(page: &mut Page, span: &Span) {
     match span.end {
         Some((End::Bound(value, _), _)) => page.tell("= %", &[Fill::Value(value)]),
