@@ -7,13 +7,14 @@ use Rattle.orc_ways.specs.declared.test.Reply.{Reply}
 use Rattle.orc_ways.specs.declared.test.Reply.TheVariants.{Between, Never}
 use Rattle.orc_ways.specs.Lines.{History, Service}
 
--- What a service does in a way: how many of its calls don't take the first alternative, whether a range is in what they take, and its answers to one call
--- after the other.
+-- What a service does in a way: how many of its calls don't take the first alternative, whether a range is in what they take, and its answers to one
+-- call after the other.
 pub record Choice : Type 0 where
   pub off : ℕ
   pub is_ranged : Bool
   pub answers : List Found
 
+-- the first calls are answered as by a, further ones as by b
 abbrev pub followed_by : Choice → Choice → Choice
 followed_by a b = record { off = a.off + b.off; is_ranged = a.is_ranged || b.is_ranged; answers = a.answers ++ b.answers }
 
@@ -33,7 +34,7 @@ answers_of Never = one_answer false found.Never ∷ []
 abbrev pub begin : ℕ → Choice
 begin off = record { off = off; is_ranged = false; answers = [] }
 
--- these, and behind them what each reply stands for
+-- each of these choices followed by what the replies stand for, one reply after the other
 abbrev pub with_replies : List Choice → History → List Choice
 with_replies cs [] = cs
 with_replies cs (r ∷ rs) = with_replies (each_followed cs (answers_of r)) rs
@@ -43,7 +44,7 @@ abbrev pub options : ℕ → List History → List Choice
 options off [] = []
 options off (h ∷ hs) = with_replies (begin off ∷ []) h ++ options 1 hs
 
--- these, and behind them n calls that take one of the options each
+-- each of these choices followed by n calls that take one of the options each
 abbrev pub with_calls : List Choice → ℕ → List Choice → List Choice
 with_calls os zero cs = cs
 with_calls os (suc n) cs = with_calls os n (each_followed cs os)

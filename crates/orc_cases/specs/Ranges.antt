@@ -14,12 +14,12 @@ answer_eq (Value v) (Value w) = value_eq v w
 answer_eq Halt Halt = true
 answer_eq _ _ = false
 
--- the delay with which this answer comes, where what comes is this answer
+-- the delay of what is found, if it is this answer
 abbrev pub delay_among : Answer → Option Found → Option ℕ
 delay_among a (Some (After b d)) = cond (answer_eq b a) (Some d) None
 delay_among a _ = None
 
--- the same of the call at a place, where what a line does has a range
+-- the delay after which a choice gives this answer to the call at a place, if the choice has a range
 abbrev pub delay_in : ℕ → Answer → Option Choice → Option ℕ
 delay_in place a (Some c) = cond c.is_ranged (delay_among a (slice_get c.answers place)) None
 delay_in place a None = None

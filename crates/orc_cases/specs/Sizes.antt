@@ -25,7 +25,7 @@ abbrev pub ways_size : List Service → ℕ
 ways_size [] = 1
 ways_size (s ∷ ss) = service_size s * ways_size ss
 
--- ---- the same in numbers that stop above the most ways, as they grow
+-- ---- the same in numbers that stop at `MOST_WAYS` + 1, as the code multiplies and adds them up
 
 unfoldable pub capped : ℕ → ℕ
 capped n = min n (MOST_WAYS + 1)

@@ -28,6 +28,7 @@ patterns_text (p ∷ ps) = codes "(" ++ (pattern_text p ++ closing ps)
 abbrev pub call_text : Service → List ℕ
 call_text s = s.name ++ patterns_text s.patterns
 
+-- ` after N`, or nothing for a delay of 0
 abbrev pub after_text : ℕ → List ℕ
 after_text zero = []
 after_text (suc n) = codes " after " ++ decimal (suc n)
@@ -50,7 +51,7 @@ answer_text (After (Value v) d) = value_text v ++ after_text d
 answer_text (After Halt d) = codes "halt" ++ after_text d
 answer_text Never = codes "never"
 
--- what stands before the answer to the call at a place
+-- what stands before the answer to the call at a place, from 0
 abbrev pub mark : ℕ → List ℕ
 mark zero = codes " = "
 mark (suc n) = codes " then "

@@ -1,4 +1,5 @@
-//! What a service may do in a way.
+//! The choices of a service: what it may answer in a way, one call after the other. A call that doesn't take the first alternative is *off*
+//! (unusual).
 
 ghost use Rattle.std.specs.Prelude.{◌≡◌, ◌++◌, ◌∷◌, ◌+◌, [], IfOk, OnOk, map};
 ghost use Rattle.orc_ways.specs.Values.{histories_of, service_of};
@@ -11,14 +12,15 @@ use std::alloc::{AllocError, Global};
 
 /// What a service does in a way.
 pub(crate) struct Choice {
-    /// How many of its calls don't take the first alternative.
+    /// How many of its calls don't take the first alternative. Without `in each of N calls` the line's one alternative counts as one call.
     pub(crate) off: u64,
     /// Whether a range is in what they take.
     pub(crate) is_ranged: bool,
-    /// What it answers to the first call, the second one and so on, where the last goes on.
+    /// What it answers to the first call with the same arguments, the second one and so on; the last one answers all further calls too.
     pub(crate) answers: Vec<Found>,
 }
 
+// Written out, so that a caller's proof sees one call and not the drop of each field.
 impl Drop for Choice {
     fn drop(self) {
         let Choice {
@@ -29,7 +31,8 @@ impl Drop for Choice {
     }
 }
 
-/// Two numbers of calls together. There are no more calls than answers that they take, for which memory is refused before the sum is too large.
+/// The sum of two numbers of calls off. Where it would overflow the error is refused memory: each of these calls has an answer that is kept, so
+/// memory for them is used up long before.
 pub(crate) fn sum(a: u64, b: u64) -> Result<u64, AllocError>
     ensures { IfOk result (λ n. n ≡ a + b) }
 {
@@ -40,7 +43,7 @@ pub(crate) fn sum(a: u64, b: u64) -> Result<u64, AllocError>
 }
 
 impl Choice {
-    // Before the first answer, where so many calls are off.
+    // The choice without answers yet, in which so many calls are off already.
     fn begin(alloc: Global, off: u64) -> Choice
         ensures { choice_of result ≡ begin off }
     {
@@ -51,7 +54,7 @@ impl Choice {
         }
     }
 
-    // This choice, and behind it the other. The error is refused memory.
+    // The choice that answers first as this one does, and further calls as the other one. The error is refused memory.
     fn followed_by(&self, alloc: Global, other: &Choice) -> Result<Choice, AllocError>
         ensures { IfOk result (λ c. choice_of c ≡ followed_by (choice_of self.now) (choice_of other.now)) }
     {
@@ -67,7 +70,7 @@ impl Choice {
     }
 }
 
-// A choice of one answer.
+// The choice of one answer, with no call off: `histories` counts that for the whole alternative.
 fn one_answer(alloc: Global, is_ranged: bool, answer: Found) -> Result<Choice, AllocError>
     ensures { IfOk result (λ c. choice_of c ≡ one_answer is_ranged answer) }
 {
@@ -80,7 +83,7 @@ fn one_answer(alloc: Global, is_ranged: bool, answer: Found) -> Result<Choice, A
     })
 }
 
-// Adds an answer for each delay of a range, from its low end.
+// Pushes a choice of one answer for each delay from `low` to `high`, both included.
 #[tactic(auto, using(crate::proofs::Lists::range_end, crate::proofs::Lists::range_none))]
 fn add_delays(
     alloc: Global,
@@ -96,7 +99,9 @@ fn add_delays(
     }
     let mut delay = low;
     loop {
+        // `after 5` is read as a range from 5 to 5, which counts as none.
         all.push(one_answer(alloc, low < high, Found::After(answer, delay))?)?;
+        // Asked before the step, since `high` may be the greatest number that there is.
         if delay >= high {
             return Ok(());
         }
@@ -104,7 +109,7 @@ fn add_delays(
     }
 }
 
-// The answers that a reply stands for, from the low end of its range.
+// The answers that a reply stands for, each as a choice, from the low end of its range.
 fn answers_of(alloc: Global, reply: Reply) -> Result<Vec<Choice>, AllocError>
     ensures { IfOk result (λ cs. choices_from cs.items ≡ answers_of reply) }
 {
@@ -116,7 +121,7 @@ fn answers_of(alloc: Global, reply: Reply) -> Result<Vec<Choice>, AllocError>
     Ok(all)
 }
 
-// Adds a choice followed by each of others.
+// Pushes the first choice followed by each of the others.
 fn add_followed(
     alloc: Global,
     all: &mut Vec<Choice>,
@@ -137,7 +142,7 @@ fn add_followed(
     }
 }
 
-// Each of some choices followed by each of others, the others the fastest.
+// All pairs of a choice of `some` followed by one of `others`: for each of `some` in turn, all of `others`.
 fn each_followed(
     alloc: Global,
     some: &[Choice],
@@ -158,7 +163,8 @@ fn each_followed(
     }
 }
 
-// What an alternative stands for, with so many calls off.
+// What one alternative, an answer for each call, stands for: a choice for each combination of the delays of its ranges. In each so many calls are
+// off.
 fn histories(alloc: Global, off: u64, replies: &[Reply]) -> Result<Vec<Choice>, AllocError>
     ensures { IfOk result (λ cs. choices_from cs.items ≡ with_replies (begin off ∷ []) replies.now) }
 {
@@ -177,7 +183,7 @@ fn histories(alloc: Global, off: u64, replies: &[Reply]) -> Result<Vec<Choice>, 
     }
 }
 
-// What alternatives stand for, in their order. Where an alternative isn't the first one, a call is off.
+// What the alternatives stand for, in their order. The first one is the usual one; each other one has one call off.
 fn options(alloc: Global, alternatives: &[Vec<Reply>]) -> Result<Vec<Choice>, AllocError>
     ensures { IfOk result (λ cs. choices_from cs.items ≡ options 0 (histories_of alternatives.now)) }
 {
@@ -197,7 +203,7 @@ fn options(alloc: Global, alternatives: &[Vec<Reply>]) -> Result<Vec<Choice>, Al
     }
 }
 
-// What a service may do: each of its calls takes an alternative of its own.
+// What a service may do: with `in each of N calls` each of N calls takes an alternative of its own, and otherwise the line takes one.
 fn all_choices(alloc: Global, service: &Service<'_>) -> Result<Vec<Choice>, AllocError>
     ensures { IfOk result (λ cs. choices_from cs.items ≡ all_choices (service_of service.now)) }
 {
@@ -212,7 +218,7 @@ fn all_choices(alloc: Global, service: &Service<'_>) -> Result<Vec<Choice>, Allo
     Ok(all)
 }
 
-// Those that are off first.
+// Those that are off first, and behind them the usual ones. Both keep their order.
 fn off_first(alloc: Global, choices: Vec<Choice>) -> Result<Vec<Choice>, AllocError>
     ensures { IfOk result (λ cs. choices_from cs.items ≡ off_first (choices_from choices.items)) }
 {
@@ -229,7 +235,8 @@ fn off_first(alloc: Global, choices: Vec<Choice>) -> Result<Vec<Choice>, AllocEr
     Ok(off)
 }
 
-/// What a service may do, in the order of its alternatives, what is off before what is usual. The error is refused memory.
+/// What a service may do: the choices that are off, and then the usual ones, each in the order of the alternatives and of their ranges from the low
+/// end. The error is refused memory.
 #[tactic(auto, unfolding(crate::specs::Choices::choices))]
 pub(crate) fn choices(alloc: Global, service: &Service<'_>) -> Result<Vec<Choice>, AllocError>
     ensures { IfOk result (λ cs. choices_from cs.items ≡ choices (service_of service.now)) }

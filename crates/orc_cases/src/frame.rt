@@ -1,4 +1,4 @@
-//! What the scripts of a case have in common.
+//! The frame of a case: what the scripts of all its ways have in common. A way is a number in the frame, from 0, and `push_way` writes it out.
 
 ghost use Rattle.std.specs.Prelude.{◌≡◌, ◌++◌, ◌<◌, IfOk, OnOk, length, map, option_map, slice_get};
 ghost use Rattle.orc_ways.specs.Values.{service_of};
@@ -17,10 +17,12 @@ use crate::text::{push_answers, push_call, push_end, push_halts};
 use orc_ways::test::{Service, ServiceLine};
 use std::alloc::{AllocError, Global};
 
-/// A line of the script of each way: what stands before its `=`, and what its service may do.
+/// A line of a service, which is in the script of each way.
 #[derive(Drop)]
 pub(crate) struct Line {
+    /// What stands before its `=`, such as `Pay(_, 1)`.
     pub(crate) call: Vec<u8>,
+    /// What may stand from its `=` on.
     pub(crate) choices: Vec<Choice>,
 }
 
@@ -28,12 +30,14 @@ pub(crate) struct Line {
 #[derive(Drop)]
 pub(crate) struct Frame {
     pub(crate) lines: Vec<Line>,
-    /// The lines of the services of the test that have none in the case.
+    /// A line `NAME() = halt` for each name of a service that the test has and the case hasn't.
     pub(crate) halts: Vec<u8>,
-    /// In how many ways the lines may take one choice each. Each way has a number below, whose digits are the places of its choices, the last line's the lowest.
+    /// How many ways there are: the product of the lines' numbers of choices. Each number below is a way. Its digits are the places of the lines'
+    /// choices, each digit in the base of its line's number of choices, the last line's digit the lowest.
     pub(crate) count: usize,
 }
 
+// The line of a service, with all that it may do. The error is refused memory.
 fn line_of(alloc: Global, service: &Service<'_>) -> Result<Line, AllocError>
     ensures { IfOk result (λ l. line_from l ≡ line_of (service_of service.now)) }
 {
@@ -43,7 +47,7 @@ fn line_of(alloc: Global, service: &Service<'_>) -> Result<Line, AllocError>
     Ok(Line { call, choices })
 }
 
-/// The lines of the services at these places, each with what it may do. The error is refused memory.
+/// The lines of the services at these places of the test's list, each with what it may do. The error is refused memory.
 pub(crate) fn lines_of(
     alloc: Global,
     services: &[ServiceLine<'_>],
@@ -66,7 +70,7 @@ pub(crate) fn lines_of(
     }
 }
 
-/// The lines of the services that have none at these places. The error is refused memory.
+/// The text of a line `NAME() = halt` for each name that a service of the test has, but none at these places. The error is refused memory.
 pub(crate) fn halts_of(
     alloc: Global,
     services: &[ServiceLine<'_>],
@@ -80,13 +84,14 @@ pub(crate) fn halts_of(
     Ok(halts)
 }
 
+// Whether a line with this choice is written: each line is, or, with `only_telling`, one that is off or takes an alternative with a range.
 fn is_shown(only_telling: bool, choice: &Choice) -> bool
     ensures { result ≡ is_shown only_telling (choice_of choice.now) }
 {
     !only_telling || choice.off > 0 || choice.is_ranged
 }
 
-// Writes a line with what it does, if it is shown.
+// Writes a line with this choice, if `is_shown` says so.
 fn push_line(
     text: &mut Vec<u8>,
     line: &Line,
@@ -102,7 +107,7 @@ fn push_line(
     push_answers(text, choice.answers.as_slice())
 }
 
-// Writes the lines of the way of this number, which is below so many; or those lines alone that tell it from other ways.
+// Writes the lines of the way with this number; with `only_telling` those alone that tell it from other ways. `count` is the number of ways.
 fn push_way(
     text: &mut Vec<u8>,
     lines: &[Line],
@@ -118,6 +123,7 @@ fn push_way(
     let mut digits = number;
     for line in lines {
         let choices = line.choices.as_slice();
+        // `left` is how many ways the lines behind this one have: no length here is 0, since their product `count` is over `number`.
         left /= choices.len();
         let choice = &choices[digits / left];
         push_line(text, line, choice, only_telling)?;
@@ -126,7 +132,7 @@ fn push_way(
     Ok(())
 }
 
-// What the line at a place does in the way of this number, which is below so many; None where there is no such line.
+// The choice of the line at a place in the way with this number; None where there is no such line. It divides as `push_way` does.
 fn choice_at(lines: &[Line], count: usize, number: usize, place: usize) -> Option<&Choice>
     requires counted { count ≡ length (combinations (all_choices_of lines.now)) }
     requires within { number < count }
@@ -148,6 +154,7 @@ fn choice_at(lines: &[Line], count: usize, number: usize, place: usize) -> Optio
     None
 }
 
+// Whether there is a choice and it takes an alternative with a range.
 fn is_ranged(choice: Option<&Choice>) -> bool
     ensures { result ≡ is_ranged (option_map (λ c. choice_of c.now) choice.entry) }
 {
@@ -158,7 +165,7 @@ fn is_ranged(choice: Option<&Choice>) -> bool
 }
 
 impl Frame {
-    /// What the line at a place does in the way of this number; None where there is no such line.
+    /// The choice of the line at a place, from 0, in the way with this number; None where there is no such line.
     pub(crate) fn choice(&self, number: usize, place: usize) -> Option<&Choice>
         requires counted { IsCounted self.now }
         requires within { number < self.now.count }
@@ -189,7 +196,8 @@ impl Frame {
         }
     }
 
-    /// The lines of the way of this number, or those alone that tell it from other ways. The error is refused memory.
+    /// The text of the lines of the way with this number; with `only_telling` of those alone that are off or take an alternative with a range. The
+    /// error is refused memory.
     pub(crate) fn way(
         &self,
         alloc: Global,
@@ -211,7 +219,7 @@ impl Frame {
         Ok(text)
     }
 
-    // The script of the way of this number, with these lines behind those of its services.
+    // The script of the way with this number: the lines of its services, those that are handed in, and last the halts. The error is refused memory.
     fn script(&self, alloc: Global, number: usize, behind: &[u8]) -> Result<Vec<u8>, AllocError>
         requires counted { IsCounted self.now }
         requires within { number < self.now.count }
@@ -219,12 +227,14 @@ impl Frame {
     {
         let mut text = self.way(alloc, number, false)?;
         text.extend_from_slice(behind)?;
+        // The caller's text may lack its last LF.
         push_end(&mut text, behind)?;
         text.extend_from_slice(self.halts.as_slice())?;
         Ok(text)
     }
 
-    /// The scripts of the ways of these numbers, each with these lines behind those of its services. The error is refused memory.
+    /// The scripts of the ways with these numbers, in that order, each with the lines `behind` after those of its services. The error is refused
+    /// memory.
     pub(crate) fn scripts(
         &self,
         alloc: Global,

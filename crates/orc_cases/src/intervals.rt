@@ -1,17 +1,18 @@
-//! Numbers as intervals.
+//! Sorted numbers as intervals: 3, 4, 5 and 9 are 3 to 5 and 9 to 9.
 
 ghost use Rattle.std.specs.Prelude.{◌≡◌, IfOk};
 ghost use Rattle.orc_cases.specs.Intervals.{alone, intervals};
 
 use std::alloc::{AllocError, Global};
 
-/// The numbers from a first to a last one.
+/// The numbers from a first to a last one, both included.
 #[derive(Clone, Copy)]
 pub(crate) struct Interval {
     pub(crate) first: u64,
     pub(crate) last: u64,
 }
 
+// The interval of one number.
 fn alone(number: u64) -> Interval
     ensures { result ≡ alone number }
 {
@@ -21,7 +22,8 @@ fn alone(number: u64) -> Interval
     }
 }
 
-/// The intervals of numbers that stand in their order, the lowest first. Between two of them a number is left out. The error is refused memory.
+/// The intervals of ascending numbers, in which one may stand twice. Between two intervals at least one number is missing. The error is refused
+/// memory.
 pub(crate) fn intervals(alloc: Global, numbers: &[u64]) -> Result<Vec<Interval>, AllocError>
     ensures { IfOk result (λ is. is.items ≡ intervals numbers.now) }
 {
@@ -38,6 +40,7 @@ pub(crate) fn intervals(alloc: Global, numbers: &[u64]) -> Result<Vec<Interval>,
                 return Ok(all);
             }
             [number, more @ ..] => {
+                // A number that isn't greater is in the open interval already.
                 if *number > open.last {
                     if *number - 1 == open.last {
                         open.last = *number;

@@ -1,13 +1,13 @@
-//! What the ways of a case are, and how numbers of failing ways are told.
+//! Two statements that are proved of the definitions alone: their functions have no body, and nobody calls them.
 
 ghost use Rattle.orc_cases.specs.Laws.{EachMaximal, EachOnce};
 
-/// The ways of a case are all combinations of what its services may do, each once: none is left out, and none comes twice.
+/// `ways` lists each combination of what the services of a case may do exactly as often as `combinations` has it: no way is left out or added.
 pub fn each_once()
     ensures { EachOnce }
 {}
 
-/// The intervals in which numbers are told have exactly these numbers; each is as long as it can be, and they stand in their order.
+/// `intervals` of sorted numbers contain exactly these numbers, ascend, and leave a gap between any two, so each is as long as it can be.
 pub fn each_maximal()
     ensures { EachMaximal }
 {}

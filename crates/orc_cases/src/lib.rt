@@ -1,4 +1,5 @@
-//! The ways of a test's case, each as the text of a script, in their order.
+//! The ways of a test's case, each as the text of a script, in their order. A *way* takes one alternative of each service and one number of each
+//! range.
 #![tactic(auto)]
 
 mod choices;

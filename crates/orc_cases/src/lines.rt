@@ -1,4 +1,4 @@
-//! The lines of a case.
+//! Which services a case has: its own, and those of `given` that it doesn't override. Services are meant by their places in the test's list, from 0.
 
 ghost use Rattle.std.specs.Prelude.{◌≡◌, ◌++◌, IfOk, OnOk, map, option_map, slice_get};
 ghost use Rattle.std.specs.List.{list_any};
@@ -11,6 +11,7 @@ use orc_claims::claim::Slot;
 use orc_ways::test::{Service, ServiceLine};
 use std::alloc::{AllocError, Global};
 
+// Whether two patterns are equal. A service has no variables; the definition has a case for them, and so has this.
 fn same_pattern(a: Slot, b: Slot) -> bool
     ensures { result ≡ slot_eq a b }
 {
@@ -51,6 +52,7 @@ fn is_same(a: &Service<'_>, b: &Service<'_>) -> bool
     a.name == b.name && same_patterns(a.patterns.as_slice(), b.patterns.as_slice())
 }
 
+// Whether a service's line is one of this case; a line of `given` has None.
 fn is_own(case: usize, of: Option<usize>) -> bool
     ensures { result ≡ is_own case of }
 {
@@ -93,7 +95,7 @@ fn is_overridden(services: &[ServiceLine<'_>], places: &[usize], service: &Servi
     }
 }
 
-// The places of a case's own services.
+// The places of a case's own services, ascending. The error is refused memory.
 fn own_places(
     alloc: Global,
     services: &[ServiceLine<'_>],
@@ -110,14 +112,14 @@ fn own_places(
     Ok(places)
 }
 
-// Whether a line is one of `given`, and none of the services at these places has its name and its patterns.
+// Whether a line is one of `given`, and none of the case's own services, which are at these places, has its name and its patterns.
 fn is_kept(services: &[ServiceLine<'_>], own: &[usize], line: &ServiceLine<'_>) -> bool
     ensures { result ≡ is_kept (services_at services.now own.now) (service_line_of line.now) }
 {
     line.case.is_none() && !is_overridden(services, own, &line.service)
 }
 
-// Adds the places of the services of `given` that none of those at these places overrides.
+// Pushes the places of the services of `given` that none of the case's own services overrides. The error is refused memory.
 fn add_kept(
     services: &[ServiceLine<'_>],
     own: &[usize],
@@ -133,8 +135,8 @@ fn add_kept(
     Ok(())
 }
 
-/// The places of the services of a case: its own in their order, then those of `given` that don't have the name and the patterns of one of its own. The
-/// error is refused memory.
+/// The places of the services of a case: its own in their order, then those of `given` that don't have the name and the patterns of one of its own.
+/// The error is refused memory.
 pub(crate) fn case_places(
     alloc: Global,
     services: &[ServiceLine<'_>],
@@ -166,7 +168,7 @@ fn has_name(names: &[&[u8]], name: &[u8]) -> bool
     }
 }
 
-// The names of the services at these places.
+// The names of the services at these places, in that order. The error is refused memory.
 fn names_at<'a>(
     alloc: Global,
     services: &[ServiceLine<'a>],
@@ -189,7 +191,7 @@ fn names_at<'a>(
     }
 }
 
-/// The names of services that none at these places has, each once. The error is refused memory.
+/// The names that services of the test have, but none at these places, each once and in the order of the test. The error is refused memory.
 pub(crate) fn other_names<'a>(
     alloc: Global,
     services: &[ServiceLine<'a>],

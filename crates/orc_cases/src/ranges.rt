@@ -1,4 +1,4 @@
-//! The numbers of ranges with which ways fail.
+//! With which delays of a range a case fails: `Pay(_) = 1 after 3..7, 12`.
 
 ghost use Rattle.std.specs.Prelude.{◌≡◌, ◌<◌, ◌++◌, IfOk, OnOk, map, option_map};
 ghost use Rattle.orc_cases.specs.Digits.{way_at};
@@ -19,14 +19,15 @@ use std::alloc::{AllocError, Global};
 #[derive(Clone, Copy)]
 pub(crate) struct Failing<'f> {
     pub(crate) frame: &'f Frame,
-    /// The numbers of the ways in the frame, in the order of the ways.
+    /// The numbers that the ways have in the frame, in the order of the ways.
     pub(crate) numbers: &'f [usize],
-    /// Whether each of the first ways fails.
+    /// Whether each of the first ways fails, in the same order. Ways behind its end were not tried, and count as not failing.
     pub(crate) fails: &'f [bool],
 }
 
 impl Failing<'_> {
-    // The delays with which a line with a range gives this answer to the call at a place, in the ways that fail.
+    // The delays after which a line gives this answer to the call at `place`, from 0, one for each way that fails and in which the line takes a
+    // range. The error is refused memory.
     fn delays(
         &self,
         alloc: Global,
@@ -61,7 +62,7 @@ impl Failing<'_> {
         }
     }
 
-    // The same as intervals. The error is refused memory.
+    // These delays, each once, as ascending intervals. The error is refused memory.
     fn intervals(
         &self,
         alloc: Global,
@@ -79,7 +80,7 @@ impl Failing<'_> {
         Ok(found)
     }
 
-    // Writes what a line's service answers at a place.
+    // Writes the answer to the call at `place`, with all delays with which some way fails in place of its own delay. The error is refused memory.
     fn write_answer(
         &self,
         alloc: Global,
@@ -103,7 +104,7 @@ impl Failing<'_> {
         }
     }
 
-    // Writes what a line's service answers, to the end of the line.
+    // Writes the rest of a line from its `=` on, with the LF. The error is refused memory.
     fn write_answers(
         &self,
         alloc: Global,
@@ -130,7 +131,8 @@ impl Failing<'_> {
         }
     }
 
-    // Writes the line of the service at a place, where what it does has a range: in place of each number of units stand all those with which a way fails.
+    // Writes the line at a place if its choice has a range; in place of each delay stand all those with which some way fails. The error is refused
+    // memory.
     fn write_line(
         &self,
         alloc: Global,
@@ -155,7 +157,8 @@ impl Failing<'_> {
         }
     }
 
-    /// The lines that take a choice with a range in the way with this number, each with the numbers with which ways fail. The error is refused memory.
+    /// The lines whose choice has a range in the way with this number in the frame, each with all delays with which some way fails. The error is
+    /// refused memory.
     pub(crate) fn lines(&self, alloc: Global, number: usize) -> Result<Vec<u8>, AllocError>
         requires counted { IsCounted self.now.frame.now }
         requires below { AreBelow self.now.frame.now.count self.now.numbers.now }
@@ -189,7 +192,7 @@ fn is_same_answer(a: Answer, b: Answer) -> bool
     }
 }
 
-// The delay with which this answer comes, where what comes is this answer.
+// The delay of what is found, if it is this answer; None for another answer, for `never`, and where nothing is found.
 fn delay_among(answer: Answer, found: Option<Found>) -> Option<u64>
     ensures { result ≡ delay_among answer found }
 {
@@ -205,7 +208,7 @@ fn delay_among(answer: Answer, found: Option<Found>) -> Option<u64>
     }
 }
 
-// The same of the call at a place, where what a line does has a range.
+// The delay after which a choice gives this answer to the call at a place, from 0; None if the choice has no range or answers otherwise there.
 fn delay_in(place: usize, answer: Answer, choice: Option<&Choice>) -> Option<u64>
     ensures { result ≡ delay_in place answer (option_map (λ c. choice_of c.now) choice.entry) }
 {

@@ -1,4 +1,4 @@
-//! How many ways there are, in numbers that stop above `MOST_WAYS`.
+//! How many ways there are, counted before any is written out. The true number may be far over 2^64, so all numbers here stop at `MANY`.
 
 ghost use Rattle.std.specs.Prelude.{◌≡◌, length};
 ghost use Rattle.orc_ways.specs.Values.{histories_of, service_of};
@@ -10,10 +10,11 @@ use crate::lines::service_at;
 use orc_ways::limits::MOST_WAYS;
 use orc_ways::test::{Reply, Service, ServiceLine};
 
-/// Stands for each number above `MOST_WAYS`.
+/// Stands for every number above `MOST_WAYS`.
 const MANY: u64 = MOST_WAYS + 1;
 
 #[tactic(auto, unfolding(crate::specs::Sizes::capped, crate::specs::Sizes::times))]
+// The product, or `MANY`.
 fn times(a: u64, b: u64) -> u64
     ensures { result ≡ times a b }
 {
@@ -21,13 +22,14 @@ fn times(a: u64, b: u64) -> u64
 }
 
 #[tactic(auto, unfolding(crate::specs::Sizes::capped, crate::specs::Sizes::plus))]
+// The sum, or `MANY`.
 fn plus(a: u64, b: u64) -> u64
     ensures { result ≡ plus a b }
 {
     a.saturating_add(b).min(MANY)
 }
 
-// How many answers a reply stands for.
+// How many answers a reply stands for: one for each delay of its range. `MANY` for more than `MOST_WAYS`.
 #[tactic(auto, using(crate::proofs::Sizing::range_size, crate::proofs::Sizing::no_range), unfolding(crate::specs::Sizes::capped, crate::specs::Sizes::plus))]
 fn reply_size(reply: Reply) -> u64
     ensures { result ≡ capped (length (answers_of reply)) }
@@ -38,7 +40,7 @@ fn reply_size(reply: Reply) -> u64
     }
 }
 
-// How many histories an alternative stands for.
+// How many choices one alternative stands for: the product over its answers.
 fn history_size(replies: &[Reply]) -> u64
     ensures { result ≡ history_from 1 replies.now }
 {
@@ -55,7 +57,7 @@ fn history_size(replies: &[Reply]) -> u64
     }
 }
 
-// How many histories alternatives stand for together.
+// How many choices the alternatives stand for together: the sum over them.
 fn options_size(alternatives: &[Vec<Reply>]) -> u64
     ensures { result ≡ options_from 0 (histories_of alternatives.now) }
 {
@@ -72,7 +74,7 @@ fn options_size(alternatives: &[Vec<Reply>]) -> u64
     }
 }
 
-// How much a service may do.
+// How many choices a service has: each of its calls, or the line as a whole, takes any one of what its alternatives stand for.
 fn service_size(service: &Service<'_>) -> u64
     ensures { result ≡ service_capped (service_of service.now) }
 {
@@ -86,7 +88,7 @@ fn service_size(service: &Service<'_>) -> u64
     size
 }
 
-/// How many ways the services at these places have together.
+/// How many ways the services at these places have together; `MOST_WAYS` + 1 if there are more than `MOST_WAYS`.
 pub(crate) fn ways_size(services: &[ServiceLine<'_>], places: &[usize]) -> u64
     ensures { result ≡ ways_from_size 1 (services_at services.now places.now) }
 {

@@ -1,4 +1,5 @@
-//! The text of a script's lines.
+//! The text of a script's lines, as docs/orc.md, *Scripts*, has it. Each `push_..` appends to `out`; its error is refused memory, and then `out` may
+//! end anywhere.
 
 ghost use Rattle.std.specs.Prelude.{◌≡◌, ◌++◌, OnOk, map, codes, decimal, true};
 ghost use Rattle.orc_rules.specs.Text.{value_text};
@@ -23,6 +24,7 @@ fn push_value(out: &mut Vec<u8>, value: Value) -> Result<(), AllocError>
     }
 }
 
+// A value, or `_`. A service has no variables, so the case for one is never met.
 fn push_pattern(out: &mut Vec<u8>, pattern: Slot) -> Result<(), AllocError>
     ensures { OnOk result (out.new.items ≡ out.old.items ++ pattern_text pattern) }
 {
@@ -32,7 +34,7 @@ fn push_pattern(out: &mut Vec<u8>, pattern: Slot) -> Result<(), AllocError>
     }
 }
 
-// Patterns behind the first one, and the bracket.
+// The patterns behind the first one, each after a comma, and the bracket that closes.
 fn push_closing(out: &mut Vec<u8>, patterns: &[Slot]) -> Result<(), AllocError>
     ensures { OnOk result (out.new.items ≡ out.old.items ++ closing patterns.now) }
 {
@@ -62,6 +64,7 @@ fn push_patterns(out: &mut Vec<u8>, patterns: &[Slot]) -> Result<(), AllocError>
     }
 }
 
+// ` after N`, or nothing for a delay of 0.
 fn push_after(out: &mut Vec<u8>, delay: u64) -> Result<(), AllocError>
     ensures { OnOk result (out.new.items ≡ out.old.items ++ after_text delay) }
 {
@@ -73,7 +76,7 @@ fn push_after(out: &mut Vec<u8>, delay: u64) -> Result<(), AllocError>
     out.extend_from_slice(buffer.format(delay).as_bytes())
 }
 
-/// Writes what is answered, without its time. The error is refused memory.
+/// Appends what is answered, without its delay. The error is refused memory.
 pub(crate) fn push_reply(out: &mut Vec<u8>, answer: Answer) -> Result<(), AllocError>
     ensures { OnOk result (out.new.items ≡ out.old.items ++ reply_text answer) }
 {
@@ -90,6 +93,7 @@ fn push_number(out: &mut Vec<u8>, number: u64) -> Result<(), AllocError>
     out.extend_from_slice(buffer.format(number).as_bytes())
 }
 
+// `3..7`, or `12` for one number.
 fn push_interval(out: &mut Vec<u8>, interval: Interval) -> Result<(), AllocError>
     ensures { OnOk result (out.new.items ≡ out.old.items ++ interval_text interval) }
 {
@@ -101,7 +105,7 @@ fn push_interval(out: &mut Vec<u8>, interval: Interval) -> Result<(), AllocError
     push_number(out, interval.last)
 }
 
-/// Writes intervals: `3..7, 12`. The error is refused memory.
+/// Appends intervals: `3..7, 12`. The error is refused memory.
 pub(crate) fn push_intervals(out: &mut Vec<u8>, intervals: &[Interval]) -> Result<(), AllocError>
     ensures { OnOk result (out.new.items ≡ out.old.items ++ intervals_text true intervals.now) }
 {
@@ -122,7 +126,8 @@ pub(crate) fn push_intervals(out: &mut Vec<u8>, intervals: &[Interval]) -> Resul
     }
 }
 
-/// Writes what stands before the answer to the call at a place. The error is refused memory.
+/// Appends what stands before the answer to the call at a place, from 0: ` = ` before the first one, ` then ` before each other. The error is refused
+/// memory.
 pub(crate) fn push_mark(out: &mut Vec<u8>, place: usize) -> Result<(), AllocError>
     ensures { OnOk result (out.new.items ≡ out.old.items ++ mark place) }
 {
@@ -148,7 +153,7 @@ fn push_answer(out: &mut Vec<u8>, answer: Found) -> Result<(), AllocError>
     }
 }
 
-// Answers behind the first one, to the end of the line.
+// The answers behind the first one, each after a `then`, and the LF.
 fn push_more_answers(out: &mut Vec<u8>, answers: &[Found]) -> Result<(), AllocError>
     ensures { OnOk result (out.new.items ≡ out.old.items ++ more_answers answers.now) }
 {
@@ -165,7 +170,7 @@ fn push_more_answers(out: &mut Vec<u8>, answers: &[Found]) -> Result<(), AllocEr
     }
 }
 
-/// Writes the rest of a line of a script behind its call: what answers it. The error is refused memory.
+/// Appends the rest of a line from its `=` on, with the LF: ` = 1 after 3 then never`. The error is refused memory.
 pub(crate) fn push_answers(out: &mut Vec<u8>, answers: &[Found]) -> Result<(), AllocError>
     ensures { OnOk result (out.new.items ≡ out.old.items ++ answers_text answers.now) }
 {
@@ -179,7 +184,7 @@ pub(crate) fn push_answers(out: &mut Vec<u8>, answers: &[Found]) -> Result<(), A
     }
 }
 
-/// Writes a call of a script's line: its name and its patterns. The error is refused memory.
+/// Appends the part of a line before its `=`: `Pay(_, 1)`. The error is refused memory.
 pub(crate) fn push_call(out: &mut Vec<u8>, name: &[u8], patterns: &[Slot]) -> Result<(), AllocError>
     ensures { OnOk result (out.new.items ≡ out.old.items ++ (name.now ++ patterns_text patterns.now)) }
 {
@@ -187,7 +192,7 @@ pub(crate) fn push_call(out: &mut Vec<u8>, name: &[u8], patterns: &[Slot]) -> Re
     push_patterns(out, patterns)
 }
 
-/// Ends the last line of a text that was written, where that has no LF. The error is refused memory.
+/// Appends the LF that `text`, which was appended before, lacks: one if its last line has none, nothing if it is empty. The error is refused memory.
 pub(crate) fn push_end(out: &mut Vec<u8>, text: &[u8]) -> Result<(), AllocError>
     ensures { OnOk result (out.new.items ≡ out.old.items ++ lacking_end text.now) }
 {
@@ -206,7 +211,7 @@ pub(crate) fn push_end(out: &mut Vec<u8>, text: &[u8]) -> Result<(), AllocError>
     }
 }
 
-/// Writes a line for each of these names, with which its calls without arguments halt. The error is refused memory.
+/// Appends a line `NAME() = halt` for each of these names. The error is refused memory.
 pub(crate) fn push_halts(out: &mut Vec<u8>, names: &[&[u8]]) -> Result<(), AllocError>
     ensures { OnOk result (out.new.items ≡ out.old.items ++ halts_text (map (λ n. n.now) names.now)) }
 {

@@ -1,4 +1,4 @@
-//! The ways of a case.
+//! The ways of a case, in their order, and the texts that tell of them.
 
 ghost use Rattle.std.specs.Prelude.{◌≡◌, Bool, IfOk, List, [], false, length, map};
 ghost use Rattle.orc_ways.specs.Drafting.{test_of};
@@ -17,11 +17,13 @@ use orc_ways::test::{ServiceLine, Test};
 use std::alloc::{AllocError, Global};
 use std::marker::Model;
 
-/// The ways of a case: first those with fewer lines that are off, which is that a call doesn't take the first alternative; of these those with fewer calls
-/// that are off; and of these, as the lines stand, a line that is off comes before the same line usual, and ranges run from their low ends.
+/// The ways of a case. A call is off if it doesn't take the first alternative of its line, and a line if one of its calls is. First come the ways
+/// with fewer lines off; of these those with fewer calls off; of these the upper lines change slowest, what is off comes before what is usual, and
+/// ranges run from their low ends.
 #[derive(Drop)]
 pub struct Ways {
     frame: Frame,
+    /// The number that each way has in the frame, in the order of the ways.
     numbers: Vec<usize>,
 }
 
@@ -33,7 +35,7 @@ impl Model for Ways {
     ghost invariant = { λ w. IsOrdered w.frame w.numbers.items };
 }
 
-// The numbers of the ways, in their order.
+// The numbers that the ways have in the frame, in the order of the ways. The error is refused memory.
 fn numbers_of(alloc: Global, frame: &Frame) -> Result<Vec<usize>, AllocError>
     requires { IsCounted frame.now }
     ensures { IfOk result (λ ns. IsOrdered frame.now ns.items) }
@@ -45,7 +47,7 @@ fn numbers_of(alloc: Global, frame: &Frame) -> Result<Vec<usize>, AllocError>
     Ok(numbers)
 }
 
-// The ways of the services at these places, which may take one choice each in so many ways.
+// The ways of the services at these places of the test's list; `count` is how many there are. The error is refused memory.
 fn of_places(
     alloc: Global,
     services: &[ServiceLine<'_>],
@@ -67,7 +69,7 @@ fn of_places(
 }
 
 impl Ways {
-    /// The ways of the case at this place among the test's cases. None where they are over `MOST_WAYS`. The error is refused memory.
+    /// The ways of the case at this place, from 0, among the test's cases. None if there are more than `MOST_WAYS`. The error is refused memory.
     pub fn of_case(alloc: Global, test: &Test<'_>, case: usize) -> Result<Option<Ways>, AllocError>
         ensures { IfOk result (λ w. w ≡ ways_of (test_of test.now) case) }
     {
@@ -78,6 +80,7 @@ impl Ways {
         if size > MOST_WAYS {
             return Ok(None);
         }
+        // The size is at most `MOST_WAYS` here, so it is the number itself and not the bound at which the count stops.
         let ways = of_places(alloc, services, places, size as usize)?;
         Ok(Some(ways))
     }
@@ -89,8 +92,9 @@ impl Ways {
         self.numbers.as_slice().len() as u64
     }
 
-    /// The scripts of the first ways, so many at most: in each the lines of the case's services, then these lines, and last, so that they take no call from
-    /// these, a line for each other service of the test. The error is refused memory.
+    /// The scripts of the first `most` ways, or of all if there are fewer. Each has the lines of the case's services, then the lines `behind`, and
+    /// last a line `NAME() = halt` for each name of a service that the test has and the case hasn't: the first line that matches answers, so these
+    /// take no call from `behind`. The error is refused memory.
     pub fn scripts(
         &self,
         alloc: Global,
@@ -105,8 +109,8 @@ impl Ways {
         Ok(scripts)
     }
 
-    /// Those lines of the script of the way with this number, from 0, that tell it from other ways: they are off, or take an alternative with a range. None
-    /// where there is no such way. The error is refused memory.
+    /// Those lines of the script of the way with this number, from 0 in the order of the ways, that tell it from other ways: they are off, or take an
+    /// alternative with a range. The text is empty if there is no such way. The error is refused memory.
     pub fn unusual(&self, alloc: Global, number: u64) -> Result<Vec<u8>, AllocError>
         ensures { IfOk result (λ t. t.items ≡ unusual self.now number) }
     {
@@ -119,7 +123,8 @@ impl Ways {
         Ok(way)
     }
 
-    /// Whether the way with this number, from 0, takes an alternative with a range.
+    /// Whether the way with this number, from 0 in the order of the ways, takes an alternative with a range. If not, or if there is no such way, then
+    /// `failing_ranges` is empty whatever fails.
     pub fn has_range(&self, number: u64) -> bool
         ensures exact { result ≡ has_range self.now number }
         ensures none { result ≡ false → (fails : List Bool) → failing_ranges self.now number fails ≡ [] }
@@ -132,9 +137,10 @@ impl Ways {
         self.frame.has_range(numbers[place])
     }
 
-    /// Those lines of the way with this number, from 0, that take an alternative with a range; in place of each number of units after which they answer stand
-    /// all those with which they give this answer in a way that fails, as intervals: `Pay(_) = 1 after 3..7, 12`. Whether each of the first ways fails is
-    /// handed in. None where there is no such way. The error is refused memory.
+    /// Those lines of the way with this number, from 0 in the order of the ways, that take an alternative with a range. In place of each delay stand
+    /// all those with which the line gives this answer to that call in a way that fails, as intervals: `Pay(_) = 1 after 3..7, 12`. `fails` says of
+    /// each of the first ways whether it fails; the others count as not failing. The text is empty if there is no such way. The error is refused
+    /// memory.
     pub fn failing_ranges(
         &self,
         alloc: Global,
