@@ -21,10 +21,12 @@ pub data Simple : Type 0 where
 abbrev pub Event : Type 0
 Event = List Simple
 
+-- whether the event happens in the run
 pub record Condition : Type 0 where
   pub event : Event
   pub happens : Bool
 
+-- a claim without conditions: what each says is in `orc_claims`, at the type of this name
 pub data Plain : Type 0 where
   count : Event → ℕ → Option ℕ → Option ℕ → Plain
   at_once : Event → ℕ → Plain
@@ -78,6 +80,7 @@ is_variable n = is_small n && not (follows n)
 abbrev pub variable_in : List Token → List ℕ → Option Slot
 variable_in line n = if is_variable n then option_map Variable (place_of n line) else None
 
+-- a pattern of a script as a slot
 abbrev pub slot_of : Option Value → Slot
 slot_of None = Any
 slot_of (Some v) = Literal v
@@ -92,11 +95,13 @@ slot_in line t = slot_or (pattern_in t) (then_read (name_in t) (variable_in line
 
 -- ---- sites with their arguments
 
+-- a slot, whether it is the last one by the sign behind it, and what is behind that
 abbrev pub slot_step : List Token → List Token → Option (Slot × Bool × List Token)
 slot_step line [] = None
 slot_step line (t ∷ []) = None
 slot_step line (t ∷ u ∷ ts) = then_read (slot_in line t) (λ s. option_map (λ b. (s, b, ts)) (ends_items u))
 
+-- the slots behind a `(`
 abbrev pub slots_behind : List Token → List Token → Option (List Slot × List Token)
 slots_behind line [] = None
 slots_behind line (t ∷ ts) = if is_right t then Some ([], ts) else many (slot_step line) MOST_ARGUMENTS (t ∷ ts)
@@ -112,12 +117,12 @@ abbrev pub answered_by : Option Slot → Token → List Token → Wanted × List
 answered_by None t ts = (Answered Any, t ∷ ts)
 answered_by (Some s) t ts = (Answered s, ts)
 
--- the value with which it is to be answered, any one where none stands there
+-- what is behind `answered`: a slot, and else any value will do
 abbrev pub answered_at : List Token → List Token → Wanted × List Token
 answered_at line [] = (Answered Any, [])
 answered_at line (t ∷ ts) = answered_by (slot_in line t) t ts
 
--- what is to become of a call, `called` where nothing stands there
+-- what is to become of a call, by the word behind it; `called` without one
 unfoldable pub wanted_at : List Token → List Token → Wanted × List Token
 wanted_at line [] = (Called, [])
 wanted_at line (t ∷ ts) =
@@ -139,6 +144,7 @@ unfoldable pub published_at : List Token → List Token → Option (Simple × Li
 published_at line [] = None
 published_at line (t ∷ ts) = option_map (λ s. (published s, ts)) (slot_in line t)
 
+-- one thing that may happen
 unfoldable pub simple_at : List Site → List Token → List Token → Option (Simple × List Token)
 simple_at sites line [] = None
 simple_at sites line (t ∷ ts) =
@@ -146,7 +152,7 @@ simple_at sites line (t ∷ ts) =
     else if is_word (codes "published") t then published_at line ts
     else None
 
--- whether no item follows behind this word, and else what is behind it
+-- whether a list of items ends here, and what is behind the word between items if it doesn't
 abbrev pub more_or : List Token → Option (List Token) → Bool × List Token
 more_or ts None = (true, ts)
 more_or ts (Some us) = (false, us)
@@ -172,7 +178,7 @@ time_at w [] = Some None
 time_at w (t ∷ u ∷ []) = if is_word w t then option_map Some (number_of u) else None
 time_at w _ = None
 
--- the last event of a line
+-- what was read, if nothing is behind it
 abbrev pub at_end : {A : Type 0} → A × List Token → Option A
 at_end (a, []) = Some a
 at_end (a, t ∷ ts) = None
@@ -180,6 +186,7 @@ at_end (a, t ∷ ts) = None
 abbrev pub last_event : List Site → List Token → List Token → Option Event
 last_event sites line ts = then_read (event_at sites line ts) at_end
 
+-- an event so often at least and at most, up to a time that may be behind it
 abbrev pub counted : ℕ → Option ℕ → Event × List Token → Option Plain
 counted low most x = option_map (λ by. count x.0 low most by) (time_at (codes "by") x.1)
 
@@ -246,7 +253,7 @@ end_in t =
     else if is_word (codes "Quiet") t then Some (false, true)
     else None
 
--- one end, or two
+-- one end, and what is behind it
 unfoldable pub end_at : List Token → Option ((Bool × Bool) × List Token)
 end_at [] = None
 end_at (t ∷ ts) = option_map (λ e. (e, ts)) (end_in t)
@@ -290,6 +297,7 @@ abbrev pub is_any_order : List Token → Bool
 is_any_order (t ∷ u ∷ v ∷ []) = is_word (codes "in") t && (is_word (codes "any") u && is_word (codes "order") v)
 is_any_order _ = false
 
+-- values that were read in order are meant so, unless `in any order` is behind them
 abbrev pub ordered : List Token → List (Option Value) × List Token → Option Plain
 ordered ts (ps, []) = Some (in_order ps)
 ordered ts (ps, u ∷ us) = if is_any_order (u ∷ us) then option_map (λ x. in_any_order x.0) (literals_at ts) else None
@@ -326,7 +334,7 @@ plain_at sites line (t ∷ ts) =
     else if is_word (codes "publishes") t then publishes_at ts
     else None
 
--- `no` before an event
+-- false with a `no` before an event, true without one, and what is behind it
 abbrev pub not_at : List Token → Bool × List Token
 not_at [] = (true, [])
 not_at (t ∷ ts) = if begins (codes "no") (t ∷ ts) then (false, ts) else (true, t ∷ ts)

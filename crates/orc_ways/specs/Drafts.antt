@@ -43,6 +43,7 @@ empty = record { test = record { sites = []; services = []; claims = []; claim_l
 
 -- ---- sections
 
+-- each of these is None where the line isn't allowed
 abbrev pub with_given : Draft → ℕ → Option Draft
 with_given d l = if is_some d.given_at then None else Some (record { test = d.test; given_at = Some l; always = d.always; part = Given })
 
@@ -124,7 +125,7 @@ abbrev pub of_kind : Draft → ℕ → List ℕ → Option Kind → Reading
 of_kind d l text (Some k) = of_place l (placed d l text k)
 of_kind d l text None = no_line l
 
--- with the sites that it names, which are few enough
+-- a line of these tokens, where these are the sites with those that it names, which must be few enough
 abbrev pub of_sites : Draft → ℕ → List ℕ → List Token → List Site → Reading
 of_sites d l text ts ss = if nat_lt MOST_SITES (length ss) then no_line l else of_kind (with_sites d ss) l text (kind_at ss ts)
 

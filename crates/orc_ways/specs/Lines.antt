@@ -23,7 +23,7 @@ pub record Service : Type 0 where
   pub alternatives : List History
   pub calls : ℕ
 
--- the last number of a range that begins here
+-- a range from the low number to the one that was read
 abbrev pub range_to : Answer → ℕ → ℕ × List Token → Option (Reply × List Token)
 range_to a low x = if nat_le low x.0 then Some (Between a low x.0, x.1) else None
 
@@ -32,6 +32,7 @@ abbrev pub range_at : Answer → ℕ → List Token → Option (Reply × List To
 range_at a low [] = Some (Between a low low, [])
 range_at a low (t ∷ ts) = if is_dots t then then_read (number_at ts) (range_to a low) else Some (Between a low low, t ∷ ts)
 
+-- an answer with what is behind its `after`, or without one
 abbrev pub delay_or : Answer → List Token → Option (List Token) → Option (Reply × List Token)
 delay_or a ts None = Some (Between a 0 0, ts)
 delay_or a ts (Some us) = then_read (number_at us) (λ x. range_at a x.0 x.1)
@@ -50,7 +51,7 @@ reply_step ts = then_read (reply_at ts) (more_behind (codes "then"))
 abbrev pub history_at : List Token → Option (History × List Token)
 history_at ts = many reply_step MOST_ANSWERS ts
 
--- whether no alternative follows, and else what is behind its `|`
+-- whether the alternatives end here, and what is behind the `|` if they don't
 abbrev pub more_bars : List Token → Bool × List Token
 more_bars [] = (true, [])
 more_bars (t ∷ ts) = if is_bar t then (false, ts) else (true, t ∷ ts)
@@ -137,7 +138,7 @@ kind_at sites (t ∷ ts) =
 
 -- ---- the sites that a line names
 
--- whether the bracket follows an argument, or a comma
+-- whether an argument is the last one by the sign behind it, and what is behind that
 abbrev pub argument_step : List Token → Option (Bool × List Token)
 argument_step (t ∷ u ∷ ts) = option_map (λ b. (b, ts)) (ends_items u)
 argument_step _ = None
@@ -163,7 +164,7 @@ mention_at t ts = then_read (name_in t) (λ n. option_map (λ k. (n, k)) (argume
 abbrev pub site : ℕ → List ℕ → ℕ → Site
 site l n k = record { name = n; arguments = k; line = l }
 
--- a site is added where it isn't among them, and they aren't too many
+-- a site is added if it isn't among them, up to one over `MOST_SITES`, which says that they are too many
 abbrev pub with_site : List Site → ℕ → List ℕ → ℕ → List Site
 with_site sites l n k = if nat_lt (site_number sites n k) (length sites) || nat_lt MOST_SITES (length sites) then sites else sites ++ site l n k ∷ []
 

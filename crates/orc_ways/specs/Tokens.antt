@@ -58,7 +58,7 @@ abbrev pub is_dots : Token → Bool
 is_dots dots = true
 is_dots _ = false
 
--- whether a bracket follows an item, or a comma
+-- whether a sign behind an item ends the list: a `)` does, a comma doesn't
 abbrev pub ends_items : Token → Option Bool
 ends_items (plain right) = Some true
 ends_items (plain comma) = Some false
@@ -73,7 +73,7 @@ abbrev pub opens : List Token → Bool
 opens [] = false
 opens (t ∷ ts) = is_left t
 
--- a number of units, or how many
+-- a number without a sign: of units of time, or how many
 abbrev pub number_of : Token → Option ℕ
 number_of (plain t) = delay_of t
 number_of _ = None

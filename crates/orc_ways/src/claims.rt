@@ -1,4 +1,4 @@
-//! Claims: what has to hold.
+//! Claims: what has to hold. Each reader here takes the tokens of the line from where its part begins; None says that they are no such claim.
 
 ghost use Rattle.std.specs.Prelude.{◌≡◌, IfOk, length, None, Some};
 ghost use Rattle.std.specs.List.{list_all};
@@ -15,7 +15,7 @@ use orc_claims::claim::{Claim, Condition, Event, Plain, Simple, Wanted};
 use orc_rules::value::Value;
 use std::alloc::{AllocError, Global};
 
-// Nothing, or this word and a time, up to the end.
+// Reads the end of a line: nothing, which is Some(None), or this word (`by` or `within`) and a number of units. None for anything else.
 #[tactic(auto, unfolding(crate::specs::Claims::time_at))]
 fn time(word: &[u8], tokens: &[Token<'_>]) -> Option<Option<u64>>
     ensures { result ≡ time_at word.now (tokens_of tokens.now) }
@@ -33,7 +33,7 @@ fn time(word: &[u8], tokens: &[Token<'_>]) -> Option<Option<u64>>
     }
 }
 
-// So many of an event, up to a time that may stand behind it.
+// The claim that an event happens `low` times at least and `most` times at most, where None is no bound; `rest` may say `by` when.
 fn count(event: Event, low: u64, most: Option<u64>, rest: &[Token<'_>]) -> Option<Plain>
     ensures { Gives plain_of result (counted low most (event_of event, tokens_of rest.now)) }
 {
@@ -41,7 +41,7 @@ fn count(event: Event, low: u64, most: Option<u64>, rest: &[Token<'_>]) -> Optio
     Some(Plain::Count(event, low, most, by))
 }
 
-// Whether an event is a call that is made.
+// Whether this is a call that is made: `A(..)` or `A(..) called`.
 fn is_call(simple: &Simple) -> bool
     ensures { result ≡ is_called (simple_of simple.now) }
 {
@@ -51,6 +51,7 @@ fn is_call(simple: &Simple) -> bool
     }
 }
 
+// Whether all of these are calls that are made.
 fn are_calls(simples: &[Simple]) -> bool
     ensures { result ≡ list_all is_called (simples_of simples.now) }
 {
@@ -62,7 +63,7 @@ fn are_calls(simples: &[Simple]) -> bool
     true
 }
 
-// Whether `at once` stands there, and nothing behind it.
+// Whether these tokens are `at once` and nothing more.
 fn is_at_once_behind(tokens: &[Token<'_>]) -> bool
     ensures { result ≡ is_at_once (tokens_of tokens.now) }
 {
@@ -72,7 +73,8 @@ fn is_at_once_behind(tokens: &[Token<'_>]) -> bool
     }
 }
 
-// So many of an event at most, in all or at once.
+// The claim that begins with `at most`: on how often the event happens in all, or, with `at once`, on how many such calls are pending at one moment.
+// Only calls can be pending, so with `at once` the event has nothing else.
 #[tactic(auto, unfolding(crate::specs::Claims::at_most))]
 fn count_at_most(event: Event, most: u64, rest: &[Token<'_>]) -> Option<Plain>
     ensures { Gives plain_of result (at_most most (event_of event, tokens_of rest.now)) }
@@ -86,7 +88,7 @@ fn count_at_most(event: Event, most: u64, rest: &[Token<'_>]) -> Option<Plain>
     count(event, 0, Some(most), rest)
 }
 
-// Whether a run may end as Halted, and whether as Quiet.
+// The end that a token names: (true, false) for `Halted`, (false, true) for `Quiet`.
 fn end(token: &Token<'_>) -> Option<(bool, bool)>
     ensures { result ≡ end_in (token_of token.now) }
 {
@@ -99,6 +101,7 @@ fn end(token: &Token<'_>) -> Option<(bool, bool)>
     }
 }
 
+// Reads one end, as `end` does, and hands back the tokens behind it.
 #[tactic(auto, unfolding(crate::specs::Claims::end_at))]
 fn end_first<'t, 'a>(tokens: &'t [Token<'a>]) -> Option<((bool, bool), &'t [Token<'a>])>
     ensures { Gives (λ x. (x.0, tokens_of x.1.now)) result (end_at (tokens_of tokens.now)) }
@@ -109,6 +112,7 @@ fn end_first<'t, 'a>(tokens: &'t [Token<'a>]) -> Option<((bool, bool), &'t [Toke
     }
 }
 
+// The claim that a run ends as Halted, or as Quiet, where that is allowed; `tokens` may say `by` when.
 fn ends_up_to(halted: bool, quiet: bool, tokens: &[Token<'_>]) -> Option<Plain>
     ensures { Gives plain_of result (ends_by (halted, quiet) (tokens_of tokens.now)) }
 {
@@ -116,7 +120,7 @@ fn ends_up_to(halted: bool, quiet: bool, tokens: &[Token<'_>]) -> Option<Plain>
     Some(Plain::Ends(halted, quiet, by))
 }
 
-// The claim behind `ends`.
+// Reads the claim behind `ends`: one end or two, and perhaps `by` and a time.
 #[tactic(auto, unfolding(crate::specs::Claims::ends_at))]
 fn ends(tokens: &[Token<'_>]) -> Option<Plain>
     ensures { Gives plain_of result (ends_at (tokens_of tokens.now)) }
@@ -131,6 +135,7 @@ fn ends(tokens: &[Token<'_>]) -> Option<Plain>
     }
 }
 
+// Whether no further value of `publishes` follows: the line ends, or the `in` of `in any order` comes.
 fn ends_values_here(tokens: &[Token<'_>]) -> bool
     ensures { result ≡ ends_values (tokens_of tokens.now) }
 {
@@ -140,7 +145,7 @@ fn ends_values_here(tokens: &[Token<'_>]) -> bool
     }
 }
 
-// A value or `_`, and whether it is the last one.
+// Reads a value, or `_` as None; and says whether it is the last one.
 fn next_value<'t, 'a>(tokens: &'t [Token<'a>]) -> Option<(Option<Value>, bool, &'t [Token<'a>])>
     ensures { Gives (λ x. (x.0, x.1, tokens_of x.2.now)) result (value_step (tokens_of tokens.now)) }
 {
@@ -150,7 +155,7 @@ fn next_value<'t, 'a>(tokens: &'t [Token<'a>]) -> Option<(Option<Value>, bool, &
     }
 }
 
-// Values or `_`, one or more, and the tokens behind them.
+// Reads one or more values or `_`, up to the end of the line or an `in`. The error is refused memory.
 fn values<'t, 'a>(
     alloc: Global,
     tokens: &'t [Token<'a>],
@@ -159,6 +164,7 @@ fn values<'t, 'a>(
 {
     let mut values = Vec::new(alloc);
     let mut rest = same_tokens(tokens);
+    // Each turn reads a token, so there are enough turns.
     for _ in 0..tokens.len() {
         let Some((value, is_last, behind)) = next_value(rest) else {
             return Ok(None);
@@ -172,20 +178,21 @@ fn values<'t, 'a>(
     Ok(None)
 }
 
-// A value, and whether it is the last one.
+// Reads a value, which isn't `_`, and says whether it is the last one.
 fn next_literal<'t, 'a>(tokens: &'t [Token<'a>]) -> Option<(Value, bool, &'t [Token<'a>])>
     ensures { Gives (λ x. (x.0, x.1, tokens_of x.2.now)) result (literal_step (tokens_of tokens.now)) }
 {
     match tokens {
         [] => None,
         [token, rest @ ..] => {
+            // The first `?` is for a token that is no pattern, the second one for `_`.
             let value = pattern(token)??;
             Some((value, ends_values_here(rest), rest))
         }
     }
 }
 
-// Values, one or more, and the tokens behind them.
+// Reads one or more values, as `values` does, but no `_`. The error is refused memory.
 fn literals<'t, 'a>(
     alloc: Global,
     tokens: &'t [Token<'a>],
@@ -207,6 +214,7 @@ fn literals<'t, 'a>(
     Ok(None)
 }
 
+// Whether these tokens are `in any order` and nothing more.
 fn is_any_order_behind(tokens: &[Token<'_>]) -> bool
     ensures { result ≡ is_any_order (tokens_of tokens.now) }
 {
@@ -216,7 +224,7 @@ fn is_any_order_behind(tokens: &[Token<'_>]) -> bool
     }
 }
 
-// Values in this order, or in any.
+// The claim behind `publishes` that lists values: in this order, or `in any order`. The error is refused memory.
 #[tactic(auto, unfolding(crate::specs::Claims::in_order_at))]
 fn values_in_order(alloc: Global, tokens: &[Token<'_>]) -> Result<Option<Plain>, AllocError>
     ensures { IfOk result (λ o. Gives plain_of o (in_order_at (tokens_of tokens.now))) }
@@ -230,13 +238,14 @@ fn values_in_order(alloc: Global, tokens: &[Token<'_>]) -> Result<Option<Plain>,
     if !is_any_order_behind(rest) {
         return Ok(None);
     }
+    // Read once more, since without an order `_` isn't allowed.
     let Some((values, _)) = literals(alloc, tokens)? else {
         return Ok(None);
     };
     Ok(Some(Plain::InAnyOrder(values)))
 }
 
-// One of these values.
+// The claim behind `publishes one of`. The error is refused memory.
 #[tactic(auto, unfolding(crate::specs::Claims::one_of_at))]
 fn one_of(alloc: Global, tokens: &[Token<'_>]) -> Result<Option<Plain>, AllocError>
     ensures { IfOk result (λ o. Gives plain_of o (one_of_at (tokens_of tokens.now))) }
@@ -250,6 +259,7 @@ fn one_of(alloc: Global, tokens: &[Token<'_>]) -> Result<Option<Plain>, AllocErr
     Ok(Some(Plain::OneOf(values)))
 }
 
+// Whether these tokens are `nothing` and nothing more.
 fn is_nothing_behind(tokens: &[Token<'_>]) -> bool
     ensures { result ≡ is_nothing (tokens_of tokens.now) }
 {
@@ -259,12 +269,13 @@ fn is_nothing_behind(tokens: &[Token<'_>]) -> bool
     }
 }
 
-// The claim behind `publishes`.
+// Reads the claim behind `publishes`. The error is refused memory.
 #[tactic(auto, unfolding(crate::specs::Claims::publishes_at))]
 fn publishes(alloc: Global, tokens: &[Token<'_>]) -> Result<Option<Plain>, AllocError>
     ensures { IfOk result (λ o. Gives plain_of o (publishes_at (tokens_of tokens.now))) }
 {
     if is_nothing_behind(tokens) {
+        // Nothing is no values in order.
         return Ok(Some(Plain::InOrder(Vec::new(alloc))));
     }
     let Some(more) = behind(b"one", tokens) else {
@@ -276,7 +287,7 @@ fn publishes(alloc: Global, tokens: &[Token<'_>]) -> Result<Option<Plain>, Alloc
     }
 }
 
-// Whether an event is to happen, by the `no` that may stand before it, and the tokens of the event.
+// Reads the `no` that may stand before the event of a condition: false with it, true without it; and hands back the tokens of the event.
 fn happens<'t, 'a>(tokens: &'t [Token<'a>]) -> (bool, &'t [Token<'a>])
     ensures { (result.0, tokens_of result.1.now) ≡ not_at (tokens_of tokens.now) }
 {
@@ -292,7 +303,7 @@ fn happens<'t, 'a>(tokens: &'t [Token<'a>]) -> (bool, &'t [Token<'a>])
     }
 }
 
-// The tokens behind the first one.
+// The tokens behind the first one; none if there is none.
 fn rest_of_tokens<'t, 'a>(tokens: &'t [Token<'a>]) -> &'t [Token<'a>]
     ensures { tokens_of result.now ≡ rest_of (tokens_of tokens.now) }
 {
@@ -303,7 +314,7 @@ fn rest_of_tokens<'t, 'a>(tokens: &'t [Token<'a>]) -> &'t [Token<'a>]
 }
 
 impl Scope<'_, '_> {
-    // The claim behind `at most`.
+    // Reads the claim behind `at most`. The error is refused memory, here and below.
     fn at_most(self, alloc: Global, tokens: &[Token<'_>]) -> Result<Option<Plain>, AllocError>
         ensures { IfOk result (λ o. Gives plain_of o (at_most_at (sites_of self.entry.sites.now) (tokens_of self.entry.line.now) (tokens_of tokens.now))) }
     {
@@ -316,7 +327,7 @@ impl Scope<'_, '_> {
         Ok(count_at_most(event, most, rest))
     }
 
-    // The claim behind `at least`.
+    // Reads the claim behind `at least`.
     fn at_least(self, alloc: Global, tokens: &[Token<'_>]) -> Result<Option<Plain>, AllocError>
         ensures { IfOk result (λ o. Gives plain_of o (at_least_at (sites_of self.entry.sites.now) (tokens_of self.entry.line.now) (tokens_of tokens.now))) }
     {
@@ -329,7 +340,7 @@ impl Scope<'_, '_> {
         Ok(count(event, low, None, rest))
     }
 
-    // The claim behind `exactly`.
+    // Reads the claim behind `exactly`.
     fn exactly(self, alloc: Global, tokens: &[Token<'_>]) -> Result<Option<Plain>, AllocError>
         ensures { IfOk result (λ o. Gives plain_of o (exactly_at (sites_of self.entry.sites.now) (tokens_of self.entry.line.now) (tokens_of tokens.now))) }
     {
@@ -342,7 +353,7 @@ impl Scope<'_, '_> {
         Ok(count(event, number, Some(number), rest))
     }
 
-    // The claim behind `at`.
+    // Reads the claim behind `at`: `most` or `least` follows.
     #[tactic(auto, unfolding(crate::specs::Claims::bounded_at))]
     fn bounded(self, alloc: Global, tokens: &[Token<'_>]) -> Result<Option<Plain>, AllocError>
         ensures { IfOk result (λ o. Gives plain_of o (bounded_at (sites_of self.entry.sites.now) (tokens_of self.entry.line.now) (tokens_of tokens.now))) }
@@ -361,7 +372,7 @@ impl Scope<'_, '_> {
         }
     }
 
-    // The claim behind `no`.
+    // Reads the claim behind `no`: of one event, or of one `after` another.
     #[tactic(auto, unfolding(crate::specs::Claims::none_at))]
     fn none(self, alloc: Global, tokens: &[Token<'_>]) -> Result<Option<Plain>, AllocError>
         ensures { IfOk result (λ o. Gives plain_of o (none_at (sites_of self.entry.sites.now) (tokens_of self.entry.line.now) (tokens_of tokens.now))) }
@@ -378,7 +389,7 @@ impl Scope<'_, '_> {
         Ok(Some(Plain::NoneAfter(event, other)))
     }
 
-    // The claim behind `each`.
+    // Reads the claim behind `each`: an event `then` another, perhaps `within` a time.
     #[tactic(auto, unfolding(crate::specs::Claims::each_at))]
     fn each(self, alloc: Global, tokens: &[Token<'_>]) -> Result<Option<Plain>, AllocError>
         ensures { IfOk result (λ o. Gives plain_of o (each_at (sites_of self.entry.sites.now) (tokens_of self.entry.line.now) (tokens_of tokens.now))) }
@@ -398,7 +409,7 @@ impl Scope<'_, '_> {
         Ok(Some(Plain::EachThen(event, other, within)))
     }
 
-    // An event that comes only after another one.
+    // Reads the claim `.. only after ..`, which begins with its event and no word of its own.
     #[tactic(auto, unfolding(crate::specs::Claims::only_at))]
     fn only(self, alloc: Global, tokens: &[Token<'_>]) -> Result<Option<Plain>, AllocError>
         ensures { IfOk result (λ o. Gives plain_of o (only_at (sites_of self.entry.sites.now) (tokens_of self.entry.line.now) (tokens_of tokens.now))) }
@@ -418,7 +429,8 @@ impl Scope<'_, '_> {
         Ok(Some(Plain::OnlyAfter(event, other)))
     }
 
-    // A claim without conditions.
+    // Reads a claim without conditions, by its first word. What begins with an event is an `only after`: a site, by the `(` behind it, or
+    // `published`.
     #[tactic(auto, unfolding(crate::specs::Claims::plain_at))]
     fn plain(self, alloc: Global, tokens: &[Token<'_>]) -> Result<Option<Plain>, AllocError>
         ensures { IfOk result (λ o. Gives plain_of o (plain_at (sites_of self.entry.sites.now) (tokens_of self.entry.line.now) (tokens_of tokens.now))) }
@@ -453,7 +465,7 @@ impl Scope<'_, '_> {
         Ok(None)
     }
 
-    // The condition behind `if`, and the tokens behind its `then`.
+    // Reads the condition behind `if`, up to its `then`.
     #[tactic(auto, unfolding(crate::specs::Claims::condition_at))]
     fn condition<'t, 'b>(
         self,
@@ -472,7 +484,7 @@ impl Scope<'_, '_> {
         Ok(Some((Condition { event, happens }, rest)))
     }
 
-    // The conditions with which a claim begins, none or more, and the tokens behind them.
+    // Reads the conditions with which a claim begins, none or more.
     fn conditions<'t, 'b>(
         self,
         alloc: Global,
@@ -482,6 +494,7 @@ impl Scope<'_, '_> {
     {
         let mut conditions = Vec::new(alloc);
         let mut rest = same_tokens(tokens);
+        // Each turn reads an `if` at least, so there are enough turns.
         for _ in 0..tokens.len() {
             if !begins_with(b"if", rest) {
                 return Ok(Some((conditions, rest)));
@@ -495,7 +508,7 @@ impl Scope<'_, '_> {
         Ok(Some((conditions, rest)))
     }
 
-    /// The claim that these tokens are, which are all those of its line. None where they are none. The error is refused memory.
+    /// The claim that all tokens of the line are; None if they are none. The error is refused memory.
     #[tactic(auto, unfolding(crate::specs::Claims::claim_at))]
     pub fn claim(self, alloc: Global) -> Result<Option<Claim>, AllocError>
         ensures { IfOk result (λ o. Gives claim_of o (claim_at (sites_of self.entry.sites.now) (tokens_of self.entry.line.now))) }

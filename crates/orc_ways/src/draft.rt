@@ -1,4 +1,4 @@
-//! A test, line by line.
+//! The draft of a test: what its lines so far say, and whether the next line is allowed behind them.
 
 ghost use Rattle.std.specs.Prelude.{◌≡◌, ◌≤◌, length, IfOk, OnOk, option_map, Option, Some, None};
 ghost use Rattle.orc_rules.specs.Digits.{Gives};
@@ -17,9 +17,10 @@ use orc_claims::claim::Claim;
 use orc_site::line::is_built_in_name;
 use std::alloc::{AllocError, Global};
 
-/// The part of a test in which a line stands.
+/// The section of a test in which a line stands.
 #[derive(Clone, Copy, PartialEq, Eq, Debug)]
 pub enum Part {
+    /// Before any section.
     Nowhere,
     Given,
     Always,
@@ -29,10 +30,11 @@ pub enum Part {
 /// What became of a line.
 #[derive(Clone, Copy, PartialEq, Eq, Debug)]
 pub enum LineEnd {
+    /// The draft has it.
     Read,
-    /// It is no line of a test.
+    /// It is no line of a test, or names one site too many.
     NoLine,
-    /// It is none where it stands.
+    /// It is a line of a test, but isn't allowed where it stands.
     NoPlace,
 }
 
@@ -40,9 +42,11 @@ pub enum LineEnd {
 #[derive(Drop)]
 pub struct Draft<'a> {
     pub test: Test<'a>,
-    /// The line of `given`.
+    /// The number of the line `given`, from 1, if there was one.
     pub given: Option<usize>,
+    /// Whether there was a line `always`.
     pub has_always: bool,
+    /// The section in which the next line stands.
     pub part: Part,
 }
 
@@ -58,6 +62,7 @@ fn has_case_named(cases: &[Case<'_>], name: &[u8]) -> bool
 }
 
 impl<'a> Draft<'a> {
+    /// The draft of no lines.
     pub fn new(alloc: Global) -> Draft<'a>
         ensures { draft_of result ≡ empty }
     {
@@ -75,7 +80,7 @@ impl<'a> Draft<'a> {
         }
     }
 
-    // Whether `given` may stand there.
+    // Begins the section `given` at the line of this number; false if there was one, and then nothing changes.
     fn begin_given(&mut self, number: usize) -> bool
         ensures { IsPlaced (with_given (draft_of self.old) number) (draft_of self.new) result }
     {
@@ -87,7 +92,7 @@ impl<'a> Draft<'a> {
         true
     }
 
-    // Whether `always` may stand there.
+    // Begins the section `always`; false if there was one, and then nothing changes.
     fn begin_always(&mut self) -> bool
         ensures { IsPlaced (with_always (draft_of self.old)) (draft_of self.new) result }
     {
@@ -99,7 +104,8 @@ impl<'a> Draft<'a> {
         true
     }
 
-    // Whether a case of that name may stand there. The error is refused memory.
+    // Begins a case at the line of this number; false if one has that name or there are too many, and then nothing changes. The error is refused
+    // memory.
     fn begin_case(&mut self, number: usize, name: &'a [u8]) -> Result<bool, AllocError>
         ensures { IfOk result (λ good. IsPlaced (with_case (draft_of self.old) number name.now) (draft_of self.new) good) }
     {
@@ -114,18 +120,19 @@ impl<'a> Draft<'a> {
         Ok(true)
     }
 
-    // The place of the case of a service that stands there, None of one that may not.
+    // The case to which a service in this section belongs, by its place, or Some(None) below `given`; None where no service is allowed.
     fn case_of_service(&self) -> Option<Option<usize>>
         ensures { result ≡ case_of_service self.now.part (test_of self.now.test) }
     {
         match self.part {
             Part::Given => Some(None),
+            // In a case there is one at least, so nothing saturates.
             Part::Case => Some(Some(self.test.cases.len().saturating_sub(1))),
             _ => None,
         }
     }
 
-    // The place of the case of a claim that stands there, None of one that may not.
+    // The case to which a claim in this section belongs, by its place, or Some(None) below `always`; None where no claim is allowed.
     fn case_of_claim(&self) -> Option<Option<usize>>
         ensures { result ≡ case_of_claim self.now.part (test_of self.now.test) }
     {
@@ -136,7 +143,7 @@ impl<'a> Draft<'a> {
         }
     }
 
-    // Whether a service may stand there. The error is refused memory.
+    // Adds a service to this section; false if it isn't allowed here, and then nothing changes. The error is refused memory.
     fn add_service(&mut self, service: Service<'a>) -> Result<bool, AllocError>
         ensures { IfOk result (λ good. IsPlaced (with_service (draft_of self.old) (service_of service.entry) (case_of_service self.old.part (test_of self.old.test))) (draft_of self.new) good) }
     {
@@ -153,7 +160,8 @@ impl<'a> Draft<'a> {
         Ok(true)
     }
 
-    // Whether a claim may stand there. The error is refused memory.
+    // Adds a claim to this section, with its line and the line's number; false if it isn't allowed here, and then nothing changes. The error is
+    // refused memory.
     fn add_claim(&mut self, number: usize, line: &'a [u8], claim: Claim) -> Result<bool, AllocError>
         ensures { IfOk result (λ good. IsPlaced (with_claim (draft_of self.old) number line.now (claim_of claim) (case_of_claim self.old.part (test_of self.old.test))) (draft_of self.new) good) }
     {
@@ -172,7 +180,7 @@ impl<'a> Draft<'a> {
         Ok(true)
     }
 
-    // Whether a line of this kind may stand there. The error is refused memory.
+    // Adds a line of this kind; false if it isn't allowed here. The error is refused memory.
     #[tactic(auto, unfolding(crate::specs::Drafts::placed))]
     fn place(&mut self, number: usize, line: &'a [u8], kind: Kind<'a>) -> Result<bool, AllocError>
         ensures { IfOk result (λ good. IsPlaced (placed (draft_of self.old) number line.now (kind_of kind.entry)) (draft_of self.new) good) }
@@ -187,7 +195,8 @@ impl<'a> Draft<'a> {
         }
     }
 
-    /// Takes a line more, with its number. The error is refused memory; after it, and after a line that isn't read, the draft is of no use.
+    /// Reads one line more, without its LF, whose number, from 1, is handed in. The error is refused memory. After an error, `NoLine` and `NoPlace`
+    /// the draft may have some of what the line names, so it is of no further use.
     #[tactic(auto, unfolding(crate::specs::Drafts::read_line))]
     pub fn read_line(
         &mut self,
@@ -201,6 +210,7 @@ impl<'a> Draft<'a> {
         let Some(tokens) = cut_line(alloc, line)? else {
             return Ok(LineEnd::NoLine);
         };
+        // Before the line is read: a claim has the places of its sites among these.
         add_mentions(&mut self.test.sites, number, tokens.as_slice())?;
         if MOST_SITES < self.test.sites.len() {
             return Ok(LineEnd::NoLine);

@@ -1,4 +1,4 @@
-//! Events: what may happen.
+//! Events: what may happen in a run, as claims name it. A function here reads from the front of the tokens and hands back those behind what it read.
 
 ghost use Rattle.std.specs.Prelude.{◌≡◌, ◌≤◌, length, IfOk, option_map};
 ghost use Rattle.orc_rules.specs.Digits.{Gives};
@@ -12,7 +12,7 @@ use crate::token::{Token, behind, is_this, opens_bracket, same_tokens, site_name
 use orc_claims::claim::{Event, Simple, Slot, Wanted};
 use std::alloc::{AllocError, Global};
 
-/// The place of a site among these, or their number where it isn't among them.
+/// The place of a site among these, from 0; the length of the list if it isn't among them.
 pub fn number_of_site(sites: &[SiteName<'_>], name: &[u8], arguments: usize) -> usize
     ensures number { result ≡ site_number (sites_of sites.now) name.now arguments }
     ensures within { result ≤ length sites.now }
@@ -25,7 +25,8 @@ pub fn number_of_site(sites: &[SiteName<'_>], name: &[u8], arguments: usize) -> 
     sites.len()
 }
 
-/// Whether no item follows behind this word, and else the tokens behind it.
+/// Whether a list of items ends here: (false, the tokens behind the word) if they begin with the word that stands between items, and otherwise (true,
+/// the same tokens).
 pub fn more_behind<'t, 'b>(word: &[u8], tokens: &'t [Token<'b>]) -> (bool, &'t [Token<'b>])
     ensures { (result.0, tokens_of result.1.now) ≡ more_items word.now (tokens_of tokens.now) }
 {
@@ -36,7 +37,7 @@ pub fn more_behind<'t, 'b>(word: &[u8], tokens: &'t [Token<'b>]) -> (bool, &'t [
 }
 
 impl Scope<'_, '_> {
-    // With what a call is to be answered: with any value, where none stands there.
+    // Reads what stands behind `answered`: the value, `_` or variable; if there is none, any answer will do and nothing is read.
     fn answered<'t, 'b>(self, tokens: &'t [Token<'b>]) -> (Wanted, &'t [Token<'b>])
         ensures { (result.0, tokens_of result.1.now) ≡ answered_at (tokens_of self.entry.line.now) (tokens_of tokens.now) }
     {
@@ -49,7 +50,7 @@ impl Scope<'_, '_> {
         }
     }
 
-    // What is to become of a call: that it is made, where nothing stands there.
+    // Reads what stands behind a call; if it is none of these words, `called` is meant and nothing is read.
     #[tactic(auto, unfolding(crate::specs::Claims::wanted_at))]
     fn wanted<'t, 'b>(self, tokens: &'t [Token<'b>]) -> (Wanted, &'t [Token<'b>])
         ensures { (result.0, tokens_of result.1.now) ≡ wanted_at (tokens_of self.entry.line.now) (tokens_of tokens.now) }
@@ -72,7 +73,8 @@ impl Scope<'_, '_> {
         }
     }
 
-    // Something that becomes of a call of the site that the first token names.
+    // Reads what becomes of a call of the site that `token` names, behind which `tokens` stand; None if it is no such thing. The error is refused
+    // memory.
     #[tactic(auto, unfolding(crate::specs::Claims::call_at))]
     fn call<'t, 'b>(
         self,
@@ -88,12 +90,13 @@ impl Scope<'_, '_> {
         let Some((slots, rest)) = self.slots(alloc, tokens)? else {
             return Ok(None);
         };
+        // It is one of the scope's sites, since they include those of its own line.
         let site = number_of_site(self.sites, name, slots.len()) as u32;
         let (wanted, rest) = self.wanted(rest);
         Ok(Some((Simple::Call(site, slots, wanted), rest)))
     }
 
-    // A value that is published.
+    // Reads the value, `_` or variable behind `published`; None if there is none.
     #[tactic(auto, unfolding(crate::specs::Claims::published_at))]
     fn published<'t, 'b>(self, tokens: &'t [Token<'b>]) -> Option<(Simple, &'t [Token<'b>])>
         ensures { Gives (λ x. (simple_of x.0, tokens_of x.1.now)) result (published_at (tokens_of self.entry.line.now) (tokens_of tokens.now)) }
@@ -104,7 +107,7 @@ impl Scope<'_, '_> {
         }
     }
 
-    // One thing that may happen.
+    // Reads one thing that may happen. A word before a bracket is a site, so that a site may be called `published`. The error is refused memory.
     #[tactic(auto, unfolding(crate::specs::Claims::simple_at))]
     fn simple<'t, 'b>(
         self,
@@ -127,7 +130,7 @@ impl Scope<'_, '_> {
         }
     }
 
-    // One thing that may happen, and whether it is the last one.
+    // Reads one thing that may happen and the `or` behind it, if there is one: true says that there is none. The error is refused memory.
     fn event_step<'t, 'b>(
         self,
         alloc: Global,
@@ -142,7 +145,8 @@ impl Scope<'_, '_> {
         Ok(Some((simple, is_last, rest)))
     }
 
-    /// One thing or more that may happen, with `or` between them, and the tokens behind them. The error is refused memory.
+    /// Reads an event: one thing or more that may happen, with `or` between them, and the tokens behind them. None if the tokens don't begin so. The
+    /// error is refused memory.
     pub fn event<'t, 'b>(
         self,
         alloc: Global,
@@ -152,6 +156,7 @@ impl Scope<'_, '_> {
     {
         let mut alternatives = Vec::new(alloc);
         let mut rest = same_tokens(tokens);
+        // Each turn reads a token at least, so there are enough turns.
         for _ in 0..tokens.len() {
             let Some((simple, is_last, behind)) = self.event_step(alloc, rest)? else {
                 return Ok(None);
@@ -165,7 +170,7 @@ impl Scope<'_, '_> {
         Ok(None)
     }
 
-    /// An event behind which nothing stands. The error is refused memory.
+    /// The event that all these tokens are; None if they are none, or something stands behind it. The error is refused memory.
     pub fn last_event(
         self,
         alloc: Global,

@@ -9,22 +9,23 @@ use std::fmt;
 /// Why a test isn't read. Lines are counted from 1.
 #[derive(Clone, Copy, PartialEq, Eq, Debug)]
 pub enum TestFault {
-    /// T1: the first line that is none of a test.
+    /// T1: the first line that is none of a test, or that names one site too many.
     Line(usize),
     /// T2: memory was refused.
     Memory,
     /// T3: over `LONGEST_SOURCE` bytes.
     Long,
-    /// T4: the first line that is none where it stands: a service before any section or below `always`, a claim before any section or below `given`, a
-    /// second `given`, `always` or case of that name, a built-in site as a service, or one case, claim or service too many.
+    /// T4: the first line that isn't allowed where it stands: a service before any section or below `always`, a claim before any section or below
+    /// `given`, a second `given`, `always` or case of that name, a built-in site as a service, or one case, claim or service too many.
     Place(usize),
-    /// T5: the first line that names a site, with so many arguments, that no service has, and whose name no other site has.
+    /// T5: the first line that names a site that no service has with so many arguments, and whose name neither a built-in site nor a line of the
+    /// script has.
     Unknown(usize),
-    /// T6: the line of the first case with over `MOST_WAYS` ways.
+    /// T6: the line of the first case with over `MOST_WAYS` ways. `read_test` never answers it: who counts the ways does.
     Ways(usize),
 }
 
-// Its code and its place.
+// The fault's code and its line, as `T4 at line 9`, without `orc: ` before it.
 impl fmt::Display for TestFault {
     ghost output = { λ f. Some (test_line f) };
 
@@ -43,7 +44,7 @@ impl fmt::Display for TestFault {
 impl Error for TestFault {}
 
 impl TestFault {
-    /// The process's status at this fault.
+    /// The status with which a command ends at this fault: 5 if memory was refused, and otherwise 1.
     pub fn status(self) -> u8
         ensures { result ≡ test_status self }
     {

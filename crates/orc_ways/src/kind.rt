@@ -1,4 +1,4 @@
-//! What a line is.
+//! What a line is: the beginning of a section, a service or a claim.
 
 ghost use Rattle.std.specs.Prelude.{◌≡◌, IfOk, option_map};
 ghost use Rattle.orc_rules.specs.Digits.{Gives};
@@ -16,6 +16,7 @@ use std::alloc::{AllocError, Global};
 /// What a line is.
 #[derive(Drop)]
 pub enum Kind<'a> {
+    /// It has no token: blanks, or a comment.
     Blank,
     Given,
     Always,
@@ -35,7 +36,7 @@ fn has_equals_sign(tokens: &[Token<'_>]) -> bool
     false
 }
 
-// The section that one token begins.
+// The section that a line of this one token begins; None for any other token.
 fn one_token<'a>(token: &Token<'a>) -> Option<Kind<'a>>
     ensures { Gives kind_of result (section_in (token_of token.now)) }
 {
@@ -48,7 +49,7 @@ fn one_token<'a>(token: &Token<'a>) -> Option<Kind<'a>>
     }
 }
 
-// The section that these tokens begin.
+// The section that a line of these tokens begins: `given`, `always`, or `case` and a name. None for any others.
 fn section<'a>(tokens: &[Token<'a>]) -> Option<Kind<'a>>
     ensures { Gives kind_of result (section_at (tokens_of tokens.now)) }
 {
@@ -66,7 +67,8 @@ fn section<'a>(tokens: &[Token<'a>]) -> Option<Kind<'a>>
 }
 
 impl<'a> Scope<'_, 'a> {
-    // A section or a claim.
+    // What a line without `=` is; None if it is neither a section nor a claim. A claim may begin with a site called `given`, since a section is the
+    // whole line.
     fn section_or_claim(self, alloc: Global) -> Result<Option<Kind<'a>>, AllocError>
         ensures { IfOk result (λ o. Gives kind_of o (other_at (sites_of self.entry.sites.now) (tokens_of self.entry.line.now))) }
     {
@@ -79,7 +81,7 @@ impl<'a> Scope<'_, 'a> {
         Ok(Some(Kind::Claim(claim)))
     }
 
-    /// What the line is: one with a `=` is a service. None where it is none of a test. The error is refused memory.
+    /// What the line is: a service exactly if it has a `=`. None if it is no line of a test. The error is refused memory.
     #[tactic(auto, unfolding(crate::specs::Lines::kind_at))]
     pub fn kind(self, alloc: Global) -> Result<Option<Kind<'a>>, AllocError>
         ensures { IfOk result (λ o. Gives kind_of o (kind_at (sites_of self.entry.sites.now) (tokens_of self.entry.line.now))) }

@@ -1,4 +1,4 @@
-//! Tests: how the services of a program may behave, and what has to hold whatever they do.
+//! Reads the text of a test: how the services of a program may behave, and what has to hold whatever they do. docs/testing.md has its grammar.
 #![tactic(auto)]
 
 mod claims;

@@ -1,4 +1,4 @@
-//! The sites that a line names.
+//! The sites that a line names: each name that stands before brackets with up to `MOST_ARGUMENTS` arguments, whatever the line is.
 
 ghost use Rattle.std.specs.Prelude.{◌≡◌, ◌∷◌, IfOk, OnOk, option_map, Some};
 ghost use Rattle.orc_rules.specs.Digits.{Gives};
@@ -13,7 +13,8 @@ use crate::token::{Token, closes, is_left_bracket, is_right_bracket, name, same_
 use orc_rules::limits::MOST_ARGUMENTS;
 use std::alloc::AllocError;
 
-// Whether the bracket follows an argument, or a comma, and the tokens behind that.
+// Reads one argument and the sign behind it: true for `)`, false for a comma, and the tokens behind that sign. None for any other sign. The argument
+// is any token: what may stand there is checked where the line is read.
 fn argument_step<'t, 'a>(tokens: &'t [Token<'a>]) -> Option<(bool, &'t [Token<'a>])>
     ensures { Gives (λ x. (x.0, tokens_of x.1.now)) result (argument_step (tokens_of tokens.now)) }
 {
@@ -23,7 +24,7 @@ fn argument_step<'t, 'a>(tokens: &'t [Token<'a>]) -> Option<(bool, &'t [Token<'a
     }
 }
 
-// How many arguments stand up to their bracket, one at least.
+// How many arguments stand before the `)`, of tokens that begin with the first argument; None if a sign is missing or they are over `MOST_ARGUMENTS`.
 fn some_arguments(tokens: &[Token<'_>]) -> Option<usize>
     ensures { result ≡ arguments_from MOST_ARGUMENTS (tokens_of tokens.now) }
 {
@@ -40,6 +41,7 @@ fn some_arguments(tokens: &[Token<'_>]) -> Option<usize>
     None
 }
 
+// How many arguments stand before the `)`, of the tokens behind the `(`: 0 for `()`.
 fn arguments_to_bracket(tokens: &[Token<'_>]) -> Option<usize>
     ensures { result ≡ arguments_behind (tokens_of tokens.now) }
 {
@@ -55,7 +57,7 @@ fn arguments_to_bracket(tokens: &[Token<'_>]) -> Option<usize>
     }
 }
 
-// How many arguments stand in brackets, where brackets stand first.
+// How many arguments stand in the brackets with which the tokens begin; None if they don't begin with brackets.
 fn arguments(tokens: &[Token<'_>]) -> Option<usize>
     ensures { result ≡ arguments_at (tokens_of tokens.now) }
 {
@@ -71,7 +73,7 @@ fn arguments(tokens: &[Token<'_>]) -> Option<usize>
     }
 }
 
-// A name, and the number of its arguments in brackets.
+// The name that the token is, and how many arguments stand in the brackets behind it; None if it is no name or no brackets follow.
 fn mention<'a>(token: &Token<'a>, behind: &[Token<'a>]) -> Option<(&'a [u8], usize)>
     ensures { Gives (λ x. (x.0.now, x.1)) result (mention_at (token_of token.now) (tokens_of behind.now)) }
 {
@@ -79,7 +81,8 @@ fn mention<'a>(token: &Token<'a>, behind: &[Token<'a>]) -> Option<(&'a [u8], usi
     Some((name, arguments(behind)?))
 }
 
-// Adds a site that isn't among them, unless they are too many. The error is refused memory.
+// Pushes a site that isn't among them. The list may grow to one over the limit, by which the caller sees that they are too many. The error is refused
+// memory.
 fn add_site<'a>(
     sites: &mut Vec<SiteName<'a>>,
     line: usize,
@@ -102,7 +105,7 @@ fn add_site<'a>(
     Ok(())
 }
 
-// Adds the site that stands first, if one does.
+// Pushes the site that a token and the brackets behind it name, if they name one. The error is refused memory.
 fn add_first<'a>(
     sites: &mut Vec<SiteName<'a>>,
     line: usize,
@@ -117,8 +120,8 @@ fn add_first<'a>(
     }
 }
 
-/// Adds the sites that a line's tokens name and that aren't among them, with the line's number; not many more than `MOST_SITES`, where they are too many.
-/// The error is refused memory, and then some may have been added.
+/// Pushes the sites that a line's tokens name and that aren't among them, with the line's number. If `sites` had `MOST_SITES` + 1 at most, it still
+/// has: that one more says that the line names one too many. The error is refused memory, and then some may have been pushed.
 pub fn add_mentions<'a>(
     sites: &mut Vec<SiteName<'a>>,
     line: usize,
@@ -126,6 +129,7 @@ pub fn add_mentions<'a>(
 ) -> Result<(), AllocError>
     ensures { OnOk result (sites_of sites.new.items ≡ with_mentions (sites_of sites.old.items) line (tokens_of tokens.now)) }
 {
+    // From each token on, so that a site in another one's brackets counts too.
     let mut rest = tokens;
     while let [token, behind @ ..] = rest {
         add_first(sites, line, token, behind)?;

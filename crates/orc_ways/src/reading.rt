@@ -1,4 +1,4 @@
-//! Reading a test.
+//! Reading a test: its lines one after the other, and then the checks of the whole.
 
 ghost use Rattle.std.specs.Prelude.{◌≡◌, ◌≤◌, IfOk, IfErr, length};
 ghost use Rattle.std.specs.List.{list_any};
@@ -17,7 +17,7 @@ use orc_rules::limits::LONGEST_SOURCE;
 use orc_site::split_line;
 use std::alloc::{AllocError, Global};
 
-// What the lines of a text say.
+// The draft that the lines of a text make, up to the last one. The faults are T1 and T4 of the first line that has one, and refused memory.
 fn read_draft<'a>(alloc: Global, text: &'a [u8]) -> Result<Draft<'a>, TestFault>
     requires { length text.now ≤ LONGEST_SOURCE }
     ensures read { IfOk result (λ d. read_text text.now ≡ says (draft_of d)) }
@@ -42,7 +42,8 @@ fn read_draft<'a>(alloc: Global, text: &'a [u8]) -> Result<Draft<'a>, TestFault>
     }
 }
 
-// The test that a draft says. The error is refused memory.
+// The test of a draft whose lines are all read: one without a case gets the case `given`, which begins at the line of `given`, or at line 1. The
+// error is refused memory.
 fn finish(draft: Draft<'_>) -> Result<Test<'_>, AllocError>
     ensures { IfOk result (λ t. test_of t ≡ test_said (draft_of draft.entry)) }
 {
@@ -61,7 +62,7 @@ fn finish(draft: Draft<'_>) -> Result<Test<'_>, AllocError>
     Ok(test)
 }
 
-// Whether a service has the site's name, and as many patterns as it has arguments.
+// Whether a service of the test has the site's name and as many patterns as the site has arguments.
 fn is_served(site: &SiteName<'_>, lines: &[ServiceLine<'_>]) -> bool
     ensures { result ≡ list_any (serves_site (site_of site.now)) (service_lines_of lines.now) }
 {
@@ -73,7 +74,7 @@ fn is_served(site: &SiteName<'_>, lines: &[ServiceLine<'_>]) -> bool
     false
 }
 
-// The line of the first site that no service has and no other site is called as.
+// The line of the first site that no service of the test has, and whose name none of the others has; None if there is no such site.
 fn unknown(others: &Answers, lines: &[ServiceLine<'_>], sites: &[SiteName<'_>]) -> Option<usize>
     ensures { result ≡ unknown_line others.now (service_lines_of lines.now) (sites_of sites.now) }
 {
@@ -85,11 +86,13 @@ fn unknown(others: &Answers, lines: &[ServiceLine<'_>], sites: &[SiteName<'_>]) 
     None
 }
 
-/// The test that a text says. `others` are the sites that need no service in it: the built-in ones, and those of a script whose lines stand behind those
-/// of the ways.
+/// The test that a text says. `others` are the sites that need no service in it: the built-in ones, and those of the script that the caller puts
+/// behind the lines of each way.
+///
+/// The error is `Long` for over `LONGEST_SOURCE` bytes; else `Line` or `Place` of the first line that is none of a test or isn't allowed there; else
+/// `Unknown` of the line of the first site that neither a service nor the others have; or `Memory` at any of these steps. It is never `Ways`.
 pub fn read_test<'a>(alloc: Global, text: &'a [u8], others: &Answers) -> Result<Test<'a>, TestFault>
     ensures read { IfOk result (λ t. Says text.now others.now (test_of t)) }
-    // Of a text within its limit the first line is named that is none of a test, or none where it stands; else that of the first unknown site.
     ensures fault { IfErr result (IsFault text.now others.now) }
 {
     if text.len() > LONGEST_SOURCE {

@@ -1,4 +1,4 @@
-//! The lines of services.
+//! The lines of services: `Pay(_) = 1 after 0..13 | halt then 2`.
 
 ghost use Rattle.std.specs.Prelude.{◌≡◌, IfOk, option_map, codes};
 ghost use Rattle.std.specs.List.{list_all};
@@ -22,7 +22,7 @@ use orc_rules::limits::MOST_ANSWERS;
 use orc_rules::value::Answer;
 use std::alloc::{AllocError, Global};
 
-// The end of a range, and the tokens behind it.
+// Reads the second number of a range, behind its `..`; None if there is none or it is less than the first.
 fn range_end<'t, 'a>(
     answer: Answer,
     low: u64,
@@ -38,7 +38,7 @@ fn range_end<'t, 'a>(
     }
 }
 
-// Behind the first number of a time.
+// Reads what stands behind the first number of a delay: `..` and a second number, or nothing, and then the range is that number alone.
 fn range<'t, 'a>(
     answer: Answer,
     low: u64,
@@ -58,7 +58,7 @@ fn range<'t, 'a>(
     }
 }
 
-// An answer with the time that may stand behind it.
+// Reads the `after` that may stand behind an answer, and its delay; without it the delay is 0.
 fn delayed<'t, 'a>(answer: Answer, tokens: &'t [Token<'a>]) -> Option<(Reply, &'t [Token<'a>])>
     ensures { Gives (λ x. (x.0, tokens_of x.1.now)) result (delay_or answer (tokens_of tokens.now) (behind_word (codes "after") (tokens_of tokens.now))) }
 {
@@ -71,7 +71,7 @@ fn delayed<'t, 'a>(answer: Answer, tokens: &'t [Token<'a>]) -> Option<(Reply, &'
     }
 }
 
-// An answer, and when it comes; or `never`.
+// Reads one answer with its delay, or `never`, which takes none.
 #[tactic(auto, unfolding(crate::specs::Lines::reply_at))]
 fn reply<'t, 'a>(tokens: &'t [Token<'a>]) -> Option<(Reply, &'t [Token<'a>])>
     ensures { Gives (λ x. (x.0, tokens_of x.1.now)) result (reply_at (tokens_of tokens.now)) }
@@ -87,6 +87,7 @@ fn reply<'t, 'a>(tokens: &'t [Token<'a>]) -> Option<(Reply, &'t [Token<'a>])>
     }
 }
 
+// Reads one answer and the `then` behind it, if there is one: true says that there is none.
 fn reply_step<'t, 'a>(tokens: &'t [Token<'a>]) -> Option<(Reply, bool, &'t [Token<'a>])>
     ensures { Gives (λ x. (x.0, x.1, tokens_of x.2.now)) result (reply_step (tokens_of tokens.now)) }
 {
@@ -95,7 +96,7 @@ fn reply_step<'t, 'a>(tokens: &'t [Token<'a>]) -> Option<(Reply, bool, &'t [Toke
     Some((reply, is_last, rest))
 }
 
-// Answers with `then` between them, one to `MOST_ANSWERS`, and the tokens behind them.
+// Reads a history: one to `MOST_ANSWERS` answers with `then` between them. None for more. The error is refused memory.
 fn history<'t, 'a>(
     alloc: Global,
     tokens: &'t [Token<'a>],
@@ -117,7 +118,7 @@ fn history<'t, 'a>(
     Ok(None)
 }
 
-// Whether no alternative follows, and else the tokens behind its `|`.
+// Whether the alternatives end here: (false, the tokens behind the `|`) if one stands first, and otherwise (true, the same tokens).
 fn more_alternatives<'t, 'a>(tokens: &'t [Token<'a>]) -> (bool, &'t [Token<'a>])
     ensures { (result.0, tokens_of result.1.now) ≡ more_bars (tokens_of tokens.now) }
 {
@@ -133,6 +134,7 @@ fn more_alternatives<'t, 'a>(tokens: &'t [Token<'a>]) -> (bool, &'t [Token<'a>])
     }
 }
 
+// Reads one alternative, which is a history, and the `|` behind it, if there is one: true says that there is none. The error is refused memory.
 fn alternative_step<'t, 'a>(
     alloc: Global,
     tokens: &'t [Token<'a>],
@@ -146,7 +148,7 @@ fn alternative_step<'t, 'a>(
     Ok(Some((replies, is_last, rest)))
 }
 
-// Alternatives with `|` between them, one to `MOST_ALTERNATIVES`, and the tokens behind them.
+// Reads one to `MOST_ALTERNATIVES` alternatives with `|` between them. None for more. The error is refused memory.
 fn alternatives<'t, 'a>(
     alloc: Global,
     tokens: &'t [Token<'a>],
@@ -177,6 +179,7 @@ fn is_one_answer(replies: &[Reply]) -> bool
     }
 }
 
+// Whether each alternative is one answer.
 fn are_single(alternatives: &[Vec<Reply>]) -> bool
     ensures { result ≡ list_all is_one (histories_of alternatives.now) }
 {
@@ -188,6 +191,7 @@ fn are_single(alternatives: &[Vec<Reply>]) -> bool
     true
 }
 
+// The N of `in each of N calls`, if it is 2 to `MOST_CALLS`.
 fn within_calls(number: u64) -> Option<usize>
     ensures { result ≡ calls_within number }
 {
@@ -198,14 +202,15 @@ fn within_calls(number: u64) -> Option<usize>
     }
 }
 
-// Whether these are the words around the number of calls.
+// Whether these four tokens are the words of `in each of N calls`.
 fn are_words(a: &Token<'_>, b: &Token<'_>, c: &Token<'_>, d: &Token<'_>) -> bool
     ensures { result ≡ are_calls (token_of a.now) (token_of b.now) (token_of c.now) (token_of d.now) }
 {
     is_this(a, b"in") && is_this(b, b"each") && is_this(c, b"of") && is_this(d, b"calls")
 }
 
-// How many calls take an alternative of their own, by what stands behind the alternatives.
+// The N of `in each of N calls`, of the tokens behind the alternatives up to the end of the line; 1 if there are none. None if they are anything
+// else, N is out of its range, or an alternative has more than one answer.
 #[tactic(auto, unfolding(crate::specs::Lines::calls_at))]
 fn calls(alternatives: &[Vec<Reply>], tokens: &[Token<'_>]) -> Option<usize>
     ensures { result ≡ calls_at (histories_of alternatives.now) (tokens_of tokens.now) }
@@ -225,7 +230,7 @@ fn calls(alternatives: &[Vec<Reply>], tokens: &[Token<'_>]) -> Option<usize>
     }
 }
 
-// The tokens behind a `=`.
+// The tokens behind the `=` that is the first token; None if that is anything else.
 fn behind_equals<'t, 'a>(tokens: &'t [Token<'a>]) -> Option<&'t [Token<'a>]>
     ensures { option_map (λ rest. tokens_of rest.now) result ≡ equals_at (tokens_of tokens.now) }
 {
@@ -241,7 +246,7 @@ fn behind_equals<'t, 'a>(tokens: &'t [Token<'a>]) -> Option<&'t [Token<'a>]>
     }
 }
 
-/// The service that these tokens are, which are all those of its line. None where they are none. The error is refused memory.
+/// The service that all tokens of a line are; None if they are none. The error is refused memory.
 #[tactic(auto, unfolding(crate::specs::Lines::service_at))]
 pub fn service<'a>(alloc: Global, tokens: &[Token<'a>]) -> Result<Option<Service<'a>>, AllocError>
     ensures { IfOk result (λ o. Gives service_of o (service_at (tokens_of tokens.now))) }
@@ -252,7 +257,7 @@ pub fn service<'a>(alloc: Global, tokens: &[Token<'a>]) -> Result<Option<Service
     let Some(name) = site_name(token) else {
         return Ok(None);
     };
-    // No variable stands in a service.
+    // In a scope without a line no name is a variable, so a service with one in its patterns isn't read. Patterns name no site.
     let scope = Scope {
         sites: &[],
         line: &[],

@@ -1,4 +1,4 @@
-//! What stands in the place of a value.
+//! Slots: what stands in the place of a value, which is a value, `_` or a variable.
 
 ghost use Rattle.std.specs.Prelude.{◌≡◌, ◌<◌, length, IfOk, IfSome};
 ghost use Rattle.orc_rules.specs.Digits.{Gives};
@@ -16,7 +16,8 @@ use orc_rules::limits::MOST_ARGUMENTS;
 use orc_rules::value::Value;
 use std::alloc::{AllocError, Global};
 
-// Whether a word may follow a value, so that it is no variable.
+// Whether a word may follow a slot in a claim. Such a word is no variable: else the `or` of `A(_) answered or B(_)` could be the value that is
+// answered.
 fn follows_value(name: &[u8]) -> bool
     ensures { result ≡ follows name.now }
 {
@@ -34,6 +35,7 @@ fn follows_value(name: &[u8]) -> bool
         || name == b"cancelled".as_slice()
 }
 
+// Whether a name begins with a small letter.
 fn begins_small(name: &[u8]) -> bool
     ensures { result ≡ is_small name.now }
 {
@@ -49,7 +51,7 @@ fn is_variable_name(name: &[u8]) -> bool
     begins_small(name) && !follows_value(name)
 }
 
-// The place of the first token that is this word.
+// The place of the first token of the line that is this word, from 0.
 fn place_in(line: &[Token<'_>], word: &[u8]) -> Option<usize>
     ensures place { result ≡ place_of word.now (tokens_of line.now) }
     ensures within { IfSome result (λ at. at < length line.now) }
@@ -62,6 +64,7 @@ fn place_in(line: &[Token<'_>], word: &[u8]) -> Option<usize>
     None
 }
 
+// The slot of a pattern as scripts have it, where None is `_`.
 fn slot_of_pattern(pattern: Option<Value>) -> Slot
     ensures { result ≡ slot_of pattern }
 {
@@ -72,7 +75,8 @@ fn slot_of_pattern(pattern: Option<Value>) -> Slot
 }
 
 impl Scope<'_, '_> {
-    // The variable of this name, which has the number of the place at which it stands first.
+    // The variable of this name; None for a name that can't be one. Its number is the place of its first token in the line, so equal names are equal
+    // numbers.
     fn variable(self, name: &[u8]) -> Option<Slot>
         ensures { result ≡ variable_in (tokens_of self.entry.line.now) name.now }
     {
@@ -84,7 +88,7 @@ impl Scope<'_, '_> {
         }
     }
 
-    /// What a token is in the place of a value: a value, `_` or a variable.
+    /// What a token is in the place of a value: a value, `_` or a variable; None for any other token.
     #[tactic(auto, unfolding(crate::specs::Claims::slot_in))]
     pub fn slot(self, token: &Token<'_>) -> Option<Slot>
         ensures { result ≡ slot_in (tokens_of self.entry.line.now) (token_of token.now) }
@@ -95,7 +99,7 @@ impl Scope<'_, '_> {
         self.variable(name(token)?)
     }
 
-    // A slot, whether it is the last one by the sign that follows it, and the tokens behind that.
+    // Reads one slot and the sign behind it: the slot, true for `)` and false for a comma, and the tokens behind that sign. None for anything else.
     fn slot_step<'t, 'b>(self, tokens: &'t [Token<'b>]) -> Option<(Slot, bool, &'t [Token<'b>])>
         ensures { Gives (λ x. (x.0, x.1, tokens_of x.2.now)) result (slot_step (tokens_of self.entry.line.now) (tokens_of tokens.now)) }
     {
@@ -108,7 +112,7 @@ impl Scope<'_, '_> {
         }
     }
 
-    // One to `MOST_ARGUMENTS` slots with commas between them, and the tokens behind their bracket.
+    // Reads one to `MOST_ARGUMENTS` slots with commas between them up to the `)`: the slots, and the tokens behind it. The error is refused memory.
     fn some_slots<'t, 'b>(
         self,
         alloc: Global,
@@ -131,7 +135,7 @@ impl Scope<'_, '_> {
         Ok(None)
     }
 
-    // The slots behind a bracket.
+    // Reads the slots behind a `(`, none or more, as `slots` does.
     fn slots_behind<'t, 'b>(
         self,
         alloc: Global,
@@ -150,7 +154,8 @@ impl Scope<'_, '_> {
         }
     }
 
-    /// Slots in brackets, none to `MOST_ARGUMENTS`, and the tokens behind them. The error is refused memory.
+    /// Reads slots in brackets, none to `MOST_ARGUMENTS`: the slots, and the tokens behind the `)`. None if the tokens don't begin so. The error is
+    /// refused memory.
     #[tactic(auto, unfolding(crate::specs::Claims::slots_at))]
     pub fn slots<'t, 'b>(
         self,

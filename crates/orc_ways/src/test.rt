@@ -1,20 +1,23 @@
-//! A test: how services may behave, and what has to hold whatever they do.
+//! A test as it was read. Names and lines are slices of its text.
 
 use orc_claims::claim::{Claim, Slot};
 use orc_rules::value::Answer;
 
-/// What a service answers, and how long after its call: from the first number of units to the second; or that it never does.
+/// What a service answers to one call.
 #[derive(Clone, Copy, PartialEq, Eq, Debug)]
 pub enum Reply {
+    /// This answer after a delay, in units of logical time, from the first number to the second, both included. `after 5` is 5 to 5.
     Between(Answer, u64, u64),
+    /// It never answers.
     Never,
 }
 
-/// A site that a test names, with so many arguments, and the number of the line that names it first, from 1.
+/// A site that a test names. The same name with another number of arguments is another site.
 #[derive(Clone, Copy)]
 pub struct SiteName<'a> {
     pub name: &'a [u8],
     pub arguments: usize,
+    /// The number of the line that names it first, from 1.
     pub line: usize,
 }
 
@@ -22,17 +25,20 @@ pub struct SiteName<'a> {
 #[derive(Drop)]
 pub struct Service<'a> {
     pub name: &'a [u8],
-    /// Values and `Any` alone.
+    /// One for each argument: a value, or `Any` for `_`, never a variable.
     pub patterns: Vec<Slot>,
-    /// What it may do, the usual thing first: answers to the first call, the second one and so on, where the last goes on.
+    /// What it may do, the usual alternative first. Each has an answer for the first call, the second one and so on; its last one answers all further
+    /// calls.
     pub alternatives: Vec<Vec<Reply>>,
-    /// Each of the first so many calls takes an alternative of its own: 1, or 2 to 4, and then each alternative is one answer.
+    /// The N of `in each of N calls`, 2 to 4: each of the first N calls with the same arguments takes an alternative of its own, which is one answer
+    /// then. Without it 1: the line takes one alternative for all its calls.
     pub calls: usize,
 }
 
-/// A line of a service, and the place of its case among the cases; None below `given`.
+/// A line of a service.
 #[derive(Drop)]
 pub struct ServiceLine<'a> {
+    /// The place of its case among the cases, from 0; None below `given`.
     pub case: Option<usize>,
     pub service: Service<'a>,
 }
@@ -40,33 +46,35 @@ pub struct ServiceLine<'a> {
 /// Where a claim stands.
 #[derive(Clone, Copy)]
 pub struct ClaimLine<'a> {
-    /// The place of its case among the cases; None below `always`.
+    /// The place of its case among the cases, from 0; None below `always`.
     pub case: Option<usize>,
     /// The number of its line, from 1.
     pub line: usize,
-    /// Its line, perhaps with blanks and a comment: `shown` leaves them out.
+    /// Its whole line without the LF, with the blanks around it and a comment, if it has any: a table shows it without them.
     pub text: &'a [u8],
 }
 
-/// A case, and the number of the line with which it begins, from 1.
+/// A case of a test.
 #[derive(Clone, Copy)]
 pub struct Case<'a> {
     pub name: &'a [u8],
+    /// The number of the line with which it begins, from 1.
     pub line: usize,
 }
 
 /// What the text of a test says.
 pub struct Test<'a> {
-    /// The sites in the order in which they are named first. The call of a claim has the place of its site here.
+    /// The sites in the order in which they are named first. A call in a claim has the place of its site here, from 0.
     pub sites: Vec<SiteName<'a>>,
     pub services: Vec<ServiceLine<'a>>,
     pub claims: Vec<Claim>,
     /// One for each claim, in the same order.
     pub claim_lines: Vec<ClaimLine<'a>>,
-    /// At least one.
+    /// In the order of the text. A test without a case has one that is called `given`, so there is one at least.
     pub cases: Vec<Case<'a>>,
 }
 
+// Written out, so that a caller's proof sees one call and not the drop of each field.
 impl Drop for Test<'_> {
     fn drop(self) {
         let Test {

@@ -1,4 +1,7 @@
-//! The tokens of a test's line.
+//! The tokens of a test's line, what one token is, and what the first tokens of some are.
+//!
+//! All readers of this crate work alike: they take tokens and hand back what they read and the tokens behind it, or None if the tokens don't begin
+//! so. A `.._step` reads one item of a list: the item, whether it is the last one, and the tokens behind the sign or word that follows it.
 
 ghost use Rattle.std.specs.Prelude.{◌≡◌, ◌≤◌, Option, option_map, length, IfOk, IfSome, List};
 ghost use Rattle.orc_rules.specs.Digits.{Gives};
@@ -21,7 +24,7 @@ pub enum Token<'a> {
     Dots,
 }
 
-// Two dots, of which the first one stands before these bytes.
+// The token `..` and the bytes behind it, of the bytes behind a first dot; None if no second dot follows.
 fn dots(behind: &[u8]) -> Option<(Token<'_>, &[u8])>
     ensures { Gives (λ x. (token_of x.0, x.1.now)) result (dots_behind behind.now) }
 {
@@ -37,7 +40,7 @@ fn dots(behind: &[u8]) -> Option<(Token<'_>, &[u8])>
     }
 }
 
-// The token that stands first.
+// The token with which these bytes begin, which has no blanks before it, and the bytes behind it; None if they begin with none.
 #[tactic(auto, unfolding(crate::specs::Tokens::token_at))]
 fn first_token(bytes: &[u8]) -> Option<(Token<'_>, &[u8])>
     ensures { Gives (λ x. (token_of x.0, x.1.now)) result (token_at bytes.now) }
@@ -64,6 +67,7 @@ pub fn cut_line<'a>(alloc: Global, line: &'a [u8]) -> Result<Option<Vec<Token<'a
 {
     let mut tokens = Vec::new(alloc);
     let mut rest = skip_blanks(line);
+    // Each turn cuts off a byte at least, so there are enough turns; after the last one the line may still be at its end.
     for _ in 0..line.len() {
         if is_line_end(rest) {
             return Ok(Some(tokens));
@@ -126,7 +130,7 @@ pub fn is_equals_sign(token: &Token<'_>) -> bool
     matches!(token, Token::Plain(ScriptToken::Equals))
 }
 
-/// Whether the bracket follows that closes a list, or a comma: None where neither does.
+/// Whether a sign behind an item of a list in brackets ends the list: true for `)`, false for a comma, None for any other token.
 pub fn closes(token: &Token<'_>) -> Option<bool>
     ensures { result ≡ ends_items (token_of token.now) }
 {
@@ -137,7 +141,7 @@ pub fn closes(token: &Token<'_>) -> Option<bool>
     }
 }
 
-/// The number that a token is: digits without a sign.
+/// The number that a token is: digits without a sign, up to the greatest delay of a script; None for any other token.
 pub fn number(token: &Token<'_>) -> Option<u64>
     ensures { result ≡ number_of (token_of token.now) }
 {
@@ -147,7 +151,7 @@ pub fn number(token: &Token<'_>) -> Option<u64>
     }
 }
 
-/// The value that a token is, or `None` for `_`.
+/// The pattern that a token is: Some(None) for `_`, and otherwise its value. None if it is neither.
 pub fn pattern(token: &Token<'_>) -> Option<Option<Value>>
     ensures { result ≡ pattern_in (token_of token.now) }
 {
@@ -157,7 +161,7 @@ pub fn pattern(token: &Token<'_>) -> Option<Option<Value>>
     }
 }
 
-/// The answer that a token is: a value or `halt`.
+/// The answer that a token is: a value or `halt`. None for any other token, `never` too.
 pub fn answer(token: &Token<'_>) -> Option<Answer>
     ensures { result ≡ answer_in (token_of token.now) }
 {
@@ -167,7 +171,7 @@ pub fn answer(token: &Token<'_>) -> Option<Answer>
     }
 }
 
-/// The name that a token is.
+/// The name that a token is, be it reserved or not; None for any other token.
 pub fn name<'a>(token: &Token<'a>) -> Option<&'a [u8]>
     ensures { option_map (λ n. n.now) result ≡ name_in (token_of token.now) }
 {
@@ -177,7 +181,7 @@ pub fn name<'a>(token: &Token<'a>) -> Option<&'a [u8]>
     }
 }
 
-/// The name of a site that a token is: one that isn't reserved.
+/// The name of a site that a token is: a name that isn't reserved, as `def` or `true` is; None for any other token.
 pub fn site_name<'a>(token: &Token<'a>) -> Option<&'a [u8]>
     ensures { option_map (λ n. n.now) result ≡ site_in (token_of token.now) }
 {
@@ -193,7 +197,7 @@ pub fn site_name<'a>(token: &Token<'a>) -> Option<&'a [u8]>
     }
 }
 
-/// Whether `(` stands first.
+/// Whether the first token is `(`.
 pub fn opens_bracket(tokens: &[Token<'_>]) -> bool
     ensures { result ≡ opens (tokens_of tokens.now) }
 {
@@ -203,7 +207,7 @@ pub fn opens_bracket(tokens: &[Token<'_>]) -> bool
     }
 }
 
-/// The tokens behind this word, if it stands first.
+/// The tokens behind this word, if it is the first token; None otherwise.
 pub fn behind<'t, 'a>(word: &[u8], tokens: &'t [Token<'a>]) -> Option<&'t [Token<'a>]>
     ensures { option_map (λ rest. tokens_of rest.now) result ≡ behind_word word.now (tokens_of tokens.now) }
 {
@@ -219,7 +223,7 @@ pub fn behind<'t, 'a>(word: &[u8], tokens: &'t [Token<'a>]) -> Option<&'t [Token
     }
 }
 
-/// Whether this word stands first and isn't the name of a site that is called.
+/// Whether this word is the first token and no `(` follows: then it isn't the name of a site.
 pub fn begins_with(word: &[u8], tokens: &[Token<'_>]) -> bool
     ensures { result ≡ begins word.now (tokens_of tokens.now) }
 {
@@ -229,7 +233,7 @@ pub fn begins_with(word: &[u8], tokens: &[Token<'_>]) -> bool
     }
 }
 
-/// The number that stands first, and the tokens behind it.
+/// The number that is the first token, and the tokens behind it; None if that is no number.
 pub fn number_first<'t, 'a>(tokens: &'t [Token<'a>]) -> Option<(u64, &'t [Token<'a>])>
     ensures { Gives (λ x. (x.0, tokens_of x.1.now)) result (number_at (tokens_of tokens.now)) }
 {
@@ -239,7 +243,7 @@ pub fn number_first<'t, 'a>(tokens: &'t [Token<'a>]) -> Option<(u64, &'t [Token<
     }
 }
 
-/// The same tokens. A loop's tokens come from a call before it and from one in it, so that they have one form for the prover.
+/// The tokens themselves. A loop that reads on and on takes its tokens from here both before it and in it: the prover then sees them in one form.
 pub fn same_tokens<'t, 'a>(tokens: &'t [Token<'a>]) -> &'t [Token<'a>]
     ensures { result.now ≡ tokens.now }
 {
