@@ -52,11 +52,12 @@ pub data Ending : Type 0 where
   halted : Ending
   quiet : Ending
 
+-- quiet, unless something can move, or a pending call has time left
 abbrev pub quiet_if : Bool → Option ℕ → Option Ending
 quiet_if false None = Some quiet
 quiet_if _ _ = None
 
--- halted, or nothing can move and no call that is out has time left
+-- the end that a term says, if it says one: it has halted, or nothing can move and no pending call will be answered
 abbrev pub ending : List SmallDefinition → Small → Option Ending
 ending defs f = cond (is_over f) (Some halted) (quiet_if (moves_now defs f) (least_left f))
 

@@ -1,4 +1,4 @@
--- What comes of numbered terms.
+-- What numbered terms do, and what a step of a part is for what encloses it.
 use Rattle.std.specs.Prelude.{◌≡◌, ◌<◌, ℕ, List, Some, slice_get}
 use Rattle.orc_search.specs.declared.node.Node.{Node}
 use Rattle.orc_search.specs.declared.node.Node.TheVariants.{Pair}
@@ -24,7 +24,7 @@ happening_of Unseen = unseen
 abbrev pub successor_of : List Small → Numbered → Successor
 successor_of terms s = (happening_of s.happening, small_at terms s.to)
 
--- it has this happening, and its number is that of the term
+-- the numbered successor is this one: the same happening, and the number of its term
 abbrev pub IsSuccessor : List Small → Numbered → Successor → Type 0
 IsSuccessor terms s m = (happening_of s.happening ≡ m.0) × (slice_get terms s.to ≡ Some m.1)
 
@@ -37,7 +37,7 @@ in_frame terms (Main g) = in_main (small_at terms g)
 in_frame terms (Side n f) = in_side n (small_at terms f)
 in_frame terms (First g) = in_first (small_at terms g)
 
--- the other part is there
+-- the other part is one of so many terms
 abbrev pub IsAround : ℕ → Frame → Type 0
 IsAround n (Left g) = g < n
 IsAround n (Right f) = f < n

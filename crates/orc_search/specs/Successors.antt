@@ -38,24 +38,28 @@ abbrev pub in_first : Small → Successor → Successor
 in_first g (published v, f) = (published v, f)
 in_first g (h, f) = (h, instead f g)
 
+-- what a parameter does
 abbrev pub given : Param → List Successor
 given (Is v) = (published v, nothing) ∷ []
 given Void = (unseen, nothing) ∷ []
 given _ = []
 
+-- what a call of a site does, where these are its arguments if all are values
 abbrev pub asked : (ℕ → List Value → Out) → ℕ → Option (List Value) → List Successor
 asked ask m (Some args) = (called m args, awaits (ask m args)) ∷ []
 asked ask m None = []
 
+-- what a call of this definition does
 abbrev pub entered : Option SmallDefinition → List Param → List Successor
 entered (Some d) ps = (unseen, set_all d.params ps d.body) ∷ []
 entered None ps = []
 
+-- what a pending call does
 abbrev pub returned : Out → Found → List Successor
 returned o (After a zero) = (answered o.site o.args a, left_by a) ∷ []
 returned o _ = []
 
--- the term where the test holds, silently
+-- a silent step to this term, if the test holds
 abbrev pub silently : Bool → Small → List Successor
 silently true f = (unseen, f) ∷ []
 silently false f = []
@@ -91,7 +95,7 @@ abbrev pub time_left : Found → Option ℕ
 time_left (After a delay) = Some delay
 time_left Never = None
 
--- the least time that a call has left which is out
+-- the least time that a pending call has left
 abbrev pub least_left : Small → Option ℕ
 least_left (both f g) = sooner (least_left f) (least_left g)
 least_left (feeds f x g) = least_left f

@@ -29,12 +29,12 @@ abbrev pub through : List Small → List Frame → Successor → Successor
 through terms [] m = m
 through terms (f ∷ outer) m = through terms outer (in_frame terms f m)
 
--- what stands around that
+-- the frames but the innermost
 abbrev pub outer : List Frame → List Frame
 outer [] = []
 outer (f ∷ path) = path
 
--- by all moves of one part
+-- what the whole does by all moves of one part
 abbrev pub of_spot : List SmallDefinition → (ℕ → List Value → Out) → List Small → List Frame → Spot → List Successor
 of_spot defs ask terms path s = map (through terms path) (moves defs ask s.depth (small_at terms s.at))
 

@@ -15,19 +15,24 @@ use orc_rules::param::Param;
 use orc_rules::value::{Found, Value};
 use std::alloc::{AllocError, Global};
 
-/// What happens to all of a term: a parameter is put for a name, a value or nothing for a cell, so that the cells behind it move up by one, or
-/// time passes.
+/// What happens to all of a term.
 #[derive(Clone, Copy)]
 pub enum Change {
+    /// The parameter is put for each name of this number that is free.
     Put(Param, u32),
+    /// A value, or void, is put for the cell of this number. Cells with a greater number get the next lower one, since one opened pruning fewer is
+    /// around them.
     Settle(Param, u64),
+    /// So much time passes, in logical units.
     Pass(u64),
 }
 
-/// What a term becomes, or a part that has to be changed before it, by their numbers.
+/// How far the change of a term has come.
 #[derive(Clone, Copy)]
 pub enum Progress {
+    /// It becomes the term of this number.
     Is(usize),
+    /// Its part of this number has to be changed before it.
     Wants(usize),
 }
 
@@ -43,7 +48,7 @@ pub(crate) fn is_same_change(a: Change, b: Change) -> bool
     }
 }
 
-/// A number by which a change is looked for. Nothing is promised of it.
+/// A hash of a change. Nothing is promised of it.
 pub(crate) fn mix_change(change: Change) -> u64 {
     match change {
         Change::Put(q, x) => mix(mix_param(20, q), x as u64),
@@ -52,6 +57,7 @@ pub(crate) fn mix_change(change: Change) -> u64 {
     }
 }
 
+// The parameter, with q put for the name x.
 fn put_param(q: Param, x: u32, param: Param) -> Param
     ensures { result ≡ put_param q x param }
 {
@@ -61,6 +67,7 @@ fn put_param(q: Param, x: u32, param: Param) -> Param
     }
 }
 
+// The parameter, with w put for the cell n.
 fn settle_param(w: Param, n: u64, param: Param) -> Param
     ensures { result ≡ settle_param w n param }
 {
@@ -98,6 +105,7 @@ fn changed_params(alloc: Global, change: Change, params: &[Param]) -> Result<Vec
     Ok(changed)
 }
 
+// What comes of a pending call once so much time has passed. A delay doesn't go below 0; a search lets no more time pass than the least one left.
 fn less(by: u64, rest: Found) -> Found
     ensures { result ≡ less by rest }
 {
@@ -142,7 +150,7 @@ fn changed_tip(alloc: Global, change: Change, tip: &Tip) -> Result<Tip, AllocErr
     }
 }
 
-// Whether the left part of such a term stays as it is: the name that is put is another one there.
+// Whether the left part of such a term stays as it is: in `f <x< g` the x of f is the pruning's own, not the one for which something is put.
 fn left_stays(change: Change, joint: Joint) -> bool
     ensures { result ≡ left_stays change joint }
 {
@@ -152,6 +160,7 @@ fn left_stays(change: Change, joint: Joint) -> bool
     }
 }
 
+// Whether the right part stays as it is: the g of `f >x> g` has its own x.
 fn right_stays(change: Change, joint: Joint) -> bool
     ensures { result ≡ right_stays change joint }
 {
@@ -161,7 +170,8 @@ fn right_stays(change: Change, joint: Joint) -> bool
     }
 }
 
-// What the term of that number is changed from. The error is refused memory, or that there is no such term.
+// The node from which the change of a term is made: a term without parts already changed, or the parts of the term before the change. The error is
+// refused memory, or that there is no such term.
 fn plan(terms: &Terms, alloc: Global, change: Change, at: usize) -> Result<Node, AllocError>
     ensures { IfOk result (λ n. IsPlan (smalls terms.now) change at n) }
 {
@@ -175,7 +185,7 @@ fn plan(terms: &Terms, alloc: Global, change: Change, at: usize) -> Result<Node,
     }
 }
 
-// The number of a part after the change, if it is known.
+// The number of a part after the change: its own if it stays, or that of its image; None if that isn't kept yet.
 fn part(terms: &Terms, change: Change, stays: bool, at: usize) -> Option<usize>
     ensures { IfSome result (λ to. IsPart (smalls terms.now) change stays at to) }
 {
@@ -186,7 +196,8 @@ fn part(terms: &Terms, change: Change, stays: bool, at: usize) -> Option<usize>
     }
 }
 
-// What a term becomes, where its parts have their images.
+// One step for one term: what it becomes if the images of its parts are kept, and otherwise a part whose image is wanted first, the left one before
+// the right one. The error is refused memory.
 fn step(terms: &mut Terms, alloc: Global, change: Change, at: usize) -> Result<Progress, AllocError>
     ensures progress { IfOk result (λ s. ProgressIs (smalls terms.old) (smalls terms.new) change at s) }
     ensures kept { Extends (smalls terms.old) (smalls terms.new) }
@@ -209,7 +220,8 @@ fn step(terms: &mut Terms, alloc: Global, change: Change, at: usize) -> Result<P
     }
 }
 
-// Goes one step on: the number of what the term becomes, if that is known now. If it isn't, the term is looked at again once a part of it is known.
+// One step of the whole change, for the term taken from the end of `todo`: its image is kept, and handed back; or the term goes back to `todo`, and
+// behind it the part that is wanted first, and the answer is None. The error is refused memory.
 fn advance(
     terms: &mut Terms,
     alloc: Global,
@@ -252,6 +264,8 @@ pub fn changed(
     if let Some(to) = terms.image(change, root) {
         return Ok(to);
     }
+    // A stack in place of a recursion. The root is at its bottom, so it is empty only once the root's image is known. No change takes as many steps
+    // as the loop has turns: the bound shows that it ends.
     let mut todo: Vec<usize> = Vec::new(alloc);
     todo.push(root)?;
     for _step in 0..u64::MAX {

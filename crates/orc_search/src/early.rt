@@ -1,4 +1,6 @@
-//! Steps of a numbered term that may go first, since they leave all its other steps as they are.
+//! Early steps of a numbered term: those that may go first, since they leave all its other steps as they are (`Early` in `specs/Early.antt`). Such
+//! are all steps but publications, and of these one that is all that a `>x>` or a cell waits for. Calls and answers are only where nobody sees them,
+//! which the caller says.
 
 ghost use Rattle.std.specs.Prelude.{◌≡◌, ◌<◌, ◌++◌, ◌∷◌, [], ℕ, List, length, Some, slice_get, true, IfOk, IfSome, OnOk};
 ghost use Rattle.std.specs.List.{AllZip};
@@ -27,25 +29,29 @@ use std::alloc::{AllocError, Global};
 /// Room for so many parts is made at once.
 const FEW_PARTS: usize = 32;
 
-/// Where a part stands: in this frame, within the part that has that place in the list.
+/// What encloses a part directly.
 #[derive(Clone, Copy)]
 pub struct Inside {
     frame: Frame,
+    /// The place in the list of the enclosing part.
     outer: usize,
 }
 
-/// A part of a term that can move. The term itself stands inside nothing.
+/// A part of a term that can move.
 #[derive(Clone, Copy)]
 pub struct Part {
     spot: Spot,
+    /// None for the term itself.
     inside: Option<Inside>,
 }
 
-/// The parts of a term that can move, each behind the one that it is a part of; those before `next` have been looked at.
+/// The parts of a term that can move, as far as they are listed yet: each behind the one that it is a part of.
 #[derive(Drop)]
 pub struct Parts {
+    /// The number of the term.
     root: usize,
     list: Vec<Part>,
+    /// The parts before this place have been looked at, and their own parts are listed.
     next: usize,
 }
 
@@ -58,6 +64,7 @@ fn part_at(list: &Vec<Part>, at: usize) -> Option<Part>
     }
 }
 
+// Whether a value that is published here is taken, by a `>x>` or a cell.
 fn takes_values(frame: Frame) -> bool
     ensures { result ≡ takes_values frame }
 {
@@ -67,6 +74,7 @@ fn takes_values(frame: Frame) -> bool
     }
 }
 
+// Whether what encloses a part stays as it is when this happens in the part: all but a publication.
 fn is_passed(happening: &Happening) -> bool
     ensures { result ≡ is_passed (happening_of happening.now) }
 {
@@ -95,6 +103,7 @@ impl Parts {
         })
     }
 
+    // Lists a part of the part at the place `outer`. The error is refused memory.
     fn add(&mut self, outer: usize, frame: Frame, at: usize, depth: u64) -> Result<(), AllocError>
         ensures added { OnOk result (self.new.list.items ≡ self.old.list.items ++ record { spot = record { at = at; depth = depth }; inside = Some (record { frame = frame; outer = outer }) } ∷ []) }
         ensures root { self.new.root ≡ self.old.root }
@@ -106,7 +115,8 @@ impl Parts {
         Ok(())
     }
 
-    // Adds the parts of two joined terms, which stand so deep.
+    // Lists those parts of two joined terms that can move, as `Walk::plan_parts` plans them. The joined term is at the place `outer`, and `depth` is
+    // its own. The error is refused memory, or a depth past 2^64.
     fn add_parts(
         &mut self,
         outer: usize,
@@ -136,7 +146,7 @@ impl Parts {
         }
     }
 
-    // The next part counts as looked at, and its parts stand behind the others. The error is refused memory.
+    // Counts the next part, which is `part`, as looked at, and lists its parts behind the others. The error is refused memory.
     fn enter(&mut self, terms: &Terms, part: Part) -> Result<(), AllocError>
         requires parts { AreParts (smalls terms.now) self.old.root self.old.list.items }
         requires next { slice_get self.old.list.items self.old.next ≡ Some part }
@@ -155,7 +165,7 @@ impl Parts {
         Ok(())
     }
 
-    // What the term does by a step of a part that is passed on through all that stands around it. The error is refused memory.
+    // The step of the whole term by a step of a part that isn't a publication, so that all that encloses the part stays. The error is refused memory.
     fn lift(
         &self,
         terms: &mut Terms,
@@ -170,6 +180,7 @@ impl Parts {
         ensures lifts { IfOk result (λ s. Lifts (smalls terms.old) (smalls terms.new) part.spot (record { at = self.now.root; depth = 0 }) step s) }
         ensures kept { Extends (smalls terms.old) (smalls terms.new) }
     {
+        // One frame further out each turn, up to the term itself; the bound shows that the loop ends.
         let mut part = part;
         let mut step = step;
         for _frame in 0..u64::MAX {
@@ -185,7 +196,8 @@ impl Parts {
         Err(AllocError)
     }
 
-    // The early step that the term has by what a part does by itself, if it is one. The error is refused memory.
+    // The early step that the whole term takes by this step of a part, if it is one: any but a publication, or a publication that a `>x>` or a cell
+    // takes at once. The error is refused memory.
     fn early_by(
         &self,
         terms: &mut Terms,
@@ -213,12 +225,13 @@ impl Parts {
         let Some(outer) = part_at(&self.list, inside.outer) else {
             return Err(AllocError);
         };
+        // Once it is taken, nobody sees it from outside, so the rest of the way is passed.
         let taken = lifted(terms, alloc, inside.frame, step)?;
         let lifted = self.lift(terms, alloc, outer, taken)?;
         Ok(Some(lifted))
     }
 
-    // The same, where a part may do nothing by itself.
+    // The early step by what a part does, as `early_by` has it; None if the part does nothing by itself.
     fn early_of(
         &self,
         terms: &mut Terms,
@@ -239,8 +252,9 @@ impl Parts {
         }
     }
 
-    /// The next step of the term that may go first, if there is one more: it is early if its happening is hidden. The error is refused memory, or one
-    /// of those that `successors` has. The terms that were there stay, in both cases.
+    /// The next step of the term that may go first, if there is one more. It is early if its happening is hidden: nobody sees it, and the calls to
+    /// come are answered after it as before. The error is refused memory, or one of those that `successors` has. The terms that were there stay, in
+    /// both cases.
     pub fn next_early(
         &mut self,
         terms: &mut Terms,
@@ -256,6 +270,7 @@ impl Parts {
         ensures root { self.new.root ≡ self.old.root }
         ensures kept { Extends (smalls terms.old) (smalls terms.new) }
     {
+        // A part is listed for each place in the term, so the loop ends long before its bound.
         for _part in 0..u64::MAX {
             let Some(part) = part_at(&self.list, self.next) else {
                 return Ok(None);

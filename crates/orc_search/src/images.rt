@@ -1,4 +1,4 @@
-//! What terms become by changes, found by their numbers.
+//! Images: what terms became by changes. They are kept so that a part which occurs often in a term is changed once.
 
 ghost use Rattle.std.specs.Prelude.{◌≡◌, ◌⊎◌, ◌++◌, ◌∷◌, [], slice_get, IfSome};
 ghost use Rattle.orc_search.specs.Changes.{IsIn};
@@ -9,7 +9,7 @@ use crate::places::Places;
 use std::alloc::{AllocError, Global};
 use std::marker::Model;
 
-/// So many are kept. Those of more begin anew, so that little is kept beside the terms.
+/// With so many or more `make_room` drops them all, so that little is kept beside the terms.
 const MOST: usize = 65_536;
 
 /// A change, and a term with what it becomes by it, by their numbers.
@@ -48,7 +48,8 @@ impl Model for Images {
     ghost view = { λ i. i.list.items };
 }
 
-// Two terms have different ones, by one change: so none of them takes another one's place while a change is worked out.
+// The hash of a term's image by a change. By one change two terms have different ones: so, while a change is worked out, no image takes another's
+// place and is then missing.
 fn hash_of(change: Change, from: usize) -> u64 {
     mix(mix_change(change), from as u64)
 }
@@ -78,14 +79,14 @@ impl Images {
         self.places.get(hash_of(change, from))
     }
 
-    // The image of this term by this change stands there. The error is refused memory.
+    // Notes that the image of this term by this change is at that place. The error is refused memory.
     fn remember(&mut self, change: Change, from: usize, place: usize) -> Result<(), AllocError>
         ensures { self.new ≡ self.old }
     {
         self.places.insert(hash_of(change, from), place)
     }
 
-    /// The number of what a term becomes by a change, if it is there.
+    /// The number of what the term `from` becomes by a change; None if that isn't kept.
     pub fn of(&self, change: Change, from: usize) -> Option<usize>
         ensures { IfSome result (λ to. IsIn self.now change from to) }
     {
@@ -98,7 +99,7 @@ impl Images {
         }
     }
 
-    /// None are there any more, where there are as many as are kept.
+    /// Drops all images if there are as many as are kept at most.
     pub fn make_room(&mut self)
         ensures { (self.new ≡ self.old) ⊎ (self.new ≡ []) }
     {
@@ -108,7 +109,7 @@ impl Images {
         }
     }
 
-    /// Adds an image behind the others. The error is refused memory.
+    /// Adds an image behind the others. The error is refused memory; it may have been added then, too.
     pub fn push(&mut self, image: Image) -> Result<(), AllocError>
         ensures { (self.new ≡ self.old) ⊎ (self.new ≡ self.old ++ image ∷ []) }
     {

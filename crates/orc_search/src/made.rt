@@ -1,4 +1,5 @@
-//! Calls that were made, as far as later ones are answered otherwise for them.
+//! How often calls were made. A script may answer the n-th call of a site with the same arguments otherwise than the one before, so a search counts
+//! them.
 
 ghost use Rattle.std.specs.Prelude.{◌≡◌};
 ghost use Rattle.orc_search.specs.Asked.{times_of};
@@ -6,7 +7,7 @@ ghost use Rattle.orc_search.specs.Asked.{times_of};
 use orc_rules::builtin::are_same;
 use orc_rules::value::Value;
 
-/// So many calls of a site with these arguments were made.
+/// How often a site, by its number in the table, was called with these arguments.
 #[derive(Drop)]
 pub struct Made {
     pub site: u32,
@@ -14,7 +15,7 @@ pub struct Made {
     pub times: u64,
 }
 
-/// How many calls of a site with these arguments were made: what the first entry of them says, and 0 where there is none.
+/// How many calls of a site with these arguments were made: the count of the first entry for them, and 0 if there is none.
 pub fn times_of(made: &[Made], site: u32, args: &[Value]) -> u64
     ensures { result ≡ times_of made.now site args.now }
 {

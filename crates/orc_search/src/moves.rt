@@ -1,4 +1,4 @@
-//! All that a numbered term may do.
+//! All that a numbered term may do. A part does something *by itself* (`own_step`), and `lifted_out` says what the whole does by that.
 
 ghost use Rattle.std.specs.Prelude.{◌≡◌, ◌<◌, ◌≤◌, ◌++◌, List, ℕ, length, map, reverse, Some, None, slice_get, IfOk, OnOk, IfSome, IfNone};
 ghost use Rattle.std.specs.List.{AllZip};
@@ -34,29 +34,35 @@ use orc_rules::program::{Definition, Program};
 use orc_rules::value::{Answer, Args, Found, Value};
 use std::alloc::{AllocError, Global};
 
-/// A program with its sites, and the numbers of its nodes' terms, as `numbered` gives them.
+/// A program, and what is needed to run it on numbered terms.
 #[derive(Drop)]
 pub struct Source<'a> {
     pub program: &'a Program,
+    /// What its sites answer.
     pub answers: &'a Answers,
+    /// The numbers of its nodes' small terms, one for each node, as `numbered` gives them.
     pub numbers: Vec<usize>,
 }
 
-// What happens, and the term without parts that is there after it.
+// A step of a term without parts to another one: what is seen of it, and the term after it.
 #[derive(Drop)]
 struct Becoming {
     happening: Happening,
     tip: Tip,
 }
 
-// What a term does by itself: what it becomes, if anything, or a definition is entered, or it has parts, which are joined.
+// What a term does by itself and not by a part of it. The first of these needs no new terms; the others are worked out once the terms may grow.
 #[derive(Drop)]
 enum Own {
+    // A term without parts, and its step, if it has one.
     Becomes(Option<Becoming>),
+    // A call of a definition.
     Enters(u32, Vec<Param>),
+    // Two terms that are joined, which may turn into something else.
     Joins(Joint, usize, usize),
 }
 
+// A step that nobody sees to `stop`, if it happens.
 fn silently(happens: bool) -> Option<Becoming>
     ensures { becoming_of result ≡ silently happens nothing }
 {
@@ -70,6 +76,7 @@ fn silently(happens: bool) -> Option<Becoming>
     }
 }
 
+// The step of a parameter: a value is published, void ends, and a name or a cell without a value waits.
 fn given(param: Param) -> Option<Becoming>
     ensures { becoming_of result ≡ given param }
 {
@@ -94,7 +101,7 @@ fn has_void(params: &[Param]) -> bool
     false
 }
 
-// The values, where all parameters are values.
+// The values of parameters; None if one isn't a value.
 fn values_of(params: &[Param]) -> Option<Args>
     requires { length params.now ≤ MOST_ARGUMENTS }
     ensures { result ≡ values_of params.now }
@@ -109,7 +116,7 @@ fn values_of(params: &[Param]) -> Option<Args>
     Some(args)
 }
 
-// What the next call of a site with these arguments is answered. The error is that more were made than can be counted.
+// What the next call of a site with these arguments is answered, by the table, where `made` were made before. The error is that 2^64 - 1 were.
 fn answer(source: &Source, made: &[Made], site: u32, args: &Args) -> Result<Found, AllocError>
     ensures { IfOk result (λ found. found ≡ coming_of_made source.now.answers.now.sites made.now site args.now 0) }
 {
@@ -119,7 +126,7 @@ fn answer(source: &Source, made: &[Made], site: u32, args: &Args) -> Result<Foun
     Ok(source.answers.find(site, args, nth))
 }
 
-// A call of a site, with what comes of it. The error is refused memory.
+// The step by which a call of a site is made, where `rest` is what comes of it. The error is refused memory.
 fn call(alloc: Global, site: u32, args: &[Value], rest: Found) -> Result<Becoming, AllocError>
     ensures { IfOk result (λ b. becoming_of (Some b) ≡ asked (λ _ _. record { site = site; args = args.now; rest = rest }) site (Some args.now)) }
 {
@@ -135,7 +142,8 @@ fn call(alloc: Global, site: u32, args: &[Value], rest: Found) -> Result<Becomin
     })
 }
 
-// What comes of a call of a site. The error is refused memory, or that it has more than `MOST_ARGUMENTS` parameters.
+// The step of a call of a site that isn't made yet: it is made if all parameters are values, ends silently if one is void, and waits otherwise. The
+// error is refused memory, or that it has more than `MOST_ARGUMENTS` parameters.
 fn asked(
     alloc: Global,
     source: &Source,
@@ -156,6 +164,7 @@ fn asked(
     Ok(Some(becoming))
 }
 
+// What an answered call becomes.
 fn left_by(answer: Answer) -> Tip
     ensures { tip_of result ≡ left_by answer }
 {
@@ -165,7 +174,7 @@ fn left_by(answer: Answer) -> Tip
     }
 }
 
-// A call that is out returns, if it has no time left. The error is refused memory.
+// The step by which a pending call returns; None if it has time left, or is never answered. The error is refused memory.
 fn returned(alloc: Global, waiting: &Waiting) -> Result<Option<Becoming>, AllocError>
     ensures { IfOk result (λ o. becoming_of o ≡ returned (out_of waiting.now) waiting.now.rest) }
 {
@@ -179,7 +188,8 @@ fn returned(alloc: Global, waiting: &Waiting) -> Result<Option<Becoming>, AllocE
     }))
 }
 
-// What the term of that number does by itself. The error is refused memory, or a call with more than `MOST_ARGUMENTS` parameters.
+// What the term of that number does by itself. The error is refused memory, a call with more than `MOST_ARGUMENTS` parameters, or that there is no
+// such term.
 fn own_of(
     terms: &Terms,
     alloc: Global,
@@ -209,6 +219,7 @@ fn own_of(
     }
 }
 
+// The definition of that number; None if there is none.
 fn definition(program: &Program, number: u32) -> Option<&Definition>
     ensures there { IfSome result (λ d. slice_get (small_definitions program.now) number ≡ Some (small_definition (definition_of program.now (routine_of d.now)))) }
     ensures none { IfNone result (slice_get (small_definitions program.now) number ≡ None) }
@@ -225,6 +236,7 @@ fn number_of_node(terms: &mut Terms, source: &Source, node: usize) -> Result<usi
     ensures number { IfOk result (λ n. slice_get (smalls terms.new) n ≡ Some (small (code source.now.program.now node))) }
     ensures kept { Extends (smalls terms.old) (smalls terms.new) }
 {
+    // A fact for the prover, of which nothing runs: a node that isn't there has the term `stop`.
     source.program.are_unfolded();
     match source.numbers.get(node) {
         Some(number) => Ok(*number),
@@ -232,7 +244,8 @@ fn number_of_node(terms: &mut Terms, source: &Source, node: usize) -> Result<usi
     }
 }
 
-// The parameters put for the names, one after another, in a term that is there: the number of what it becomes. The error is refused memory.
+// The number of what a term becomes if the parameters are put for the names, one after another, as far as there are both. The error is refused
+// memory.
 fn filled(
     terms: &mut Terms,
     alloc: Global,
@@ -254,7 +267,8 @@ fn filled(
     Ok(filled)
 }
 
-// A definition's body with these parameters. The error is refused memory.
+// The step of a call of the definition of this number: its body, with these parameters for its names; None if there is no such definition. The error
+// is refused memory.
 fn entered(
     terms: &mut Terms,
     alloc: Global,
@@ -277,7 +291,8 @@ fn entered(
     }))
 }
 
-// A pruning opens: its left side has the cell of that number for the name.
+// The number of what `f <x< g` becomes when it opens: in f the new cell takes the place of x. Its number is the depth of the pruning. The error is
+// refused memory.
 fn opened(
     terms: &mut Terms,
     alloc: Global,
@@ -296,7 +311,8 @@ fn opened(
     Ok(to)
 }
 
-// What two joined terms become by themselves. The error is refused memory.
+// The number of what two joined terms become by themselves; None if they do nothing but by a part. All such steps are silent: a pruning opens, an
+// otherwise goes to its right side, or a cell is lost. The error is refused memory.
 fn turned(
     terms: &mut Terms,
     alloc: Global,
@@ -335,7 +351,8 @@ fn turned(
     }
 }
 
-/// What a part does by itself. The error is refused memory, or a call with more than `MOST_ARGUMENTS` parameters.
+/// The step of a part by itself: what is seen of it, and the number of the part after it; None if it has none. The error is refused memory, or a call
+/// with more than `MOST_ARGUMENTS` parameters. The terms that were there stay, in both cases.
 pub(crate) fn own_step(
     terms: &mut Terms,
     alloc: Global,
@@ -368,7 +385,7 @@ pub(crate) fn own_step(
     }
 }
 
-// The parts of a part are to be entered next. The error is refused memory.
+// Plans that the parts of this part are entered next. The error is refused memory, or prunings opened in one another 2^64 deep.
 fn plan(terms: &Terms, walk: &mut Walk, spot: Spot) -> Result<(), AllocError>
     ensures { OnOk result (IsPlanned (smalls terms.now) spot walk.old walk.new) }
 {
@@ -379,8 +396,7 @@ fn plan(terms: &Terms, walk: &mut Walk, spot: Spot) -> Result<(), AllocError>
     }
 }
 
-// What a part does by itself, and its parts are to be entered next. The error is refused memory, or a call with more than `MOST_ARGUMENTS`
-// parameters.
+// The step of a part by itself, as `own_step` has it, once its own parts are planned to be entered next. The errors are those of both.
 fn step(
     terms: &mut Terms,
     alloc: Global,
@@ -399,6 +415,7 @@ fn step(
     own_step(terms, alloc, source, made, spot)
 }
 
+// The silent step to the term of this number, if there is one.
 fn silent(turned: Option<usize>) -> Option<Successor>
     ensures { list_of result ≡ silent_of turned }
 {
@@ -411,7 +428,7 @@ fn silent(turned: Option<usize>) -> Option<Successor>
     }
 }
 
-// The move of a part, if there is one, as a move of the whole. The error is refused memory.
+// The step of a part, if it has one, as a step of the whole, which `path` encloses it in. The error is refused memory.
 fn whole_of(
     terms: &mut Terms,
     alloc: Global,
@@ -432,7 +449,7 @@ fn whole_of(
     }
 }
 
-// Adds a successor, if there is one. Where memory is refused nothing changes.
+// Pushes a successor, if there is one. Where memory is refused nothing changes.
 fn add(found: &mut Vec<Successor>, successor: Option<Successor>) -> Result<(), AllocError>
     ensures { OnOk result (found.new.items ≡ found.old.items ++ list_of successor) }
 {
@@ -442,9 +459,9 @@ fn add(found: &mut Vec<Successor>, successor: Option<Successor>) -> Result<(), A
     Ok(())
 }
 
-/// All that a term that is there may do, as the list `moves` of the definitions has it, after calls that were made. The error is refused memory,
-/// or that a count is past its type: a call with more than `MOST_ARGUMENTS` parameters, 2^64 calls, or prunings opened in one another. The terms
-/// that were there stay, in both cases.
+/// All that the term of the number `root` may do, in the order of the list `moves` of the definitions, where the calls `made` were made before: what
+/// is seen of each step, and the number of the term after it. The error is refused memory, or that a count is past its type: a call with more than
+/// `MOST_ARGUMENTS` parameters, 2^64 calls, or prunings opened in one another. The terms that were there stay, in both cases.
 pub fn successors(
     terms: &mut Terms,
     alloc: Global,
@@ -460,6 +477,7 @@ pub fn successors(
     let mut walk = Walk::new(alloc);
     let mut found = Vec::new(alloc);
     let mut spot = Spot { at: root, depth: 0 };
+    // The loop ends with the walk: no term has as many parts as it has turns, and the bound shows that it ends.
     for _step in 0..u64::MAX {
         let own = step(terms, alloc, source, made, &mut walk, spot)?;
         let whole = whole_of(terms, alloc, &walk.path, own)?;

@@ -1,4 +1,5 @@
-//! The nodes of small terms.
+//! The nodes of small terms: what a small term is at its root, and the numbers of its parts among the terms. Here too are the hashes by which nodes
+//! are found.
 
 ghost use Rattle.std.specs.Prelude.{◌≡◌, ◌&&◌, List, true};
 ghost use Rattle.orc_search.specs.Nodes.{small_of_node, tip_of, out_of};
@@ -8,7 +9,7 @@ use orc_rules::builtin::{are_same, is_same};
 use orc_rules::param::Param;
 use orc_rules::value::{Answer, Found, Value};
 
-/// A call that is out: its site and arguments, and what comes of it, an answer after the time left or never one.
+/// A pending call: its site by its number in the table, its arguments, and what comes of it: an answer after the time that is left, or never one.
 #[derive(Drop)]
 pub struct Waiting {
     pub site: u32,
@@ -16,40 +17,54 @@ pub struct Waiting {
     pub rest: Found,
 }
 
-/// A term without parts: nothing, a parameter, a call of a site or of a definition, with its number, or a call that is out.
+/// A term without parts.
 #[derive(Drop)]
 pub enum Tip {
+    /// `stop`.
     Nothing,
+    /// A parameter: a value is published.
     Gives(Param),
+    /// A call of the site of this number that isn't made yet.
     Asks(u32, Vec<Param>),
+    /// A call of the definition of this number.
     Enters(u32, Vec<Param>),
+    /// A call of a site that is pending.
     Awaits(Waiting),
 }
 
-/// How two terms are joined: `f | g`, `f >x> g`, `f <x< g`, `f ; g`, or an opened pruning, whose cell is told by where it stands.
+/// How two terms f and g are joined. A variable is its number.
 #[derive(Clone, Copy, PartialEq, Eq)]
 pub enum Joint {
+    /// `f | g`
     Both,
+    /// `f >x> g`
     Feeds(u32),
+    /// `f <x< g`, which isn't opened yet.
     Prunes(u32),
+    /// `f ; g`
     Instead,
+    /// `f <c< g`, an opened pruning. Its cell c has no number of its own: it is how many left sides of opened prunings stand around this one.
     Needs,
 }
 
-/// A node, which names its parts by their numbers.
+/// A node: a term without parts, or two terms that are joined, the left and the right one, by their numbers.
 #[derive(Drop)]
 pub enum Node {
     Tip(Tip),
     Pair(Joint, usize, usize),
 }
 
-/// Whether a term is over, and the least time that a call has left which is out in it.
+/// What is asked of a term again and again.
 #[derive(Clone, Copy)]
 pub struct Summary {
+    /// Whether it has halted.
     pub over: bool,
+    /// The least time, in logical units, that a call has left which is pending in it; None if no call is pending that will be answered.
     pub left: Option<u64>,
 }
 
+// Whether both lists are equal, as all `is_same_..` and `are_same_..` here. Only their true is promised: an equal node that isn't found only costs a
+// copy.
 fn are_same_params(a: &[Param], b: &[Param]) -> bool
     ensures { result ≡ true → a.now ≡ b.now }
 {
@@ -95,7 +110,7 @@ fn is_same_tip(a: &Tip, b: &Tip) -> bool
     }
 }
 
-/// Whether two nodes are the same, so that they have the same term wherever they stand.
+/// Whether two nodes are equal. If so, they have the same term among any terms.
 pub fn is_same_node(a: &Node, b: &Node) -> bool
     ensures { result ≡ true → (terms : List Small) → small_of_node terms a.now ≡ small_of_node terms b.now }
 {
@@ -106,15 +121,18 @@ pub fn is_same_node(a: &Node, b: &Node) -> bool
     }
 }
 
-/// A number that differs for most texts of numbers: the words are mixed in one after another. Nothing is promised of it.
+/// A hash with a word mixed in: words that are mixed in one after another give a number that differs for most lists of words. Nothing is promised of
+/// it.
 pub fn mix(seed: u64, word: u64) -> u64 {
+    // The odd constant is 2^64 over the golden ratio, which spreads its factor over all bits.
     (seed ^ word)
         .wrapping_add(0x9E37_79B9_7F4A_7C15)
         .wrapping_mul(0x9E37_79B9_7F4A_7C15)
         .rotate_left(29)
 }
 
-/// The same with a value mixed in.
+/// A hash with a value mixed in. Nothing is promised of it, but that equal values give equal hashes. Here and below each kind of thing mixes in a
+/// small number of its own, so that a name and a cell of the same number differ.
 pub fn mix_value(seed: u64, value: Value) -> u64 {
     match value {
         Value::Number(n) => { mix(mix(seed, if n < 0 { 1 } else { 0 }), n.unsigned_abs()) }
@@ -123,7 +141,7 @@ pub fn mix_value(seed: u64, value: Value) -> u64 {
     }
 }
 
-/// The same with a parameter mixed in.
+/// A hash with a parameter mixed in, of which as little is promised.
 pub fn mix_param(seed: u64, param: Param) -> u64 {
     match param {
         Param::Name(x) => mix(mix(seed, 5), x as u64),
@@ -167,7 +185,7 @@ fn mix_joint(joint: Joint) -> u64 {
     }
 }
 
-/// A number by which a node is looked for. Equal nodes have the same one.
+/// The hash by which a node is looked for. Equal nodes have the same one, but no contract says so.
 pub fn hash_of(node: &Node) -> u64 {
     match node {
         Node::Tip(Tip::Nothing) => 15,

@@ -1,9 +1,9 @@
-//! Numbers by hashes.
+//! A hash table from hashes to numbers. It has no contract: a caller compares what it finds, so a wrong number would cost time and nothing else.
 
 use std::alloc::{AllocError, Global};
 use std::mem::replace;
 
-/// The number of a slot that is free.
+/// In place of its number in a slot that is free.
 const FREE: u32 = u32::MAX;
 
 /// How many slots there are at first.
@@ -17,11 +17,11 @@ struct Slot {
     at: u32,
 }
 
-/// For each hash the number that was kept for it last, in slots of which a part stays free. Nothing is promised of what is found, so whoever asks compares
-/// what has that number.
+/// For each hash the number that was kept for it last. Open addressing: a hash is looked for from the slot of its low bits on, up to a free one.
 pub struct Places {
-    // As many as a power of two.
+    // None at first, and then as many as a power of two.
     slots: Vec<Slot>,
+    // How many slots aren't free.
     used: usize,
     alloc: Global,
 }
@@ -38,6 +38,7 @@ impl Drop for Places {
 }
 
 impl Slot {
+    // The slot of this hash, with this number.
     fn new(hash: u64, at: u32) -> Slot {
         Slot {
             high: (hash >> 32) as u32,
@@ -50,6 +51,7 @@ impl Slot {
         self.at == FREE
     }
 
+    // Whether both have the same hash.
     fn is_of(self, other: Slot) -> bool {
         self.low == other.low && self.high == other.high
     }
@@ -65,9 +67,10 @@ impl Places {
         }
     }
 
-    /// The number that was kept for this hash last, if it is found.
+    /// The number that was kept for this hash last; None if there is none.
     pub fn get(&self, hash: u64) -> Option<usize> {
         let wanted = Slot::new(hash, FREE);
+        // Without slots the loop has no turn, whatever the mask is.
         let mask = self.slots.len().wrapping_sub(1);
         let mut place = wanted.low as usize & mask;
         for _slot in 0..self.slots.len() {
@@ -84,7 +87,7 @@ impl Places {
         None
     }
 
-    // Puts it into the first slot that is free or has the same hash.
+    // Puts it into the first slot, from that of its low bits on, that is free or has the same hash.
     fn put(&mut self, new: Slot) {
         let mask = self.slots.len().wrapping_sub(1);
         let mut place = new.low as usize & mask;
@@ -105,7 +108,7 @@ impl Places {
         }
     }
 
-    // Twice as many slots. The error is refused memory, and then they stay.
+    // Makes twice as many slots, or the first `FEWEST`, and puts all numbers into them. The error is refused memory, and then nothing changes.
     fn grow(&mut self) -> Result<(), AllocError> {
         let free = Slot::new(0, FREE);
         let many = self.slots.len().saturating_mul(2).max(FEWEST);
@@ -119,12 +122,13 @@ impl Places {
         Ok(())
     }
 
-    /// Keeps this number for this hash, unless there are already 2^32 - 1 numbers. The error is refused memory.
+    /// Keeps this number for this hash, in place of another one that it had. A number of 2^32 - 1 or more isn't kept: it has no slot of four bytes.
+    /// The error is refused memory, and then nothing changes.
     pub fn insert(&mut self, hash: u64, at: usize) -> Result<(), AllocError> {
         if at >= FREE as usize {
             return Ok(());
         }
-        // A quarter of the slots stays free.
+        // A quarter of the slots stays free, so that a search for a hash that isn't there is short. Without slots both sides are 0.
         if self.used >= self.slots.len() / 4 * 3 {
             self.grow()?;
         }

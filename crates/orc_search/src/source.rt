@@ -1,4 +1,4 @@
-//! A program's terms as small ones, by their numbers.
+//! The terms of a program's text as small ones. Its nodes are in an order in which parts come before what they are parts of.
 
 ghost use Rattle.std.specs.Prelude.{◌≡◌, length, map, slice_get, IfOk};
 ghost use Rattle.orc_rules.specs.Nodes.{param_of};
@@ -30,6 +30,7 @@ fn params_of(alloc: Global, operands: &[Operand]) -> Result<Vec<Param>, AllocErr
     Ok(params)
 }
 
+// The number of the small term of a program's node; None if it isn't known.
 fn number_at(numbers: &[usize], i: usize) -> Option<usize>
     ensures { result ≡ slice_get numbers.now i }
 {
@@ -39,7 +40,7 @@ fn number_at(numbers: &[usize], i: usize) -> Option<usize>
     }
 }
 
-// The node of two parts of a program, whose numbers are known. The error is that one isn't.
+// The node that joins the terms of two nodes of a program. The error, which no program comes to, is that the number of one isn't known yet.
 fn pair_of(numbers: &[usize], joint: Joint, f: usize, g: usize) -> Result<Node, AllocError>
     ensures { IfOk result (λ n. IsPairOf numbers.now joint f g n) }
 {
@@ -52,7 +53,7 @@ fn pair_of(numbers: &[usize], joint: Joint, f: usize, g: usize) -> Result<Node, 
     Ok(Node::Pair(joint, left, right))
 }
 
-// What a program's node is, where the numbers of its parts are known. The error is refused memory.
+// The node of the small term of a program's node, from the numbers of those before it. The error is refused memory.
 fn node_of(
     alloc: Global,
     program: &Program,
@@ -91,8 +92,8 @@ fn node_of(
     }
 }
 
-/// The numbers of the small terms of a program's nodes, in the order of the nodes. The error is refused memory. The terms that were there stay, in
-/// both cases.
+/// The numbers of the small terms of a program's nodes, one for each node in their order. The error is refused memory. The terms that were there
+/// stay, in both cases.
 pub fn numbered(
     terms: &mut Terms,
     alloc: Global,

@@ -13,12 +13,16 @@ use orc_rules::param::Param;
 use orc_rules::value::{Answer, Value};
 use std::alloc::{AllocError, Global};
 
-/// What a claim can see: a call of a site with its arguments, an answer to one, a publication, or nothing.
+/// What a claim can see of a step. A site is its number in the table.
 #[derive(Drop)]
 pub enum Happening {
+    /// A site is called with these arguments.
     Called(u32, Vec<Value>),
+    /// A call of a site with these arguments is answered, or halts.
     Answered(u32, Vec<Value>, Answer),
+    /// The term publishes a value.
     Published(Value),
+    /// Nothing.
     Unseen,
 }
 
@@ -29,24 +33,34 @@ pub struct Successor {
     pub to: usize,
 }
 
-/// Where a part stands, with the other part's number: in `f | g`, in `f >x> g` on the left, in an opened pruning, whose cell has this number, or in
-/// `f ; g` on the left.
+/// What encloses a part directly, and the number of the other part there. There is none for parts that can't move: the right sides of `>x>` and `;`,
+/// and those of a pruning that isn't opened.
 #[derive(Clone, Copy)]
 pub enum Frame {
+    /// The part is f in `f | g`, of this g.
     Left(usize),
+    /// The part is g in `f | g`, of this f.
     Right(usize),
+    /// The part is f in `f >x> g`, of this x and g.
     Feeds(u32, usize),
+    /// The part is f in the opened pruning `f <c< g`, of this g.
     Main(usize),
+    /// The part is g in the opened pruning `f <c< g`, of this cell c and f.
     Side(u64, usize),
+    /// The part is f in `f ; g`, of this g.
     First(usize),
 }
 
-/// How the whole takes what happens in a part: it stays with the new part, or a `>x>` or a cell takes what was published, or `;` passes it on.
+/// What a step of a part does to what encloses it.
 #[derive(Clone, Copy)]
 pub enum Lift {
+    /// It stays, with the new part.
     Stays,
+    /// A `>x>` takes a published value: its x and its right side.
     Fed(u32, usize, Value),
+    /// A cell takes a published value: its number, and the left side of its pruning, which alone is left.
     Bound(u64, usize, Value),
+    /// An otherwise passes a published value on, and its left side alone is left.
     Passed,
 }
 
@@ -68,7 +82,7 @@ pub fn copy_of(alloc: Global, happening: &Happening) -> Result<Happening, AllocE
     }
 }
 
-// The whole, with this part.
+// The enclosing node, with this term as its part.
 fn whole_of(frame: Frame, to: usize) -> Node
     ensures { result ≡ whole_of frame to }
 {
@@ -82,6 +96,7 @@ fn whole_of(frame: Frame, to: usize) -> Node
     }
 }
 
+// What this happening of a part does to what encloses it.
 fn lift_of(frame: Frame, happening: &Happening) -> Lift
     ensures { result ≡ lift_of frame (happening_of happening.now) }
 {
@@ -93,7 +108,8 @@ fn lift_of(frame: Frame, happening: &Happening) -> Lift
     }
 }
 
-// A `>x>` takes a value that its left side published: the right side with it stands beside the rest.
+// A `>x>` takes a value that its left side published: a copy of its right side with the value runs beside the rest. f is what the left side has
+// become. The error is refused memory.
 fn fed(
     terms: &mut Terms,
     alloc: Global,
@@ -113,7 +129,8 @@ fn fed(
     Ok(to)
 }
 
-/// What the whole becomes by a move of a part. The error is refused memory. The terms that were there stay, in both cases.
+/// What the enclosing term does when a part of it does `successor`: what is seen of it from there, and the number of the term after it. The error is
+/// refused memory. The terms that were there stay, in both cases.
 pub fn lifted(
     terms: &mut Terms,
     alloc: Global,

@@ -1,4 +1,4 @@
-//! Small terms by their numbers.
+//! The small terms of a search, each as a numbered node whose parts are earlier nodes. Terms share their parts, and none is ever removed.
 
 ghost use Rattle.std.specs.Prelude.{◌≡◌, ◌<◌, ◌≤◌, ◌++◌, ◌∷◌, [], List, length, Some, true, false, slice_get, IfOk, OnOk, OnErr, IfSome, IfNone, slice_index_or};
 ghost use Rattle.orc_search.specs.Changes.{IsImage, IsPart};
@@ -14,9 +14,10 @@ use orc_rules::value::Found;
 use std::alloc::{AllocError, Global};
 use std::marker::Model;
 
-/// Small terms by their numbers. A node that is asked for again has the same number again, unless one with an equal hash came between.
+/// Small terms by their numbers, from 0. A node that is asked for again has the same number again, unless one with an equal hash came between.
 pub struct Terms {
     nodes: Vec<Node>,
+    // One for each node.
     summaries: Vec<Summary>,
     // Where the node last made with a hash stands. Nothing is promised of it: what is found there is compared.
     places: Places,
@@ -61,6 +62,7 @@ fn node_at(nodes: &Vec<Node>, at: usize) -> Option<&Node>
     }
 }
 
+// The summary at that place; that of nothing, which has halted, if there is none.
 fn summary_in(summaries: &Vec<Summary>, at: usize) -> Summary
     ensures { result ≡ slice_index_or summaries.now.items at (summary_of nothing) }
 {
@@ -73,7 +75,7 @@ fn summary_in(summaries: &Vec<Summary>, at: usize) -> Summary
     }
 }
 
-// What is known of a term without parts.
+// The summary of a term without parts. A value or a call that isn't made yet hasn't halted, and has no pending call.
 fn tip_summary(tip: &Tip) -> Summary
     ensures { result ≡ summary_of (tip_of tip.now) }
 {
@@ -93,6 +95,7 @@ fn tip_summary(tip: &Tip) -> Summary
     }
 }
 
+// The time that a pending call has left; None if it is never answered.
 fn time_left(rest: Found) -> Option<u64>
     ensures { result ≡ time_left rest }
 {
@@ -102,6 +105,7 @@ fn time_left(rest: Found) -> Option<u64>
     }
 }
 
+// The lesser of two times, where there are any.
 fn sooner(a: Option<u64>, b: Option<u64>) -> Option<u64>
     ensures { result ≡ sooner a b }
 {
@@ -112,7 +116,7 @@ fn sooner(a: Option<u64>, b: Option<u64>) -> Option<u64>
     }
 }
 
-// What is known of two terms that are joined.
+// The summary of two terms that are joined, from their own.
 fn joined_summary(joint: Joint, f: Summary, g: Summary) -> Summary
     ensures { JoinsSummaries joint f g result }
 {
@@ -121,11 +125,14 @@ fn joined_summary(joint: Joint, f: Summary, g: Summary) -> Summary
             over: f.over && g.over,
             left: sooner(f.left, g.left),
         },
+        // The right side of a `>x>` hasn't begun.
         Joint::Feeds(_) => f,
+        // Neither has anything of a pruning that isn't opened.
         Joint::Prunes(_) => Summary {
             over: false,
             left: None,
         },
+        // If f has halted, the otherwise hasn't: the step to its right side comes first.
         Joint::Instead => Summary {
             over: false,
             left: f.left,
@@ -154,7 +161,7 @@ impl Terms {
         self.nodes.len()
     }
 
-    /// The node of that number: its parts have lower numbers.
+    /// The node of that number, whose parts have lower numbers; None if there is none.
     pub fn node(&self, at: usize) -> Option<&Node>
         ensures term { IfSome result (λ n. slice_get (smalls self.now) at ≡ Some (small_of_node (smalls self.now) n.now)) }
         ensures parts { IfSome result (λ n. HasParts at n.now) }
@@ -166,14 +173,15 @@ impl Terms {
         }
     }
 
-    /// Whether the term of that number is over, and the least time that a call has left which is out in it; of no term, as of one that is nothing.
+    /// The summary of the term of that number: whether it has halted, and the least time that a call has left which is pending in it. If there is no
+    /// such term, that of `stop`.
     pub fn summary(&self, at: usize) -> Summary
         ensures { result ≡ summary_of (small_at (smalls self.now) at) }
     {
         summary_in(&self.summaries, at)
     }
 
-    // What is known of the term of a node.
+    // The summary of the term that a node is, whose parts are there.
     fn summary_of(&self, node: &Node) -> Summary
         ensures { result ≡ summary_of (small_of_node (smalls self.now) node.now) }
     {
@@ -193,6 +201,7 @@ impl Terms {
         ensures refused { OnErr result (self.new ≡ self.old) }
     {
         let summary = self.summary_of(&node);
+        // Reserved before the node is pushed: where memory is refused neither list has grown.
         self.summaries.try_reserve(1)?;
         let at = self.nodes.len();
         self.nodes.push(node)?;
@@ -201,7 +210,7 @@ impl Terms {
         Ok(at)
     }
 
-    // Whether this node stands at that place.
+    // Whether an equal node is at that place.
     fn stands_at(&self, at: usize, node: &Node) -> bool
         ensures { result ≡ true → slice_get (smalls self.now) at ≡ Some (small_of_node (smalls self.now) node.now) }
     {
@@ -216,7 +225,7 @@ impl Terms {
         self.places.get(hash)
     }
 
-    // A node with this hash stands there. The error is refused memory.
+    // Notes that a node with this hash is at that place. The error is refused memory.
     fn remember(&mut self, hash: u64, at: usize) -> Result<(), AllocError>
         ensures { self.new ≡ self.old }
     {
@@ -241,7 +250,7 @@ impl Terms {
         Ok(at)
     }
 
-    /// The number of what a term becomes by a change, where that is known.
+    /// The number of what the term of that number becomes by a change; None if that isn't kept.
     pub(crate) fn image(&self, change: Change, at: usize) -> Option<usize>
         ensures { IfSome result (λ to. IsPart (smalls self.now) change false at to) }
     {
@@ -251,14 +260,15 @@ impl Terms {
         }
     }
 
-    /// Before a change: what is kept of those before stays only where it isn't much.
+    /// Called once before a change is worked out: if 65,536 images are kept or more, all of them go, which bounds their memory. Never during a
+    /// change, which needs the images of its parts.
     pub(crate) fn begin_change(&mut self)
         ensures { self.new ≡ self.old }
     {
         self.images.make_room();
     }
 
-    /// Keeps what a term becomes by a change. The error is refused memory.
+    /// Keeps what a term becomes by a change, its image. The error is refused memory. The terms stay as they are.
     pub(crate) fn keep(&mut self, image: Image) -> Result<(), AllocError>
         requires { IsImage (smalls self.old) image }
         ensures { self.new ≡ self.old }

@@ -1,4 +1,4 @@
-//! A walk through all parts of a term that can move.
+//! A walk through all parts of a term that can move, each part before its own parts and the left one first, without recursion.
 
 ghost use Rattle.std.specs.Prelude.{◌≡◌, ◌<◌, ◌++◌, ◌∷◌, [], length, reverse, IfOk, OnOk};
 ghost use Rattle.orc_search.specs.declared.node.Node.TheVariants.{Pair};
@@ -12,29 +12,31 @@ use crate::successor::{Frame, Successor, lifted};
 use crate::terms::Terms;
 use std::alloc::{AllocError, Global};
 
-/// A part of a term by its number, and how many left sides of opened prunings stand around it.
+/// A part of a term, at one place of it: the same term may be a part at several.
 #[derive(Clone, Copy)]
 pub(crate) struct Spot {
+    /// Its number among the terms.
     pub(crate) at: usize,
+    /// How many left sides of opened prunings stand around it, which is the number of a cell that is opened here.
     pub(crate) depth: u64,
 }
 
-/// What a walk does next: it enters a part, which stands in this frame, or it leaves the part that it is in.
+/// What a walk does next: it enters a part, which this frame encloses, or it leaves the part that it is in.
 #[derive(Clone, Copy)]
 pub(crate) enum Task {
     Enter(Frame, Spot),
     Leave,
 }
 
-/// Where a walk is: the frames around, the outermost first, and what is still to be done, the next task last.
+/// Where a walk is: the frames that enclose its part, the outermost first, and what is still to be done, the next task last.
 #[derive(Drop)]
 pub(crate) struct Walk {
     pub(crate) path: Vec<Frame>,
     pub(crate) todo: Vec<Task>,
 }
 
-/// What the whole becomes by a move of a part, through all frames around it. The error is refused memory. The terms that were there stay, in both
-/// cases.
+/// What the whole term does when a part of it does `successor`, through all frames of the path, the innermost (last) first. The error is refused
+/// memory. The terms that were there stay, in both cases.
 pub(crate) fn lifted_out(
     terms: &mut Terms,
     alloc: Global,
@@ -65,7 +67,7 @@ impl Walk {
         }
     }
 
-    // A part is to be entered next.
+    // Plans that a part is entered next, before all that is planned. The error is refused memory.
     fn plan(&mut self, frame: Frame, at: usize, depth: u64) -> Result<(), AllocError>
         ensures todo { OnOk result (reverse self.new.todo.items ≡ Enter frame (record { at = at; depth = depth }) ∷ reverse self.old.todo.items) }
         ensures path { self.new.path.items ≡ self.old.path.items }
@@ -74,7 +76,8 @@ impl Walk {
         Ok(())
     }
 
-    /// The parts of two joined terms, which stand so deep, are to be entered next, the left one first. The error is refused memory.
+    /// Plans that those parts of two joined terms that can move are entered next, the left one first. `depth` is that of the joined term. The error
+    /// is refused memory, or a depth past 2^64.
     pub(crate) fn plan_parts(
         &mut self,
         joint: Joint,
@@ -86,6 +89,7 @@ impl Walk {
         ensures path { self.new.path.items ≡ self.old.path.items }
     {
         match joint {
+            // What is planned last is entered first.
             Joint::Both => {
                 self.plan(Frame::Right(f), g, depth)?;
                 self.plan(Frame::Left(g), f, depth)
@@ -94,6 +98,7 @@ impl Walk {
             Joint::Prunes(_) => Ok(()),
             Joint::Instead => self.plan(Frame::First(g), f, depth),
             Joint::Needs => {
+                // Only the left side names the pruning's cell, whose number is `depth`, so only there prunings count one more.
                 let Some(deeper) = depth.checked_add(1) else {
                     return Err(AllocError);
                 };
@@ -103,7 +108,7 @@ impl Walk {
         }
     }
 
-    /// Goes on to the next part, and is in its frame then; None where all parts have been entered. The error is refused memory.
+    /// Goes on to the next part, whose frames are the path then; None once all parts have been entered. The error is refused memory.
     pub(crate) fn next(&mut self) -> Result<Option<Spot>, AllocError>
         ensures { IfOk result (λ o. GoesOn self.old o self.new) }
     {
