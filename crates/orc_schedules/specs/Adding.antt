@@ -43,7 +43,7 @@ end_seen s = (s.end, record { happened = s.happened.items; now = s.now })
 abbrev pub holds_by : Claim → EndSeen → Bool
 holds_by c o = holds c o.1.happened (state_of_end o.0) o.1.now
 
--- each state of u stands in t, or is such a one
+-- each state of the tables u is one of t at the same place, or is such a one
 abbrev pub AddsOnly : List Site → (Reached → Type 0) → Tables → Tables → Type 0
 AddsOnly sites Fits t u = (i : ℕ) (k : Key) → slice_get u.states i ≡ Some k → (slice_get t.states i ≡ Some k) ⊎ Fits (reached_at sites u k)
 

@@ -21,7 +21,7 @@ count_of m = record { site = m.site; args = m.args.items; times = m.times }
 abbrev pub is_kind : Count → Count → Bool
 is_kind c d = nat_eq c.site d.site && values_eq c.args d.args
 
--- the counts with this one at a place, before the one that stands there or in its stead
+-- the counts with this one at a place: in place of the one that is there, or before it
 abbrev pub raised : Count → ℕ → Bool → List Count → List Count
 raised c at again ds = take at ds ++ c ∷ drop (cond again (suc at) at) ds
 

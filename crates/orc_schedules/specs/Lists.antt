@@ -9,7 +9,7 @@ use Rattle.orc_schedules.specs.declared.lists.What.TheVariants.{Published, Call,
 use Rattle.orc_schedules.specs.Seen.{Past, nothing_yet}
 use Rattle.orc_schedules.specs.Watch.{all_at}
 
--- what became of calls by numbers, and of what each list is made but the empty one
+-- what became of calls, by their numbers, and what each list but the empty one is made of
 pub record Linked : Type 0 where
   pub calls : List Occurrence
   pub longer : List Longer
@@ -36,10 +36,11 @@ lists_from calls ls (x ∷ xs) = lists_from calls (ls ++ list_of calls ls x ∷ 
 abbrev pub lists : Linked → List Past
 lists l = lists_from l.calls (nothing_yet ∷ []) l.longer
 
+-- each list is longer than one with a lower number: the place i has the list of the number i + 1
 abbrev pub AreBehind : List Longer → Type 0
 AreBehind xs = (i : ℕ) (x : Longer) → slice_get xs i ≡ Some x → x.before ≤ i
 
--- a call's number is that of one
+-- a list names only what is among the n that became of calls
 abbrev pub IsMade : ℕ → What → Type 0
 IsMade n (Published v) = Unit {0}
 IsMade n (Call k) = k < n

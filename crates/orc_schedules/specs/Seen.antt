@@ -20,7 +20,7 @@ use Rattle.orc_schedules.specs.declared.sieve.Sieve.{Sieve}
 use Rattle.orc_schedules.specs.declared.sieve.Sieve.TheVariants.{Publications, Named}
 use Rattle.orc_schedules.specs.Watch.{all_at, named, named_until, publications}
 
--- what is kept of what happens, and the time behind which all times are one
+-- what is kept of what happens, and the latest time that is told apart
 pub record Kept : Type 0 where
   pub of : Happening → List Occurrence
   pub latest : ℕ
@@ -50,11 +50,11 @@ occurs sites (answered m args a) = becomes sites m args (phase_of a) ∷ []
 occurs sites (published v) = what.Published v ∷ []
 occurs sites unseen = []
 
--- that of it which is named
+-- what a search keeps that watches for what these name, up to this latest time
 abbrev pub kept : List Simple → List ClaimSite → ℕ → Kept
 kept names sites latest = record { of = λ h. named names (occurs sites h); latest = latest }
 
--- whether that is nothing
+-- whether nothing is kept
 abbrev pub is_nothing : List Occurrence → Bool
 is_nothing [] = true
 is_nothing (w ∷ ws) = false
@@ -62,16 +62,16 @@ is_nothing (w ∷ ws) = false
 abbrev pub is_unkept : Kept → Happening → Bool
 is_unkept keep h = is_nothing (keep.of h)
 
--- what was seen, and this at the time now
+-- what was seen, and then this, with no time between
 abbrev pub seen_now : Past → List Occurrence → Past
 seen_now p ws = record { happened = p.happened ++ all_at p.now ws; now = p.now }
 
--- what was seen, after what is seen now: something happens, or time passes
+-- what was seen after one thing more: something happens, or time passes
 abbrev pub seen_after : Kept → Past → Sight → Past
 seen_after keep p (happens h) = seen_now p (keep.of h)
 seen_after keep p (waits by) = record { happened = p.happened; now = min (p.now + by) keep.latest }
 
--- and after a path
+-- and after a whole path
 abbrev pub seen_on : Kept → Past → List Sight → Past
 seen_on keep p [] = p
 seen_on keep p (v ∷ vs) = seen_on keep (seen_after keep p v) vs
@@ -88,7 +88,7 @@ seen_of names sites latest es now = past_of names latest (happenings (map (renum
 abbrev pub values_of : Past → List Value
 values_of p = all_published p.happened
 
--- what passes through a sieve
+-- what a sieve keeps
 abbrev pub names_of : Sieve → List Simple
 names_of Publications = publications
 names_of (Named watch sites) = watch.now.names

@@ -22,7 +22,7 @@ use Rattle.orc_schedules.specs.Lists.{list_at, lists}
 use Rattle.orc_schedules.specs.Reached.{Reached, EndSeen, end_of}
 use Rattle.orc_schedules.specs.Seen.{Kept, Past, is_unkept, seen_after}
 
--- its numbers are those of a term, of a list of calls and of a list of what was seen
+-- a state's numbers are those of a term, of a list of calls and of a list of what was seen that are there
 abbrev pub IsKnown : Tables → Key → Type 0
 IsKnown t k = (k.term < length (smalls t.terms)) × (k.made < length t.counts) × (k.seen < length (lists t.lists))
 
@@ -30,10 +30,11 @@ IsKnown t k = (k.term < length (smalls t.terms)) × (k.made < length t.counts) �
 abbrev pub AreKnown : Tables → Type 0
 AreKnown t = ((i : ℕ) (k : Key) → slice_get t.states i ≡ Some k → IsKnown t k) × ((i : ℕ) (e : Told) → slice_get t.ends i ≡ Some e → e.seen < length (lists t.lists))
 
--- what was seen on the way
+-- what was seen, by the number of its list
 abbrev pub seen_at : Tables → ℕ → Past
 seen_at t i = list_at (lists t.lists) i
 
+-- what the calls to come are answered, by the number of the list of those that were made
 abbrev pub coming_at : List Site → Tables → ℕ → Coming
 coming_at sites t i = coming_of_made sites (made_at t.counts i)
 
@@ -84,7 +85,7 @@ pub record IsLookedAt (defs : List SmallDefinition) (keep : Kept) (rs : List Rea
   pub is : IsAhead defs (is_unkept keep) r.0 ahead
   pub done : IsDone defs keep rs longest os (ahead, r.1)
 
--- so were the first states, so many
+-- the first n states were looked at
 abbrev pub AreDone : List SmallDefinition → Kept → List Site → Tables → ℕ → Type 0
 AreDone defs keep sites t n = (i : ℕ) (k : Key) → i < n → slice_get t.states i ≡ Some k → IsLookedAt defs keep (reached sites t) t.longest (outcomes t) (reached_at sites t k)
 

@@ -40,7 +40,7 @@ abbrev pub is_named : List Simple → Occurrence → Bool
 is_named [] w = false
 is_named (s ∷ ss) w = names_it s w || is_named ss w
 
--- what is named stands before the others
+-- these with this one in front, if it is named
 abbrev pub add_named : Bool → Occurrence → List Occurrence → List Occurrence
 add_named b w ws = cond b (w ∷ ws) ws
 
@@ -95,12 +95,12 @@ abbrev pub all_seen : List Simple → Bool
 all_seen [] = true
 all_seen (s ∷ ss) = sees s && all_seen ss
 
--- a claim without conditions doesn't count the calls that are out at once
+-- a claim without conditions doesn't count the calls that are pending at once
 abbrev pub counts_none_out : Plain → Bool
 counts_none_out (AtOnce e most) = false
 counts_none_out _ = true
 
--- whether a search can watch for a claim: it sees no cancel, and doesn't count the calls that are out at once
+-- whether a search can watch for a claim: it asks for no cancel, and doesn't count the calls that are pending at once
 abbrev pub is_watchable : Claim → Bool
 is_watchable c = counts_none_out c.plain && all_seen (watched c)
 
@@ -110,16 +110,17 @@ is_watchable c = counts_none_out c.plain && all_seen (watched c)
 abbrev pub last_time : ℕ
 last_time = 2 ^ 64 - 1
 
--- behind the time that is asked for, all times are one; where none is asked for, all are
+-- the latest time that a `by` tells apart, the first one after it; without a `by` no times are told apart
 abbrev pub latest_by : Option ℕ → ℕ
 latest_by None = 0
 latest_by (Some by) = min (by + 1) last_time
 
--- where it is asked how much later something comes, all times count
+-- the latest time that a `within` tells apart: all are told apart, since it may count from any of them
 abbrev pub latest_within : Option ℕ → ℕ
 latest_within None = 0
 latest_within (Some within) = last_time
 
+-- the latest time that a claim without conditions tells apart
 abbrev pub latest_of_plain : Plain → ℕ
 latest_of_plain (Count e low most by) = latest_by by
 latest_of_plain (EachThen e f within) = latest_within within

@@ -1,4 +1,5 @@
-//! Early steps that nobody sees: a search takes them alone, before it looks at all that may come of a state.
+//! Early steps that nobody sees: a search takes them first and alone, before it looks at all that may come of a state. So the orders of such steps
+//! make no states. Of an early step the sieve keeps nothing, and it leaves the calls to come as they are (`ahead_follows` in orc_search).
 
 ghost use Rattle.std.specs.Prelude.{◌≡◌, ◌<◌, length, true, IfOk, IfSome, OnOk};
 ghost use Rattle.orc_search.specs.Early.{IsHidden};
@@ -18,11 +19,12 @@ use orc_search::moves::Source;
 use orc_search::successor::Happening;
 use std::alloc::{AllocError, Global};
 
-// So many early steps are taken one after another at most: a definition may call itself for ever.
+// So many early steps are taken one after another at most, since a definition may call itself for ever. The rest of them make states as others do.
 const MOST_EARLY: u64 = 1000;
 
 impl Tables {
-    // Whether what happens is kept by nobody, and leaves the calls to come as they are. The error is refused memory, or one of the sieve's.
+    // Whether the sieve keeps nothing of what happens, and the calls to come are answered after it as before. The lists after it may be new ones,
+    // which stay in the tables then. The error is refused memory, or one of the sieve's.
     fn is_unseen(
         &mut self,
         alloc: Global,
@@ -48,7 +50,8 @@ impl Tables {
         Ok(seen == from.seen)
     }
 
-    // The term to which an early step leads that nobody sees, if there is one. The error is refused memory, or one of the sieve's.
+    // The number of the term to which an early step of the state leads that nobody sees; None if it has no such step. The error is refused memory, or
+    // one of the sieve's.
     fn early_term(
         &mut self,
         alloc: Global,
@@ -67,6 +70,7 @@ impl Tables {
         ensures ends { OnOk result (self.new.ends ≡ self.old.ends) }
     {
         let mut parts = Parts::of_term(alloc, from.term)?;
+        // The loop ends with the term's parts: the bound shows that it ends.
         for _early in 0..u64::MAX {
             let made = self.counts.made(from.made);
             let Some(step) = parts.next_early(&mut self.terms, alloc, source, made)? else {
@@ -80,8 +84,8 @@ impl Tables {
         Err(AllocError)
     }
 
-    // The term to which early steps lead that nobody sees: one that has no such step, unless there are more of them than a search takes. The error is
-    // refused memory, or one of the sieve's.
+    // The number of the term to which early steps of the state lead that nobody sees. It has no such step itself, unless there are more than
+    // `MOST_EARLY`. The error is refused memory, or one of the sieve's.
     pub(crate) fn ahead_of(
         &mut self,
         alloc: Global,

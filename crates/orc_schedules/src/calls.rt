@@ -1,4 +1,4 @@
-//! What became of calls, as it is looked for and compared.
+//! Occurrences, which are what became of calls and publications, as `Once` looks for them and compares them.
 
 ghost use Rattle.std.specs.Prelude.{◌≡◌, true, slice_index_or};
 ghost use Rattle.orc_rules.specs.declared.value.Value.TheVariants.{Signal};
@@ -16,6 +16,7 @@ fn is_same_phase(one: Phase, other: Phase) -> bool
     one == other
 }
 
+// Whether both are equal. Only true is promised to mean it.
 fn is_same(one: &Occurrence, other: &Occurrence) -> bool
     ensures { result ≡ true → one.now ≡ other.now }
 {
@@ -40,7 +41,7 @@ fn hash_of_phase(mixed: u64, phase: Phase) -> u64 {
     }
 }
 
-// A number by which an occurrence is looked for.
+// The hash of an occurrence. Each kind mixes in a small number of its own.
 fn hash_of(what: &Occurrence) -> u64 {
     match what {
         Occurrence::Call(site, args, phase) => {
@@ -54,7 +55,7 @@ fn hash_of(what: &Occurrence) -> u64 {
     }
 }
 
-/// The same again.
+/// A copy.
 pub(crate) fn copied(what: &Occurrence) -> Occurrence
     ensures { result ≡ what.now }
 {
@@ -64,7 +65,7 @@ pub(crate) fn copied(what: &Occurrence) -> Occurrence
     }
 }
 
-/// The one of that number among these; a publication where there is none.
+/// A copy of the one at that place, from 0; some publication if there is none, which no caller asks for.
 pub(crate) fn copied_at(occurrences: &[Occurrence], at: usize) -> Occurrence
     ensures { result ≡ slice_index_or occurrences.now at (Published Signal) }
 {

@@ -3,25 +3,29 @@
 use orc_claims::happening::Happening;
 use orc_outcome::End;
 
-/// How and when a run ended, and what of it was seen, in order, with times as far as the claim tells them apart.
+/// How and when a run ended, and what of it was seen. Times are told apart as far as the claim does: all later ones are the latest that it tells
+/// apart.
 #[derive(Drop)]
 pub struct Seen {
+    /// Halted or Quiet.
     pub end: End,
+    /// What happened in it of what the claim names, in order, with times.
     pub happened: Vec<Happening>,
+    /// When it ended.
     pub now: u64,
 }
 
 /// What a search for a claim came to.
 #[derive(Drop)]
 pub enum ClaimSearched {
-    /// The claim holds in all runs; how many states there are.
+    /// The claim holds in each run of at most so many entries as were asked for that ends by itself; how many states there are.
     Holds(usize),
-    /// It fails in a run that ends so, and of what it names this happens there.
+    /// It fails in this run.
     Fails(Seen),
     /// There are more states than the search was to look at, and the claim fails at none of the ends that it found.
     TooMany,
-    /// A run within the limit of entries, or one to a state that was found, may come to a time of more than 64 bits.
+    /// A run within the limit of entries, or one to a state that was found, may come to a time of more than 64 bits, which the rules don't allow.
     TooLong,
-    /// The claim sees a cancel, or counts the calls that are out at once: a search can't watch for it.
+    /// The claim asks for a cancel, or counts the calls that are pending at once: a search can't watch for it.
     NotWatched,
 }

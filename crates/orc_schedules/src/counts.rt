@@ -1,4 +1,4 @@
-//! Lists of calls that were made by their numbers.
+//! Lists of calls that were made, by their numbers. An *entry* (`Made`) of a list is a site with arguments, and how often it was called so.
 
 ghost use Rattle.std.specs.Prelude.{◌≡◌, ◌<◌, ◌≤◌, ◌++◌, ◌∷◌, [], ℕ, List, length, map, true, false, Some, slice_get, IfSome, IfOk, OnOk, OnErr};
 ghost use Rattle.orc_rules.specs.declared.value.Value.{Value as Datum};
@@ -21,13 +21,14 @@ use std::alloc::{AllocError, Global};
 use std::marker::Model;
 
 /// Lists of calls that were made by their numbers; the empty list has the number 0. A list that is asked for again has the same number again, unless
-/// one with an equal hash came between.
+/// one with an equal hash came between. A list has one entry at most for a site with arguments.
 pub struct Counts {
     lists: Vec<Vec<Made>>,
     // Where the list last made with a hash stands. Nothing is promised of it: what is found there is compared.
     places: Places,
 }
 
+// Written out, so that a caller's proof sees one call and not the drop of each field.
 impl Drop for Counts {
     fn drop(self) {
         let Counts {
@@ -46,20 +47,22 @@ impl Model for Counts {
     ghost view = { λ c. map (λ v. v.items) c.lists.items };
 }
 
-// Where the entry of some calls stands in a list: at one of the same calls, or before the entry that stands there.
+// Where the entry for some calls is in a list, or is to be put.
 #[derive(Clone, Copy)]
 struct Place {
     at: usize,
+    // Whether there is one for the same calls at this place; if not, the entry is to be put before what is there.
     again: bool,
 }
 
-// Whether both count the same calls.
+// Whether both entries are for the same calls, however many.
 fn is_kind(one: &Made, other: &Made) -> bool
     ensures { result ≡ is_kind (count_of one.now) (count_of other.now) }
 {
     one.site == other.site && are_same(&one.args, &other.args)
 }
 
+// Whether both entries are equal. Only true is promised to mean it.
 fn is_same(one: &Made, other: &Made) -> bool
     ensures { result ≡ true → count_of one.now ≡ count_of other.now }
 {
@@ -69,6 +72,7 @@ fn is_same(one: &Made, other: &Made) -> bool
     one.times == other.times
 }
 
+// The hash of the calls that an entry is for, without their number.
 fn hash_of_kind(calls: &Made) -> u64 {
     let mut mixed = mix(2, calls.site as u64);
     for arg in &calls.args {
@@ -77,7 +81,7 @@ fn hash_of_kind(calls: &Made) -> u64 {
     mixed
 }
 
-// A number by which a list is looked for.
+// The hash by which a list is looked for.
 fn hash_of(made: &[Made]) -> u64 {
     let mut mixed = 3;
     for calls in made {
@@ -86,8 +90,8 @@ fn hash_of(made: &[Made]) -> u64 {
     mixed
 }
 
-// Where the entry of these calls stands or is to stand. The entries of a list stand in the order of hashes, so that it is the same list whichever
-// calls were made first; nothing is promised of that order.
+// Where the entry for these calls is or is to be put. The entries of a list are in the order of their hashes, so that it is the same list whichever
+// calls were made first. Nothing is promised of that order: in another one the search would find more states.
 fn place_of(made: &[Made], calls: &Made) -> Place
     ensures within { result.at ≤ length made.now }
     ensures before { (i : ℕ) (e : Entry) → i < result.at → slice_get made.now i ≡ Some e → is_kind (count_of e) (count_of calls.now) ≡ false }
@@ -109,6 +113,7 @@ fn place_of(made: &[Made], calls: &Made) -> Place
     }
 }
 
+// A copy of an entry. The error is refused memory.
 fn copy_of(alloc: Global, calls: &Made) -> Result<Made, AllocError>
     ensures { IfOk result (λ m. count_of m ≡ count_of calls.now) }
 {
@@ -119,7 +124,7 @@ fn copy_of(alloc: Global, calls: &Made) -> Result<Made, AllocError>
     })
 }
 
-// Adds the same entries once more. The error is refused memory.
+// Pushes copies of entries. The error is refused memory.
 fn push_copies(alloc: Global, list: &mut Vec<Made>, made: &[Made]) -> Result<(), AllocError>
     ensures { OnOk result (map count_of list.new.items ≡ map count_of list.old.items ++ map count_of made.now) }
 {
@@ -130,7 +135,8 @@ fn push_copies(alloc: Global, list: &mut Vec<Made>, made: &[Made]) -> Result<(),
     Ok(())
 }
 
-// A copy of the list, with this entry at that place. The error is refused memory.
+// A copy of the list with this entry at that place, in place of the one that is there for the same calls or before what is there. The error is
+// refused memory.
 fn raised(alloc: Global, made: &[Made], place: Place, calls: Made) -> Result<Vec<Made>, AllocError>
     requires within { place.at ≤ length made.now }
     requires again { place.again ≡ true → place.at < length made.now }
@@ -144,7 +150,7 @@ fn raised(alloc: Global, made: &[Made], place: Place, calls: Made) -> Result<Vec
     Ok(list)
 }
 
-// Whether two lists have the same counts in the same order.
+// Whether two lists have the same entries in the same order. Only true is promised to mean it.
 fn are_same_counts(one: &[Made], other: &[Made]) -> bool
     ensures { result ≡ true → map count_of one.now ≡ map count_of other.now }
 {
@@ -167,7 +173,7 @@ fn are_same_counts(one: &[Made], other: &[Made]) -> bool
     }
 }
 
-// The arguments of a call, in place; None where there are more than a call can have.
+// The arguments of a call as an array without memory of its own; None if there are more than `MOST_ARGUMENTS`.
 pub(crate) fn in_place(args: &[Value]) -> Option<Args>
     ensures { IfSome result (λ a. a ≡ args.now) }
 {
@@ -194,7 +200,7 @@ impl Counts {
         })
     }
 
-    /// The list of that number; the empty one where there is none.
+    /// The list of that number; the empty one if there is no such list.
     pub fn made(&self, at: usize) -> &[Made]
         ensures { result.now ≡ made_at self.now at }
     {
@@ -215,25 +221,26 @@ impl Counts {
         Ok(at)
     }
 
+    // The number that a list with this hash may have.
     fn place_of(&self, hash: u64) -> Option<usize> {
         self.places.get(hash)
     }
 
-    // A list with this hash stands there. The error is refused memory.
+    // Notes that the list of that number has this hash. The error is refused memory.
     fn remember(&mut self, hash: u64, at: usize) -> Result<(), AllocError>
         ensures { self.new ≡ self.old }
     {
         self.places.insert(hash, at)
     }
 
-    // Whether a list with the same counts stands there.
+    // Whether the list of that number has the same entries.
     fn stands_at(&self, at: usize, list: &[Made]) -> bool
         ensures { result ≡ true → (at < length self.now) × (map count_of (made_at self.now at) ≡ map count_of list.now) }
     {
         at < self.lists.len() && are_same_counts(self.made(at), list)
     }
 
-    // The number of a list with these counts: that of one that is found, or else that of the list itself, which stands behind the others then. The
+    // The number of a list with these entries: that of one that is found, or else that of the list itself, which is then added behind the others. The
     // error is refused memory. The lists that were there stay, in both cases.
     fn number_of(&mut self, list: Vec<Made>) -> Result<usize, AllocError>
         ensures there { IfOk result (λ at. at < length self.new) }
@@ -251,7 +258,8 @@ impl Counts {
         Ok(at)
     }
 
-    // The number of the list after one call more of those calls, of which there were fewer than those after which all are answered alike.
+    // The number of the list `at` with this entry for its calls, in place of the one that it had for them, if it had one. The error is refused
+    // memory.
     fn raised(&mut self, alloc: Global, at: usize, calls: Made) -> Result<usize, AllocError>
         requires { at < length self.old }
         ensures there { IfOk result (λ to. to < length self.new) }
@@ -265,9 +273,9 @@ impl Counts {
         Ok(to)
     }
 
-    /// The number of the list after a call of the site with these arguments: what the calls to come are answered after it is what they are answered
-    /// before, without the next one of such calls. A count goes no higher than where all later calls are answered alike, so that a loop comes back to
-    /// the same list. The error is refused memory, or that no call can have so many arguments. The lists that were there stay, in both cases.
+    /// The number of the list after one call more of the site with these arguments: calls to come are answered as before, but for the next one of
+    /// such calls, which is made now. A count goes no higher than to where all later calls are answered alike, so that a loop comes back to the same
+    /// list. The error is refused memory, or that no call can have so many arguments. The lists that were there stay, in both cases.
     pub fn called(
         &mut self,
         alloc: Global,
@@ -284,6 +292,7 @@ impl Counts {
         let Some(placed) = in_place(args) else {
             return Err(AllocError);
         };
+        // After so many calls all further ones are answered alike: a script's last answer comes again and again.
         let last = answers.last_answer(site, &placed);
         let times = times_of(self.made(at), site, args);
         if times >= last {
@@ -298,8 +307,8 @@ impl Counts {
         Ok(to)
     }
 
-    /// The number of the list after what happens: after a call as `called` has it. The errors are those of `called`. The lists that were there stay,
-    /// in both cases.
+    /// The number of the list after this happening: after a call as `called` has it, and the same list after anything else. The errors are those of
+    /// `called`. The lists that were there stay, in both cases.
     pub fn after(
         &mut self,
         alloc: Global,

@@ -1,4 +1,4 @@
-//! How runs can end.
+//! An end of a run, as `search` tells it.
 
 use orc_outcome::End;
 use orc_rules::value::Value;
@@ -6,6 +6,7 @@ use orc_rules::value::Value;
 /// An end of a run: how it ended, and what it published.
 #[derive(Drop)]
 pub struct Ended {
+    /// Halted or Quiet.
     pub end: End,
     /// What was published, in order.
     pub values: Vec<Value>,

@@ -1,4 +1,4 @@
-//! The search through all schedules of a program.
+//! The search through all schedules of a program, as other crates call it.
 
 ghost use Rattle.std.specs.Prelude.{◌≡◌, ◌<◌, ◌*◌, ◌^◌, suc, length, true, Some, slice_get, IfOk, OnOk};
 ghost use Rattle.orc_rules.specs.Nodes.{source};
@@ -29,7 +29,7 @@ use std::alloc::{AllocError, Global};
 /// What a search through all schedules came to.
 #[derive(Drop)]
 pub enum Schedules {
-    /// The ends of all runs, each that of one, and how many states there are.
+    /// The ends of all runs within the limit of entries that end by themselves, each that of some run, and how many states there are.
     All(Vec<Ended>, usize),
     /// There are more states than the search was to look at.
     TooMany,
@@ -37,6 +37,7 @@ pub enum Schedules {
     TooLong,
 }
 
+// The number of the small term of a program's node; None if there is no such node.
 fn number_at(numbers: &[usize], at: usize) -> Option<usize>
     ensures { result ≡ slice_get numbers.now at }
 {
@@ -46,7 +47,7 @@ fn number_at(numbers: &[usize], at: usize) -> Option<usize>
     }
 }
 
-// The number of a program's term. The error is refused memory.
+// The number of the program's main term as a small one; that of `stop` if the program has no such node. The error is refused memory.
 fn number_of_source(
     terms: &mut Terms,
     program: &Program,
@@ -66,7 +67,8 @@ fn number_of_source(
     }
 }
 
-// Whether no way of at most so many steps, and no run of at most so many entries, can come to a time past 2^64 by waits of at most this length.
+// Whether no way of at most `steps` steps, and no run of at most so many entries, can come to a time past 2^64 by waits of at most `longest` units.
+// It has one wait more than steps at most.
 fn is_in_time(longest: u64, steps: u64) -> bool
     ensures { result ≡ true → suc steps * longest < 2 ^ 64 }
 {
@@ -79,14 +81,14 @@ fn is_in_time(longest: u64, steps: u64) -> bool
     }
 }
 
-/// A program whose calls these sites answer, and what its searches share: its terms and the lists of calls that were made, by their numbers, and what the
-/// terms may do.
+/// Makes one search of a program after another. They share the program's terms, the lists of calls that were made and what the terms may do; each has
+/// states of its own.
 pub struct Explorer<'p> {
     source: Source<'p>,
     // The number of the program's term.
     term: usize,
     moves: Moves,
-    // With what the last search found.
+    // What is shared, and what the last search found.
     tables: Tables,
 }
 
@@ -103,7 +105,7 @@ impl Drop for Explorer<'_> {
 }
 
 impl<'p> Explorer<'p> {
-    /// Before the first search. The error is refused memory.
+    /// An explorer of this program, whose calls `answers` answers, before its first search. The error is refused memory.
     pub fn new(
         alloc: Global,
         program: &'p Program,
@@ -130,7 +132,7 @@ impl<'p> Explorer<'p> {
         })
     }
 
-    // Looks at all states, through so many at most: whether these were all. The error is refused memory, or one of the sieve's.
+    // Begins a search and looks at up to `most` states: whether these were all. The error is refused memory, or one of the sieve's.
     fn explore(&mut self, alloc: Global, sieve: &Sieve, most: usize) -> Result<bool, AllocError>
         requires { IsExplorer self.old }
         ensures ready { OnOk result (IsExplorer self.new) }
@@ -144,11 +146,11 @@ impl<'p> Explorer<'p> {
         Ok(all)
     }
 
-    /// Searches all schedules of the program for a run in which a claim fails, through `most` states at most. The answer is that the claim holds in every
-    /// run of at most `limit` entries, cancels not counted, that ends by itself; or how one run ends in which it fails, of however many entries, with what
-    /// of it the claim names; or that there are more states and it fails at none of the ends that were found; or that waits may add up to a time past
-    /// 2^64; or that a search can't watch for such a claim. The error is refused memory, also where there are 2^32 sites. After an answer it can search
-    /// again.
+    /// Searches all schedules of the program for a run in which a claim fails, through `most` states at most. `sites` are those that the test of the
+    /// claim names. The answer is that the claim holds in every run of at most `limit` entries, cancels not counted, that ends by itself; or how one
+    /// run ends in which it fails, of however many entries, with what of it the claim names; or that there are more states and it fails at none of
+    /// the ends that were found; or that waits may add up to a time past 2^64; or that a search can't watch for such a claim. The error is refused
+    /// memory, also where the test names 2^32 sites. After an answer it can search again; after an error it can't.
     pub fn search_claim(
         &mut self,
         alloc: Global,
@@ -202,7 +204,8 @@ pub fn search(
     Ok(Schedules::All(ended, states))
 }
 
-// What a search for a claim came to, once it has explored all states or not.
+// The answer of a search for a claim whose tables these are; `all` says that it looked at all states. A failure counts even if there are more states,
+// as long as the way to it can't be too long; that it holds also needs all states and runs of `limit` entries that can't be.
 fn claimed(
     alloc: Global,
     tables: &Tables,
@@ -229,7 +232,7 @@ fn claimed(
     Ok(ClaimSearched::Holds(states))
 }
 
-/// One search for a claim, as `Explorer` makes many of a program.
+/// Makes one search for a claim, as `Explorer::search_claim` does, and keeps nothing. The answers and errors are those of that call.
 pub fn search_claim(
     alloc: Global,
     program: &Program,

@@ -12,7 +12,7 @@ use orc_rules::entry::State;
 use std::alloc::{AllocError, Global};
 use std::slice::from_ref;
 
-// Where a run stands that ended so. One that was cut is still running.
+// The state of a run that ended so, as claims ask for it. One that was cut is still running; a search finds no such end.
 fn state_of_end(end: End) -> State
     ensures { result ≡ state_of_end end }
 {
@@ -23,7 +23,7 @@ fn state_of_end(end: End) -> State
     }
 }
 
-/// Whether a claim fails in a run that ended so, at this time, of which this was seen. The error is refused memory.
+/// Whether a claim fails in a run that ended so at the time `now`, of which this was seen, in order. The error is refused memory.
 pub fn fails_by(
     alloc: Global,
     claim: &Claim,
@@ -36,6 +36,7 @@ pub fn fails_by(
     let judged = judge(alloc, from_ref(claim), seen, state_of_end(end), now)?;
     match judged.first() {
         Some(one) => Ok(one.verdict != Verdict::Holds),
+        // `judge` answers one for each claim, and one was handed in.
         None => unreachable!(),
     }
 }

@@ -1,4 +1,4 @@
-//! Laws of the definitions: each function's contract is one.
+//! Laws of the definitions: each function's contract is one. A function has no body, since its proof is in `proofs/`.
 
 ghost use Rattle.orc_schedules.specs.Ends.{FoundAreOfRuns};
 ghost use Rattle.orc_schedules.specs.Found.{AllAreFound};

@@ -1,4 +1,4 @@
-//! What terms may do after lists of calls, each worked out once.
+//! What terms may do after lists of calls, kept so that it is worked out once: states that differ only in what was seen share it.
 
 ghost use Rattle.std.specs.Prelude.{◌≡◌, ◌⊎◌, ◌<◌, ◌++◌, ◌∷◌, [], true, Some, length, slice_get, IfSome, IfOk, OnOk};
 ghost use Rattle.orc_search.specs.Nodes.{small_at, smalls, Extends};
@@ -16,14 +16,17 @@ use orc_search::terms::Terms;
 use std::alloc::{AllocError, Global};
 use std::marker::Model;
 
-/// So many are kept. Those of more begin anew, so that a search through many states keeps little beside them.
+/// So many are kept at most. With one more all are dropped, so that a search through many states keeps little beside them.
 const MOST: usize = 4096;
 
-/// All that a term may do after a list of calls, by their numbers.
+/// All that a term may do after a list of calls.
 #[derive(Drop)]
 pub struct Listed {
+    /// The number of the term.
     pub term: usize,
+    /// The number of the list of calls (`Counts`).
     pub made: usize,
+    /// Each step: what is seen of it, and the number of the term after it.
     pub next: Vec<Successor>,
 }
 
@@ -34,6 +37,7 @@ pub struct Moves {
     places: Places,
 }
 
+// Written out, so that a caller's proof sees one call and not the drop of each field.
 impl Drop for Moves {
     fn drop(self) {
         let Moves {
@@ -53,7 +57,7 @@ impl Model for Moves {
 }
 
 impl Moves {
-    /// None.
+    /// Nothing is kept.
     pub fn new(alloc: Global) -> Moves
         ensures { result ≡ [] }
     {
@@ -63,7 +67,7 @@ impl Moves {
         }
     }
 
-    /// What stands at that place.
+    /// The steps that are kept at that place, as `find` gave it; none if nothing is kept there.
     pub fn next(&self, at: usize) -> &[Successor]
         ensures { result.now ≡ next_at self.now at }
     {
@@ -73,7 +77,7 @@ impl Moves {
         }
     }
 
-    // Where this may stand.
+    // Where something with this hash may be kept.
     fn place_of(&self, hash: u64) -> Option<usize> {
         self.places.get(hash)
     }
@@ -87,7 +91,7 @@ impl Moves {
         }
     }
 
-    // Whether it stands there.
+    // Whether what is kept there is that of this state's term after its list of calls.
     fn stands_at(&self, at: usize, from: Key) -> bool
         ensures { result ≡ true → IsOf self.now from at }
     {
@@ -97,7 +101,7 @@ impl Moves {
         }
     }
 
-    // None are there any more, where there are as many as are kept.
+    // Drops all if there are as many as are kept at most.
     fn make_room(&mut self, alloc: Global)
         ensures { (self.new ≡ self.old) ⊎ (self.new ≡ []) }
     {
@@ -107,7 +111,7 @@ impl Moves {
         }
     }
 
-    // One more behind the others: its place. The error is refused memory.
+    // Keeps one more behind the others: its place. The error is refused memory.
     fn push(&mut self, listed: Listed) -> Result<usize, AllocError>
         ensures number { IfOk result (λ at. at ≡ length self.old) }
         ensures added { OnOk result (self.new ≡ self.old ++ listed ∷ []) }
@@ -117,15 +121,15 @@ impl Moves {
         Ok(at)
     }
 
-    // What was listed with this hash stands there. The error is refused memory.
+    // Notes that what has this hash is there. The error is refused memory.
     fn remember(&mut self, hash: u64, at: usize) -> Result<(), AllocError>
         ensures { self.new ≡ self.old }
     {
         self.places.insert(hash, at)
     }
 
-    /// Where all stands that the term of that number may do after the calls of that number. The error is refused memory, or one of `successors`. The terms
-    /// that were there stay, in both cases.
+    /// The place at which all is kept that the term of the state may do after its list of calls; it is worked out if it isn't there. A place holds
+    /// until the next `find`, which may drop all. The error is refused memory, or one of `successors`. The terms that were there stay, in both cases.
     pub fn find(
         &mut self,
         terms: &mut Terms,

@@ -1,4 +1,5 @@
-//! Lists of what was seen, with its times, by their numbers.
+//! Lists of what was seen on the ways to states, by their numbers. Each list is a shorter one with one thing behind it, so that ways which begin
+//! alike share their beginning.
 
 ghost use Rattle.std.specs.Prelude.{◌≡◌, ◌<◌, ◌++◌, ◌∷◌, [], length, option_to_list, true, Some, slice_get, IfSome, IfNone, IfOk, OnOk, OnErr};
 ghost use Rattle.orc_rules.specs.declared.value.Value.{Value as Datum};
@@ -22,31 +23,40 @@ use orc_search::successor::Happening;
 use std::alloc::{AllocError, Global};
 use std::marker::Model;
 
-/// What was seen: a publication, or something of a call, by its number; nothing where only time passed.
+/// What was seen last.
 #[derive(Clone, Copy, PartialEq, Eq)]
 pub enum What {
+    /// A publication.
     Published(Value),
+    /// What became of a call, by its place among those that the lists name.
     Call(usize),
+    /// Only time passed.
     Nothing,
 }
 
-/// A list: that of a number, and what was seen next, at this time.
+/// A list that isn't the empty one.
 #[derive(Clone, Copy, PartialEq, Eq)]
 pub struct Longer {
+    /// The number of the list before.
     pub before: usize,
+    /// The time to which the list comes.
     pub now: u64,
+    /// What is behind that list.
     pub what: What,
 }
 
-/// Lists of what was seen by their numbers, each with the time to which it comes; the empty list at time 0 has the number 0. A list that is asked for again has the same number again, unless one with
-/// an equal hash came between.
+/// Lists of what was seen by their numbers, each with the time to which it comes; the empty list at time 0 has the number 0. A list that is asked for
+/// again has the same number again, unless one with an equal hash came between.
 pub struct Lists {
+    // What became of calls, each once, as the lists name it.
     calls: Once<Occurrence>,
+    // The list of the number 1, 2 and so on.
     longer: Vec<Longer>,
     // The number of the list last made with a hash. Nothing is promised of it: what is found there is compared.
     places: Places,
 }
 
+// Written out, so that a caller's proof sees one call and not the drop of each field.
 impl Drop for Lists {
     fn drop(self) {
         let Lists {
@@ -67,6 +77,7 @@ impl Model for Lists {
     ghost invariant = { λ l. AreBehind l.longer.items × AreMade l.calls l.longer.items };
 }
 
+// What is at that place; None if there is nothing.
 fn longer_at(longer: &[Longer], at: usize) -> Option<Longer>
     ensures { result ≡ slice_get longer.now at }
 {
@@ -76,6 +87,7 @@ fn longer_at(longer: &[Longer], at: usize) -> Option<Longer>
     }
 }
 
+// The hash of a list. Only a wait mixes in the time: what else is seen has the time of the list before.
 fn hash_of(longer: Longer) -> u64 {
     match longer.what {
         What::Published(value) => mix_value(mix(1, longer.before as u64), value),
@@ -112,7 +124,7 @@ impl Lists {
         self.longer.len() + 1
     }
 
-    // What the list of that number is made of; None for the empty one, and where there is none.
+    // What the list of that number is made of; None for the empty one, and if there is no such list.
     fn made_of(&self, at: usize) -> Option<Longer>
         ensures some { IfSome result (λ x. (x.before < at) × (slice_get (lists self.now) at ≡ Some (list_of self.now.calls (lists self.now) x))) }
         ensures none { IfNone result (list_at (lists self.now) at ≡ nothing_yet) }
@@ -123,6 +135,7 @@ impl Lists {
         longer_at(&self.longer, at - 1)
     }
 
+    // What was seen, as claims have it; None where only time passed.
     fn occurrence(&self, what: What) -> Option<Occurrence>
         ensures { option_to_list result ≡ what_of self.now.calls what }
     {
@@ -133,7 +146,7 @@ impl Lists {
         }
     }
 
-    /// The time to which the list of that number comes; 0 where there is none.
+    /// The time to which the list of that number comes; 0 if there is no such list.
     pub fn now(&self, at: usize) -> u64
         ensures { result ≡ (list_at (lists self.now) at).now }
     {
@@ -143,7 +156,7 @@ impl Lists {
         }
     }
 
-    // Adds what was seen there, if it is something. The error is refused memory.
+    // Pushes what was seen last in this list, with its time, if it is something. The error is refused memory.
     fn push(&self, happened: &mut Vec<Happened>, longer: Longer) -> Result<(), AllocError>
         ensures { OnOk result (happened.new.items ≡ happened.old.items ++ all_at longer.now (what_of self.now.calls longer.what)) }
     {
@@ -159,10 +172,11 @@ impl Lists {
         }
     }
 
-    /// The list of that number; the empty one where there is none. The error is refused memory.
+    /// All that was seen in the list of that number, in order and with times; nothing if there is no such list. The error is refused memory.
     pub fn happened(&self, alloc: Global, at: usize) -> Result<Vec<Happened>, AllocError>
         ensures { IfOk result (λ v. v.items ≡ (list_at (lists self.now) at).happened) }
     {
+        // From the end to the beginning, since a list knows the one before it.
         let mut happened = Vec::new(alloc);
         let mut rest = at;
         while let Some(longer) = self.made_of(rest) {
@@ -173,7 +187,7 @@ impl Lists {
         Ok(happened)
     }
 
-    // Adds what was published there, if it is a publication. The error is refused memory.
+    // Pushes the value that was seen last in this list, if that is a publication. The error is refused memory.
     fn push_value(&self, values: &mut Vec<Value>, longer: Longer) -> Result<(), AllocError>
         ensures { OnOk result (values.new.items ≡ values.old.items ++ all_published (all_at longer.now (what_of self.now.calls longer.what))) }
     {
@@ -186,7 +200,7 @@ impl Lists {
         }
     }
 
-    /// The values that are published in the list of that number. The error is refused memory.
+    /// The values that were published in the list of that number, in order. The error is refused memory.
     pub fn values(&self, alloc: Global, at: usize) -> Result<Vec<Value>, AllocError>
         ensures { IfOk result (λ v. v.items ≡ values_of (list_at (lists self.now) at)) }
     {
@@ -200,7 +214,7 @@ impl Lists {
         Ok(values)
     }
 
-    // Whether this list has that number.
+    // Whether this is the list of that number.
     fn stands_at(&self, at: usize, longer: Longer) -> bool
         ensures { result ≡ true → slice_get (lists self.now) at ≡ Some (list_of self.now.calls (lists self.now) longer) }
     {
@@ -228,14 +242,15 @@ impl Lists {
         self.places.get(hash)
     }
 
-    // The list of that number has this hash. The error is refused memory.
+    // Notes that the list of that number has this hash. The error is refused memory.
     fn remember(&mut self, hash: u64, at: usize) -> Result<(), AllocError>
         ensures { self.new ≡ self.old }
     {
         self.places.insert(hash, at)
     }
 
-    // The number of what became of a call. The error is refused memory. The lists stay, in both cases.
+    // The place of what became of a call among those that the lists name, which is added if it isn't there. The error is refused memory. The lists
+    // stay, in both cases.
     fn number_of(&mut self, what: Occurrence) -> Result<usize, AllocError>
         ensures number { IfOk result (λ n. slice_get self.new.calls n ≡ Some what) }
         ensures kept { lists self.new ≡ lists self.old }
@@ -262,7 +277,7 @@ impl Lists {
         Ok(at)
     }
 
-    // The number of the list after a publication, if the sieve keeps it.
+    // The number of the list after a publication: the same list if the sieve doesn't keep it. The error is refused memory.
     fn after_value(&mut self, at: usize, sieve: &Sieve, value: Value) -> Result<usize, AllocError>
         requires { at < length (lists self.old) }
         ensures there { IfOk result (λ to. to < length (lists self.new)) }
@@ -280,7 +295,8 @@ impl Lists {
         Ok(to)
     }
 
-    // The number of the list after what became of a call, if the sieve keeps it.
+    // The number of the list after what became of a call of the site with this number in the program's table: the same list if the sieve doesn't keep
+    // it. The error is refused memory, or one of the sieve's.
     fn after_call(
         &mut self,
         at: usize,
@@ -306,8 +322,8 @@ impl Lists {
         Ok(to)
     }
 
-    /// The number of the list after so much time, as far as the sieve tells times apart. The error is refused memory. The lists that were there stay, in
-    /// both cases.
+    /// The number of the list after so much time more: the same list if the sieve doesn't tell the times apart. The error is refused memory. The
+    /// lists that were there stay, in both cases.
     pub(crate) fn wait(&mut self, at: usize, sieve: &Sieve, by: u64) -> Result<usize, AllocError>
         requires { at < length (lists self.old) }
         ensures there { IfOk result (λ to. to < length (lists self.new)) }
@@ -315,6 +331,7 @@ impl Lists {
         ensures kept { Grows (lists self.old) (lists self.new) }
     {
         let before = self.now(at);
+        // No time past 2^64 is told: the search checks that waits don't add up to one.
         let now = before.saturating_add(by).min(sieve.latest());
         if now == before {
             return Ok(at);
@@ -327,8 +344,8 @@ impl Lists {
         Ok(to)
     }
 
-    /// The number of the list after what happens: with one thing more behind it where the sieve keeps it. The error is refused memory, or one of the
-    /// sieve's. The lists that were there stay, in both cases.
+    /// The number of the list after this happening: one with that behind it if the sieve keeps it, and otherwise the same list. The error is refused
+    /// memory, or one of the sieve's. The lists that were there stay, in both cases.
     pub(crate) fn after(
         &mut self,
         at: usize,

@@ -1,4 +1,4 @@
-//! Lists that have each item once.
+//! A list to which an equal item isn't added again, so that an item's place is its number.
 
 ghost use Rattle.std.specs.Prelude.{◌≡◌, ◌⊎◌, ◌++◌, ◌∷◌, [], length, true, Some, slice_get, IfOk, OnOk, OnErr};
 ghost use Rattle.orc_rules.specs.Timed.{IsIn};
@@ -7,17 +7,18 @@ use orc_search::places::Places;
 use std::alloc::{AllocError, Global};
 use std::marker::Model;
 
-/// What is found among others by a number, and then compared.
+/// What is found by a hash, and then compared.
 pub trait Hashed {
-    /// A number by which it is looked for.
+    /// A hash by which it is looked for. Nothing is promised of it.
     fn hash(&self) -> u64;
 
-    /// Whether the other one is the same.
+    /// Whether the other one is equal. Only true is promised to mean it.
     fn is_same(&self, other: &Self) -> bool
         ensures { result ≡ true → self.now ≡ other.now };
 }
 
-/// Items in the order in which they were added, each once, unless one with an equal hash came between.
+/// Items in the order in which they were added. An item that is added again has its place again, unless another item with an equal hash came between:
+/// then it is in the list twice.
 pub struct Once<T> {
     list: Vec<T>,
     // Where the item last added with a hash stands. Nothing is promised of it: what is found there is compared.
@@ -40,7 +41,7 @@ impl<T> Model for Once<T> {
 }
 
 impl<T: Copy> Once<T> {
-    /// The item at that place.
+    /// The item at that place, from 0; None if there is none.
     pub fn get(&self, at: usize) -> Option<T>
         ensures { result ≡ slice_get self.now at }
     {
@@ -76,18 +77,19 @@ impl<T: Hashed + Drop> Once<T> {
         &self.list
     }
 
+    // Where an item with this hash may be.
     fn place_of(&self, hash: u64) -> Option<usize> {
         self.places.get(hash)
     }
 
-    // An item with this hash stands there. The error is refused memory.
+    // Notes that an item with this hash is there. The error is refused memory.
     fn remember(&mut self, hash: u64, place: usize) -> Result<(), AllocError>
         ensures { self.new ≡ self.old }
     {
         self.places.insert(hash, place)
     }
 
-    // Whether this stands there.
+    // Whether an equal item is there.
     fn stands_at(&self, place: usize, item: &T) -> bool
         ensures { result ≡ true → slice_get self.now place ≡ Some item.now }
     {
@@ -108,8 +110,8 @@ impl<T: Hashed + Drop> Once<T> {
         Ok(place)
     }
 
-    /// The place of an item, which is added behind the others unless it is found among them. The error is refused memory. The items that were there
-    /// stay, in both cases.
+    /// The place of an item, from 0; it is added behind the others unless it is found among them. The error is refused memory. The items that were
+    /// there stay, in both cases; after an error the new one may be there too.
     pub fn place(&mut self, item: T) -> Result<usize, AllocError>
         ensures there { IfOk result (λ at. slice_get self.new at ≡ Some item) }
         ensures kept { (self.new ≡ self.old) ⊎ (self.new ≡ self.old ++ item ∷ []) }

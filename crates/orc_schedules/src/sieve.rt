@@ -1,4 +1,4 @@
-//! What a search keeps of what happens.
+//! The sieve: what a search keeps of what happens. The less it keeps, the fewer states there are.
 
 ghost use Rattle.std.specs.Prelude.{◌≡◌, ◌∷◌, [], IfOk, option_to_list};
 ghost use Rattle.orc_claims.specs.declared.happening.Occurrence.TheVariants.{Published as published};
@@ -12,15 +12,17 @@ use orc_rules::value::Value;
 use orc_tally::{ClaimSite, claim_number};
 use std::alloc::AllocError;
 
-/// What a search keeps: publications alone; or what is watched for, of sites with the numbers that claims have for them.
+/// What a search keeps.
 #[derive(Clone, Copy)]
 pub(crate) enum Sieve<'a> {
+    /// Publications alone, without times.
     Publications,
+    /// What a claim names. The sites are those that the test names: they turn a site's number in the program's table into its number in claims.
     Named(&'a Watch, &'a [ClaimSite]),
 }
 
 impl Sieve<'_> {
-    /// Behind this time all times are one to it.
+    /// The latest time that it tells apart: every later one counts as this one.
     pub(crate) fn latest(&self) -> u64
         ensures { result ≡ latest_in self.now }
     {
@@ -30,7 +32,7 @@ impl Sieve<'_> {
         }
     }
 
-    /// Whether it keeps that a value is published.
+    /// Whether it keeps the publication of this value.
     pub(crate) fn keeps_value(&self, value: Value) -> bool
         ensures { result ≡ is_named (names_of self.now) (published value) }
     {
@@ -40,7 +42,8 @@ impl Sieve<'_> {
         }
     }
 
-    /// What it keeps of what became of a call. The error is that no call can have so many arguments, or that there are 2^32 sites.
+    /// What it keeps of what became of a call, with the site's number in claims; None if nothing. `site` is its number in the program's table. The
+    /// error is that no call can have so many arguments, or that the test names 2^32 sites.
     pub(crate) fn call(
         &self,
         site: u32,

@@ -1,15 +1,18 @@
-//! States by their three numbers.
+//! The states of a search, each as three numbers.
 
 ghost use Rattle.std.specs.Prelude.{◌≡◌, true};
 
 use crate::once::Hashed;
 use orc_search::node::mix;
 
-/// A state, with what was seen on the way to it: the numbers of its term, of the list of calls that were made and of the list of what was seen.
+/// A state, and what was seen on a way to it. Two ways that differ in what was seen lead to two states.
 #[derive(Clone, Copy, PartialEq, Eq)]
 pub struct Key {
+    /// The number of its term (`Terms`).
     pub term: usize,
+    /// The number of the list of calls that were made (`Counts`).
     pub made: usize,
+    /// The number of the list of what was seen (`Lists`).
     pub seen: usize,
 }
 

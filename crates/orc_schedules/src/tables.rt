@@ -1,4 +1,4 @@
-//! What a search has found, and its steps.
+//! The tables of a search: what it has found, and the steps by which it finds more.
 
 ghost use Rattle.std.specs.Prelude.{◌≡◌, ◌<◌, ◌≤◌, ◌∷◌, [], ℕ, List, length, map, true, false, Some, slice_get, IfSome, IfNone, IfOk, OnOk};
 ghost use Rattle.orc_rules.specs.Sites.{Site};
@@ -35,13 +35,17 @@ use orc_search::successor::Successor;
 use orc_search::terms::Terms;
 use std::alloc::{AllocError, Global};
 
-// What a search has found: terms, lists of calls and lists of what was seen by their numbers, the states and the ends made of them, and the longest wait.
+// What a search has found. The first two are shared by all searches of a program, the others begin anew with each.
 pub(crate) struct Tables {
     pub(crate) terms: Terms,
+    // Lists of calls that were made.
     pub(crate) counts: Counts,
+    // Lists of what was seen.
     pub(crate) lists: Lists,
+    // The states in the order in which they were found, which is that in which they are looked at.
     pub(crate) states: Once<Key>,
     pub(crate) ends: Once<Told>,
+    // The longest wait so far, in units of logical time.
     pub(crate) longest: u64,
 }
 
@@ -60,7 +64,7 @@ impl Drop for Tables {
 }
 
 impl Tables {
-    // Nothing is found yet, of a program whose terms these are. The error is refused memory.
+    // The tables of a program whose terms these are, in which nothing is found yet. The error is refused memory.
     pub(crate) fn new(alloc: Global, terms: Terms) -> Result<Tables, AllocError>
         ensures terms { IfOk result (λ t. t.terms ≡ terms) }
         ensures counts { IfOk result (λ t. t.counts ≡ [] ∷ []) }
@@ -75,7 +79,7 @@ impl Tables {
         })
     }
 
-    // A search begins: the state of this term is found, and no other. The error is refused memory.
+    // Begins a search: the state of this term, before any call and with nothing seen, is found, and no other. The error is refused memory.
     pub(crate) fn begin(&mut self, alloc: Global, term: usize) -> Result<(), AllocError>
         ensures { OnOk result (IsBegun term self.old self.new) }
     {
@@ -83,6 +87,7 @@ impl Tables {
         self.states = Once::new(alloc);
         self.ends = Once::new(alloc);
         self.longest = 0;
+        // The number 0 is that of the empty list of either kind.
         self.states.add(Key {
             term,
             made: 0,
@@ -91,7 +96,7 @@ impl Tables {
         Ok(())
     }
 
-    // Adds what a state becomes by a successor of its term. The error is refused memory.
+    // Adds the state that `from` becomes by a step of its term. The error is refused memory, or one of the sieve's, here and below.
     fn follow(
         &mut self,
         alloc: Global,
@@ -120,6 +125,7 @@ impl Tables {
         Ok(())
     }
 
+    // Adds the states that `from` becomes by these steps of its term.
     fn follow_all(
         &mut self,
         alloc: Global,
@@ -143,7 +149,8 @@ impl Tables {
         Ok(())
     }
 
-    // Adds what a state becomes once the time has passed that it waits. The error is refused memory.
+    // Adds the state that `from` becomes once as much time has passed as its first pending call has left; nothing if no call will be answered, or one
+    // is due at once. Only called where nothing can happen before.
     fn wait(&mut self, alloc: Global, sieve: &Sieve, from: Key) -> Result<(), AllocError>
         requires all { AreKnown self.old }
         requires from { IsKnown self.old from }
@@ -170,7 +177,8 @@ impl Tables {
         Ok(())
     }
 
-    // Adds the end of a state, if it is one; `still` says that nothing can happen there before time passes. The error is refused memory.
+    // Adds the end that `from` is, if it is one: it has halted, or it is quiet, where `still` says that nothing can happen before time passes and no
+    // pending call will be answered. The error is refused memory.
     fn tell(&mut self, from: Key, still: bool) -> Result<(), AllocError>
         requires all { AreKnown self.old }
         requires from { IsKnown self.old from }
@@ -203,7 +211,8 @@ impl Tables {
         Ok(())
     }
 
-    // Adds all that may come of a state that is ahead of one of the states, and its end, if it is one. The error is refused memory.
+    // Adds all that may come of `from`, and its end, if it is one. `from` is what early steps make of a state, and need not be one of the states
+    // itself.
     fn expand(
         &mut self,
         alloc: Global,
@@ -225,6 +234,7 @@ impl Tables {
         let at = moves.find(&mut self.terms, alloc, source, &self.counts, from)?;
         let next = moves.next(at);
         self.follow_all(alloc, source.answers, sieve, from, next)?;
+        // Time passes only where nothing else can happen.
         if next.is_empty() {
             self.wait(alloc, sieve, from)?;
             self.tell(from, true)?;
@@ -234,8 +244,7 @@ impl Tables {
         Ok(())
     }
 
-    // Takes the early steps of a state that nobody sees, and adds all that may come of the state to which they lead, and its end, if it is one. The
-    // error is refused memory.
+    // Takes the early steps of a state that nobody sees, and adds all that may come of the state to which they lead, and its end, if it is one.
     fn look_at(
         &mut self,
         alloc: Global,
@@ -264,8 +273,8 @@ impl Tables {
         Ok(())
     }
 
-    // Looks at each state in its turn, also at those that are found on the way: whether these were all, and no more than there may be. The error is
-    // refused memory.
+    // Looks at each state in the order in which they were found, also at those that are found on the way: whether these were all, `most` at most.
+    // With more the search stops.
     pub(crate) fn look_at_all(
         &mut self,
         alloc: Global,
@@ -291,6 +300,7 @@ impl Tables {
                 return Ok(false);
             }
         }
+        // All of the first `most` were looked at: are there more?
         Ok(self.states.len() <= most)
     }
 
@@ -317,7 +327,7 @@ impl Tables {
         Ok(ended)
     }
 
-    // An end, with what was seen of it. The error is refused memory.
+    // An end, with when it was and what was seen. The error is refused memory.
     fn seen_of(&self, alloc: Global, told: Told) -> Result<Seen, AllocError>
         ensures { IfOk result (λ s. end_seen s ≡ outcome_at self.now told) }
     {
@@ -329,7 +339,7 @@ impl Tables {
         })
     }
 
-    // The end, with what was seen of it, if the claim fails there. The error is refused memory.
+    // The end, with when it was and what was seen, if the claim fails there. The error is refused memory.
     fn failing_at(
         &self,
         alloc: Global,
@@ -347,7 +357,7 @@ impl Tables {
         }
     }
 
-    // The first end at which the claim fails. The error is refused memory.
+    // The first end, in the order in which they were found, at which the claim fails. The error is refused memory.
     pub(crate) fn first_failing(
         &self,
         alloc: Global,

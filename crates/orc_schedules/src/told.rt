@@ -1,4 +1,4 @@
-//! Ends that were found.
+//! Ends that were found, each as how it ended and a number.
 
 ghost use Rattle.std.specs.Prelude.{◌≡◌, true};
 
@@ -6,7 +6,7 @@ use crate::once::Hashed;
 use orc_outcome::End;
 use orc_search::node::mix;
 
-/// An end: how a run ended, and the number of the list of what was seen of it.
+/// An end: how a run ended, and the number of the list of what was seen in it (`Lists`).
 #[derive(Clone, Copy, PartialEq, Eq)]
 pub struct Told {
     pub end: End,

@@ -1,4 +1,5 @@
-//! What a search keeps of what happens, so that it can tell of a claim.
+//! What a search watches for, so that it can tell whether a claim holds: what the claim's events name, and times up to the latest that it tells
+//! apart.
 
 ghost use Rattle.std.specs.Prelude.{◌≡◌, ◌++◌, ◌∷◌, [], IfOk, OnOk};
 ghost use Rattle.orc_claims.specs.declared.happening.Occurrence.{Occurrence as What};
@@ -9,13 +10,13 @@ use orc_claims::happening::{Occurrence, Phase};
 use std::alloc::{AllocError, Global};
 use std::marker::Model;
 
-/// What a search keeps of what happens: calls of these sites of which the same became, and publications, with times up to a latest one. Arguments and
-/// values don't matter.
+/// What a search keeps of what happens for a claim: what became of calls of the sites that the claim names, if it names such an end of them, and
+/// publications, if it names any. Arguments and values don't matter: what differs in them alone is kept too.
 #[derive(Drop)]
 pub struct Watch {
-    // Their slots are left out.
+    // What the claim's events name, one after another; their slots are left out.
     names: Vec<Simple>,
-    // Behind it all times are one.
+    // The latest time that is told apart: every later one counts as this one.
     latest: u64,
 }
 
@@ -27,7 +28,7 @@ impl Model for Watch {
     ghost view = { λ w. record { names = w.names.items; latest = w.latest } };
 }
 
-// Whether the same became of a call as was wanted. A cancel is never the same.
+// Whether this is what was wanted to become of a call, whatever the value. Never for a cancel, which a search doesn't see.
 fn is_same_phase(wanted: Wanted, phase: Phase) -> bool
     ensures { result ≡ is_same_phase wanted phase }
 {
@@ -52,7 +53,7 @@ fn names_it(name: &Simple, what: &Occurrence) -> bool
     }
 }
 
-// Whether no cancel is wanted.
+// Whether a search can see this: it isn't a cancel.
 fn sees(name: &Simple) -> bool
     ensures { result ≡ sees name.now }
 {
@@ -62,6 +63,7 @@ fn sees(name: &Simple) -> bool
     }
 }
 
+// Whether a search can see all of these.
 fn all_seen(names: &[Simple]) -> bool
     ensures { result ≡ all_seen names.now }
 {
@@ -79,7 +81,7 @@ fn all_seen(names: &[Simple]) -> bool
     }
 }
 
-// Whether a claim without conditions doesn't count the calls that are out at once.
+// Whether a claim is another one than `at most .. at once`, for which a search would have to keep which calls are pending.
 fn counts_none_out(plain: &Plain) -> bool
     ensures { result ≡ counts_none_out plain.now }
 {
@@ -89,6 +91,7 @@ fn counts_none_out(plain: &Plain) -> bool
     }
 }
 
+// The latest time that a `by` tells apart: the first one after it. Without a `by` no times are.
 fn latest_by(by: Option<u64>) -> u64
     ensures { result ≡ latest_by by }
 {
@@ -98,6 +101,7 @@ fn latest_by(by: Option<u64>) -> u64
     }
 }
 
+// The latest time that a `within` tells apart: all are told apart, since it may count from any of them.
 fn latest_within(within: Option<u64>) -> u64
     ensures { result ≡ latest_within within }
 {
@@ -107,7 +111,7 @@ fn latest_within(within: Option<u64>) -> u64
     }
 }
 
-// Up to this time a claim without conditions tells times apart.
+// The latest time that a claim tells apart. Its conditions ask for no time.
 fn latest_of(plain: &Plain) -> u64
     ensures { result ≡ latest_of_plain plain.now }
 {
@@ -119,7 +123,7 @@ fn latest_of(plain: &Plain) -> u64
     }
 }
 
-// What names the same, without its slots.
+// What names the same, without its slots, so that it needs no memory.
 fn outline(alloc: Global, name: &Simple) -> Simple
     ensures names { (w : What) → names_it result w ≡ names_it name.now w }
     ensures seen { sees result ≡ sees name.now }
@@ -131,7 +135,7 @@ fn outline(alloc: Global, name: &Simple) -> Simple
 }
 
 impl Watch {
-    // Nothing is kept.
+    // A watch that keeps nothing.
     fn nothing(alloc: Global) -> Watch
         ensures { result.names ≡ [] }
     {
@@ -141,14 +145,14 @@ impl Watch {
         }
     }
 
-    // Tells times apart up to this one.
+    // Has it tell times apart up to this one.
     fn tell_until(&mut self, latest: u64)
         ensures { self.new ≡ record { names = self.old.names; latest = latest } }
     {
         self.latest = latest;
     }
 
-    // Keeps what this names too. The error is refused memory.
+    // Has it keep what this names too. The error is refused memory, here and below.
     fn add(&mut self, alloc: Global, name: &Simple) -> Result<(), AllocError>
         ensures names { OnOk result (NameSame self.new.names (self.old.names ++ name.now ∷ [])) }
         ensures seen { OnOk result (all_seen self.new.names ≡ all_seen (self.old.names ++ name.now ∷ [])) }
@@ -157,7 +161,7 @@ impl Watch {
         Ok(())
     }
 
-    // The same of all that an event names.
+    // Has it keep what an event names too.
     fn add_event(&mut self, alloc: Global, event: &Event) -> Result<(), AllocError>
         ensures names { OnOk result (NameSame self.new.names (self.old.names ++ event.now.alternatives.items)) }
         ensures seen { OnOk result (all_seen self.new.names ≡ all_seen (self.old.names ++ event.now.alternatives.items)) }
@@ -174,7 +178,7 @@ impl Watch {
         }
     }
 
-    // The same of two events.
+    // Has it keep what two events name too.
     fn add_events(&mut self, alloc: Global, event: &Event, other: &Event) -> Result<(), AllocError>
         ensures names { OnOk result (NameSame self.new.names (self.old.names ++ (event.now.alternatives.items ++ other.now.alternatives.items))) }
         ensures seen { OnOk result (all_seen self.new.names ≡ all_seen (self.old.names ++ (event.now.alternatives.items ++ other.now.alternatives.items))) }
@@ -184,7 +188,7 @@ impl Watch {
         Ok(())
     }
 
-    // The same of a claim without conditions.
+    // Has it keep what a claim without its conditions names too. One on values needs all publications, one on the end nothing.
     fn add_plain(&mut self, alloc: Global, plain: &Plain) -> Result<(), AllocError>
         ensures names { OnOk result (NameSame self.new.names (self.old.names ++ watched_plain plain.now)) }
         ensures seen { OnOk result (all_seen self.new.names ≡ all_seen (self.old.names ++ watched_plain plain.now)) }
@@ -201,7 +205,7 @@ impl Watch {
         }
     }
 
-    // The same of conditions.
+    // Has it keep what conditions name too.
     fn add_conditions(&mut self, alloc: Global, conditions: &[Condition]) -> Result<(), AllocError>
         ensures names { OnOk result (NameSame self.new.names (self.old.names ++ watched_conditions conditions.now)) }
         ensures seen { OnOk result (all_seen self.new.names ≡ all_seen (self.old.names ++ watched_conditions conditions.now)) }
@@ -218,7 +222,7 @@ impl Watch {
         }
     }
 
-    // All that a claim names.
+    // A watch for all that a claim names, be it something that a search can see or not.
     fn of_all(alloc: Global, claim: &Claim) -> Result<Watch, AllocError>
         ensures names { IfOk result (λ w. NameSame w.names (watched claim.now)) }
         ensures seen { IfOk result (λ w. all_seen w.names ≡ all_seen (watched claim.now)) }
@@ -231,15 +235,15 @@ impl Watch {
         Ok(watch)
     }
 
-    // Whether none of them is a cancel.
+    // Whether a search can see all that it keeps: nothing of it is a cancel.
     fn sees_all(&self) -> bool
         ensures { result ≡ all_seen self.now.names }
     {
         all_seen(self.names.as_slice())
     }
 
-    /// What a claim depends on; None where a search can't watch for it: it sees a cancel, or counts the calls that are out at once. The error is
-    /// refused memory.
+    /// A watch for all on which it depends whether a claim holds; None if a search can't watch for that: the claim asks for a cancel, or counts the
+    /// calls that are pending at once. The error is refused memory.
     pub fn of_claim(alloc: Global, claim: &Claim) -> Result<Option<Watch>, AllocError>
         ensures { IfOk result (IsWatchOf claim.now) }
     {
@@ -250,7 +254,7 @@ impl Watch {
         Ok(Some(watch))
     }
 
-    /// Publications alone, without times. The error is refused memory.
+    /// A watch for publications alone, without times. The error is refused memory.
     pub fn of_publications(alloc: Global) -> Result<Watch, AllocError>
         ensures { IfOk result (λ w. w ≡ record { names = publications; latest = 0 }) }
     {
@@ -259,14 +263,14 @@ impl Watch {
         Ok(Watch { names, latest: 0 })
     }
 
-    /// Behind this time all times are one.
+    /// The latest time that it tells apart: every later one counts as this one.
     pub fn latest(&self) -> u64
         ensures { result ≡ self.now.latest }
     {
         self.latest
     }
 
-    /// Whether it keeps this.
+    /// Whether it keeps this: what became of a call, whatever the arguments, or a publication. Sites have the numbers that claims have for them.
     pub fn names(&self, what: &Occurrence) -> bool
         ensures { result ≡ is_named self.now.names what.now }
     {
