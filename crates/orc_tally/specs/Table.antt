@@ -1,4 +1,4 @@
--- The table that tells of a test's claims.
+-- The table that a test prints. A claim's section is the place of its case, or None for `always`.
 use Rattle.std.specs.Prelude.{ℕ, zero, suc, List, [], ◌∷◌, ◌++◌, Option, Some, None, Bool, true, false, cond, not, ◌||◌, ◌&&◌, ◌+◌, ◌-◌, ◌%◌, codes, decimal, drop, take, is_some, length, nat_eq, nat_lt}
 use Rattle.std.specs.Char.{is_ascii_whitespace}
 use Rattle.std.specs.List.{prefix_len, suffix_len, slice_get}
@@ -62,7 +62,7 @@ tested_in section claim case (r ∷ rs) = is_tested (told_here section claim cas
 abbrev pub is_full : CaseReport → Bool
 is_full r = nat_eq r.tried r.ways && nat_eq r.cut 0
 
--- so it is in each case against which a claim is held, of the cases from a place on
+-- all ways were tried and no run was cut in each case against which a claim is held, of the cases from a place on
 abbrev pub are_full : Option ℕ → ℕ → List CaseReport → Bool
 are_full section case [] = true
 are_full section case (r ∷ rs) = (not (is_held section case) || is_full r) && are_full section (suc case) rs
@@ -103,13 +103,13 @@ is_of_end _ = false
 abbrev pub is_end : Claim → Bool
 is_end c = nat_eq (length c.conditions.items) 0 && is_of_end c.plain
 
--- one of these claims, with these lines, says so of the runs of the case at this place
+-- one of these claims, each with its line, says so of the runs of the case at this place
 abbrev pub has_end : ℕ → List Claim → List ClaimLine → Bool
 has_end case (c ∷ cs) (l ∷ ls) = (is_held l.case case && is_end c) || has_end case cs ls
 has_end case _ _ = false
 
--- The claim behind those that have a line is that a run ends by itself. It has a row in each case in which no claim says how runs end, where a run of the case
--- fails it.
+-- The claim behind those that have a line is that a run ends by itself. It has a row in each case in which no claim says how runs end, where a run of
+-- the case fails it.
 abbrev pub cut_row : ℕ → Option Shown → List Row
 cut_row claim (Some s) = row.Fails claim (counterexample.Trial s) ∷ []
 cut_row claim None = []
@@ -232,7 +232,7 @@ abbrev pub section_of : Option ClaimLine → Option ℕ
 section_of (Some l) = l.case
 section_of None = None
 
--- the same of a claim that fails in this case; that of one without a line is this one
+-- the section of a claim that fails in this case; that of the one without a line is this case
 abbrev pub section_in : ℕ → Option ClaimLine → Option ℕ
 section_in case (Some l) = l.case
 section_in case None = Some case

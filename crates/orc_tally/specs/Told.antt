@@ -1,4 +1,4 @@
--- What is told of a claim.
+-- What is reported of a claim over the trials of its ways. A trial is what claims see of one run; a way has one for each order.
 use Rattle.std.specs.Prelude.{ℕ, suc, ◌+◌, List, [], ◌∷◌, Option, Some, None, Bool, false, cond, ◌||◌}
 use Rattle.std.specs.List.{count_by, list_any}
 use Rattle.orc_claims.specs.Verdicts.{says_so}
@@ -8,7 +8,7 @@ use Rattle.orc_tally.specs.Sight.{Sight, fails, said, tests}
 use Rattle.orc_tally.specs.declared.told.Failure.{Failure}
 use Rattle.orc_tally.specs.declared.told.Told.{Told}
 
--- the first of two, where there is one
+-- the first one if there is one, and otherwise the other
 abbrev pub first_of : Option Failure → Option Failure → Option Failure
 first_of None other = other
 first_of (Some one) other = Some one
@@ -27,6 +27,7 @@ fails_in c ss = list_any (fails c) ss
 abbrev pub tests_in : Claim → List Sight → Bool
 tests_in c ss = list_any (tests c) ss
 
+-- what is reported of one way, the way of this number
 abbrev pub told_of_way : Claim → ℕ → List Sight → Told
 told_of_way c way ss = record { failing = cond (fails_in c ss) 1 0; first = first_failure c way 0 ss; tested = tests_in c ss }
 
@@ -55,7 +56,7 @@ noted way order t j = cond (says_so j.verdict) (record { failing = t.failing; fi
 abbrev pub joined : Told → Told → Told
 joined t u = record { failing = t.failing + u.failing; first = first_of t.first u.first; tested = t.tested || u.tested }
 
--- the same of each claim
+-- both for each claim
 abbrev pub noted_all : ℕ → ℕ → List Told → List Judged → List Told
 noted_all way order (t ∷ ts) (j ∷ js) = noted way order t j ∷ noted_all way order ts js
 noted_all way order _ _ = []

@@ -1,9 +1,9 @@
-//! What is told of claims is true.
+//! What is reported of claims is true: a law of the definitions, whose function has no body.
 
 ghost use Rattle.orc_tally.specs.Laws.{ToldIsTrue};
 
-/// What is told of a claim is true of the trials: in how many ways it fails, that the failure that is told is one and no way before has one, and whether
-/// it was put to the test.
+/// What is reported of a claim is true of the trials: in how many ways it fails; that the first failure is one, and that no way before has one, nor
+/// the same way in an order before; and whether the claim was put to the test.
 pub fn told_is_true()
     ensures { ToldIsTrue }
 {}

@@ -1,4 +1,7 @@
-//! What claims see of runs, and what is told of them where there are many runs.
+//! What claims see of a run, what is reported of them over many runs, and the table that a test prints.
+//!
+//! A *trial* is one run in some way and some order. `Told` is what is reported of one claim over trials: it grows trial by trial (`noted`) and way by
+//! way (`joined`), and `Report` makes rows of it and of what a search through all schedules found.
 #![tactic(auto)]
 
 pub mod laws;

@@ -1,4 +1,5 @@
-//! What claims see of a run.
+//! What claims see of a run: its happenings, with the numbers that claims have for sites. A program's table numbers sites by name, a test by name and
+//! number of arguments.
 
 ghost use Rattle.std.specs.Prelude.{◌≡◌, ◌<◌, ◌^◌, length, map, IfOk, Some};
 ghost use Rattle.std.specs.List.{slice_get};
@@ -10,14 +11,16 @@ use orc_journal::Journal;
 use orc_rules::entry::Entry;
 use std::alloc::{AllocError, Global};
 
-/// A site as claims name it: by its number in the program's table, with so many arguments. The place among these is the number that claims have for it.
+/// A site as claims name it. Its place in the list of those that a test names, from 0, is the number that claims have for it.
 #[derive(Clone, Copy, PartialEq, Eq, Debug)]
 pub struct ClaimSite {
+    /// Its number in the program's table.
     pub site: u32,
     pub arguments: usize,
 }
 
-/// The number that claims have for a site with so many arguments: its place among these, or one past the last where they name none such.
+/// The number that claims have for a site of the program's table with so many arguments: its place among these, from 0, or their number if it isn't
+/// among them.
 pub fn claim_number(sites: &[ClaimSite], site: u32, arguments: usize) -> u32
     requires { length sites.now < 2 ^ 32 }
     ensures { result ≡ number_from 0 sites.now site arguments }
@@ -59,11 +62,12 @@ fn entry_at(journal: &Journal, at: usize) -> Entry
 {
     match journal.get(at) {
         Some(entry) => entry,
+        // The place is below the journal's length.
         None => unreachable!(),
     }
 }
 
-/// The happenings of a journal, whose sites have the numbers that claims have for them. The error is refused memory, also where there are 2^32 sites.
+/// The happenings of a journal, whose sites get the numbers that claims have for them. The error is refused memory, also if claims name 2^32 sites.
 pub fn happenings_of(
     alloc: Global,
     sites: &[ClaimSite],
@@ -71,6 +75,7 @@ pub fn happenings_of(
 ) -> Result<Happenings, AllocError>
     ensures { IfOk result (λ h. h ≡ told_all begin (map (renumbered sites.now) journal.now.entries)) }
 {
+    // One past the last is a number too, and has to fit 32 bits.
     if sites.len() > u32::MAX as usize {
         return Err(AllocError);
     }

@@ -1,4 +1,4 @@
-//! The table that tells of a test's claims.
+//! The table that `orc test` prints of a test: first its rows, then their text. A claim's *section* is the place of its case, or None for `always`.
 
 ghost use Rattle.std.specs.Prelude.{◌≡◌, ◌++◌, IfOk, IfSome, OnOk, Some, codes, length, map, true};
 ghost use Rattle.std.specs.List.{slice_get};
@@ -9,7 +9,7 @@ use orc_claims::claim::{Claim, Plain};
 use orc_ways::test::{ClaimLine, Test};
 use std::alloc::{AllocError, Global};
 
-/// What is told of a case.
+/// What is reported of a case.
 #[derive(Drop)]
 pub struct CaseReport {
     /// How many ways it has.
@@ -18,28 +18,32 @@ pub struct CaseReport {
     pub tried: u64,
     /// How many runs were cut: by the limit, or by one of the engine's.
     pub cut: u64,
-    /// What is told of each claim of the test, whether it stands in the case or not.
+    /// What is reported of each claim over the ways that were tried, be it one of the case or not. The last one may have no line in the test: then it
+    /// is `ends Halted or Quiet`.
     pub told: Vec<Told>,
 }
 
-/// What shows that a claim fails: a run in a way of the case at this place.
+/// A trial in which a claim fails.
 #[derive(Clone, Copy)]
 pub struct Shown {
+    /// The place of its case, from 0.
     pub case: usize,
     pub failure: Failure,
 }
 
-/// What a search found a schedule in that breaks a claim: this way, from 0, of the case at this place.
+/// A way in which a search found a schedule that breaks a claim.
 #[derive(Clone, Copy, PartialEq, Eq, Debug)]
 pub struct Broken {
+    /// The place of its case, from 0.
     pub case: usize,
+    /// The number of the way in the case, from 0.
     pub way: u64,
 }
 
 /// What came of the search through all schedules for a claim.
 #[derive(Clone, Copy, PartialEq, Eq, Debug)]
 pub enum Searched {
-    /// Nothing: it wasn't made, or came to no end.
+    /// Nothing: it wasn't made, or stopped before it had looked at all states.
     No,
     /// Every schedule of every way keeps it: it holds in each run that ends by itself.
     Whole,
@@ -52,7 +56,7 @@ pub enum Searched {
 pub enum Counterexample {
     /// A run in some order.
     Trial(Shown),
-    /// A schedule that none of these orders took.
+    /// A schedule that no order took which was tried.
     Schedule(Broken),
 }
 
@@ -78,7 +82,7 @@ impl Counterexample {
     }
 }
 
-/// A line of the table.
+/// A line of the table. A claim is its place in the test, from 0; the one at the place behind the last line of a claim is `ends Halted or Quiet`.
 #[derive(Clone, Copy)]
 pub enum Row {
     /// The claims of the case at this place begin.
@@ -97,26 +101,30 @@ pub enum Row {
     Fails(usize, Counterexample),
 }
 
-/// How a command line names the program and the test, and its options on which the failures depend, a blank before each.
+/// How the command line names its files, for the commands that the table shows.
 #[derive(Clone, Copy)]
 pub struct Call<'c> {
+    /// The name of the program's file.
     pub source: &'c str,
+    /// The name of the test's file.
     pub test: &'c str,
+    /// The options on which the failures depend, each behind a blank.
     pub options: &'c [u8],
 }
 
-/// What is told of a test, whose ways were run in so many orders each.
+/// All that the table of a test is made of.
 #[derive(Clone, Copy)]
 pub struct Report<'r, 'a> {
     pub test: &'r Test<'a>,
     /// One for each case.
     pub cases: &'r [CaseReport],
+    /// In how many orders each way was run.
     pub orders: u64,
-    /// One for each claim, in their order. Those that lack here weren't searched for.
+    /// What a search found for each claim, in their order. For claims behind the last of these none was made.
     pub searched: &'r [Searched],
 }
 
-/// Whether a claim of this case, or of `always`, is held against the runs of the case at this place.
+/// Whether a claim of this section is held against the runs of the case at this place: one of the case itself, or of `always`.
 pub fn is_held(section: Option<usize>, case: usize) -> bool
     ensures { result ≡ is_held section case }
 {
@@ -126,7 +134,7 @@ pub fn is_held(section: Option<usize>, case: usize) -> bool
     }
 }
 
-// Whether both stand in the same case, or both below `always`.
+// Whether both sections are the same case, or both `always`.
 fn is_same(section: Option<usize>, other: Option<usize>) -> bool
     ensures { result ≡ is_same section other }
 {
@@ -137,7 +145,7 @@ fn is_same(section: Option<usize>, other: Option<usize>) -> bool
     }
 }
 
-// What is told of a claim in a case that is held against its runs.
+// What is reported of a claim over a case; None if it isn't held against the runs of the case.
 fn told_here(section: Option<usize>, claim: usize, case: usize, report: &CaseReport) -> Option<Told>
     ensures { result ≡ told_here section claim case report.now }
 {
@@ -148,6 +156,7 @@ fn told_here(section: Option<usize>, claim: usize, case: usize, report: &CaseRep
     }
 }
 
+// The first failure, if something is reported and there is one.
 fn failure_of(told: Option<Told>) -> Option<Failure>
     ensures { result ≡ failure_of told }
 {
@@ -157,6 +166,7 @@ fn failure_of(told: Option<Told>) -> Option<Failure>
     }
 }
 
+// Whether something is reported, and the claim was put to the test.
 fn is_tested(told: Option<Told>) -> bool
     ensures { result ≡ is_tested told }
 {
@@ -166,7 +176,7 @@ fn is_tested(told: Option<Told>) -> bool
     }
 }
 
-// What shows that a claim fails: its first failure in the first case that has one.
+// The first failure of a claim, in the first case that has one; None if no trial shows one.
 fn shown_in(section: Option<usize>, claim: usize, cases: &[CaseReport]) -> Option<Shown>
     ensures { result ≡ shown_in section claim 0 cases.now }
 {
@@ -213,7 +223,7 @@ fn is_full(report: &CaseReport) -> bool
     report.tried == report.ways && report.cut == 0
 }
 
-// Whether it is so in each case against which a claim is held.
+// Whether all ways were tried and no run was cut, in each case against which a claim of this section is held.
 fn are_full(section: Option<usize>, cases: &[CaseReport]) -> bool
     ensures { result ≡ are_full section 0 cases.now }
 {
@@ -233,14 +243,15 @@ fn are_full(section: Option<usize>, cases: &[CaseReport]) -> bool
     }
 }
 
-/// Whether a claim failed in no run while no run was left out: all ways of the cases against which it is held were tried, and no run was cut.
+/// Whether a search through all schedules may still say more of a claim: it failed in no trial, all ways of the cases against which it is held were
+/// tried, and no run was cut. `section` and `claim` are the claim's.
 pub fn is_open(cases: &[CaseReport], section: Option<usize>, claim: usize) -> bool
     ensures { result ≡ is_open cases.now section claim }
 {
     shown_in(section, claim, cases).is_none() && are_full(section, cases)
 }
 
-// What came of the search for a claim.
+// What came of the search for a claim, `No` if none was made.
 fn found_of(searched: &[Searched], claim: usize) -> Searched
     ensures { result ≡ found_of (slice_get searched.now claim) }
 {
@@ -250,7 +261,7 @@ fn found_of(searched: &[Searched], claim: usize) -> Searched
     }
 }
 
-// The row of a claim that failed in no run.
+// The row of a claim that failed in no trial, by what came of its search.
 fn unshown(claim: usize, tested: bool, searched: Searched) -> Row
     ensures { result ≡ unshown claim tested searched }
 {
@@ -269,6 +280,7 @@ fn unshown(claim: usize, tested: bool, searched: Searched) -> Row
     }
 }
 
+// The row of a claim of this section. A trial in which it fails is shown before a schedule that breaks it.
 fn row_of(cases: &[CaseReport], searched: &[Searched], section: Option<usize>, claim: usize) -> Row
     ensures { result ≡ row_of cases.now searched.now section claim }
 {
@@ -282,7 +294,7 @@ fn row_of(cases: &[CaseReport], searched: &[Searched], section: Option<usize>, c
     }
 }
 
-// Adds the rows of the claims of a section. The error is refused memory.
+// Pushes the rows of those of these claims that are in the section. The error is refused memory.
 fn add_claims(
     cases: &[CaseReport],
     searched: &[Searched],
@@ -308,7 +320,7 @@ fn add_claims(
     }
 }
 
-// Whether it says how a run ends.
+// Whether a claim without its conditions says how a run ends.
 fn is_of_end(plain: &Plain) -> bool
     ensures { result ≡ is_of_end plain.now }
 {
@@ -325,7 +337,7 @@ fn is_end(claim: &Claim) -> bool
     claim.conditions.len() == 0 && is_of_end(&claim.plain)
 }
 
-// Whether one of these claims, with these lines, says so of the runs of the case at this place.
+// Whether one of these claims says so of the runs of the case at this place. Each has a line, in the same order.
 fn has_end(case: usize, claims: &[Claim], lines: &[ClaimLine<'_>]) -> bool
     ensures { result ≡ has_end case claims.now lines.now }
 {
@@ -348,7 +360,7 @@ fn has_end(case: usize, claims: &[Claim], lines: &[ClaimLine<'_>]) -> bool
     }
 }
 
-// Adds the row of a case in which no claim says how runs end, where one of its runs was cut. The error is refused memory.
+// Pushes the row of `ends Halted or Quiet` for a case in which no claim says how runs end, if one of its runs was cut. The error is refused memory.
 fn add_end(
     cases: &[CaseReport],
     claims: &[Claim],
@@ -361,6 +373,7 @@ fn add_end(
     if has_end(case, claims, lines) {
         return Ok(());
     }
+    // The claim behind those that have a line.
     let claim = lines.len();
     match shown_in(Some(case), claim, cases) {
         Some(shown) => {
@@ -372,7 +385,7 @@ fn add_end(
 }
 
 impl Report<'_, '_> {
-    // The rows of the cases.
+    // The rows of the cases: of each its own, then those of its claims. The error is refused memory, here and below.
     fn case_rows(&self, alloc: Global) -> Result<Vec<Row>, AllocError>
         ensures { IfOk result (λ rows. rows.items ≡ case_rows self.now.cases.now self.now.searched.now self.now.test.now.claims.items self.now.test.now.claim_lines.items 0 self.now.cases.now) }
     {
@@ -395,7 +408,7 @@ impl Report<'_, '_> {
         }
     }
 
-    /// The rows: those of each case, and those of `always`. The error is refused memory.
+    /// The rows of the table: those of each case, and those of `always`. The error is refused memory.
     pub fn rows(&self, alloc: Global) -> Result<Vec<Row>, AllocError>
         ensures { IfOk result (λ all. all.items ≡ rows self.now) }
     {
@@ -412,7 +425,7 @@ impl Report<'_, '_> {
     }
 }
 
-/// How many rows tell of a failure.
+/// How many rows are of a claim that fails.
 pub fn failing(rows: &[Row]) -> usize
     ensures { result ≡ failing rows.now }
 {
@@ -431,7 +444,7 @@ pub fn failing(rows: &[Row]) -> usize
     }
 }
 
-// How many rows tell of a claim.
+// How many rows are of a claim.
 fn claims_told(rows: &[Row]) -> usize
     ensures { result ≡ claims_told rows.now }
 {
@@ -450,7 +463,7 @@ fn claims_told(rows: &[Row]) -> usize
     }
 }
 
-/// What shows the failure with this number, from 1, if there are so many.
+/// What shows the failure with this number, from 1 and in the order of the rows; None if there are fewer. This is the K of `--fail K`.
 pub fn failure_at(rows: &[Row], number: u64) -> Option<Counterexample>
     ensures { result ≡ failure_at number rows.now }
 {
@@ -472,7 +485,7 @@ pub fn failure_at(rows: &[Row], number: u64) -> Option<Counterexample>
     }
 }
 
-// What stands before a comment.
+// The part of a line before its comment, which begins with `--`.
 fn before_comment(text: &[u8]) -> &[u8]
     ensures { result.now ≡ before_comment text.now }
 {
@@ -490,14 +503,14 @@ fn before_comment(text: &[u8]) -> &[u8]
     }
 }
 
-// Without the blanks round it.
+// A text without the blanks at its beginning and its end.
 fn trimmed(text: &[u8]) -> &[u8]
     ensures { result.now ≡ trimmed text.now }
 {
     text.trim_ascii()
 }
 
-/// A claim as its line has it, without a comment and the blanks round it.
+/// A claim as its line has it, without a comment and without the blanks at its beginning and its end.
 pub fn claim_text<'a>(line: &ClaimLine<'a>) -> &'a [u8]
     ensures { result.now ≡ claim_at (Some line.now) }
 {
@@ -505,6 +518,7 @@ pub fn claim_text<'a>(line: &ClaimLine<'a>) -> &'a [u8]
 }
 
 impl Report<'_, '_> {
+    // The name of a case; nothing if there is none at this place.
     fn write_name(&self, case: usize, text: &mut Vec<u8>) -> Result<(), AllocError>
         ensures { OnOk result (text.new.items ≡ text.old.items ++ name_at (slice_get self.now.test.now.cases.items case)) }
     {
@@ -514,6 +528,7 @@ impl Report<'_, '_> {
         }
     }
 
+    // The text of a claim; the one without a line is `ends Halted or Quiet`.
     fn write_claim(&self, claim: usize, text: &mut Vec<u8>) -> Result<(), AllocError>
         ensures { OnOk result (text.new.items ≡ text.old.items ++ claim_at (slice_get self.now.test.now.claim_lines.items claim)) }
     {
@@ -523,6 +538,7 @@ impl Report<'_, '_> {
         }
     }
 
+    // How many ways a case has, and how many of them were tried if not all.
     fn write_ways(&self, alloc: Global, case: usize, text: &mut Vec<u8>) -> Result<(), AllocError>
         ensures { OnOk result (text.new.items ≡ text.old.items ++ case_ways (slice_get self.now.cases.now case)) }
     {
@@ -576,7 +592,7 @@ impl Report<'_, '_> {
         self.write_name(case, text)
     }
 
-    // In how many ways a claim fails, of each case in which it does.
+    // In how many ways a claim fails, for each case in which it does: `27 of 378 ways of slow, 5 of 48 ways of anything`
     fn write_shares(
         &self,
         alloc: Global,
@@ -606,7 +622,7 @@ impl Report<'_, '_> {
         }
     }
 
-    // The case in which a schedule breaks a claim.
+    // `a way of slow, in a schedule that no order showed`
     fn write_schedule(&self, case: usize, text: &mut Vec<u8>) -> Result<(), AllocError>
         ensures { OnOk result (text.new.items ≡ text.old.items ++ schedule_text self.now case) }
     {
@@ -616,7 +632,7 @@ impl Report<'_, '_> {
         Ok(())
     }
 
-    // Where a claim fails.
+    // In what a claim fails: ways of cases, or a schedule.
     fn write_share(
         &self,
         alloc: Global,
@@ -634,7 +650,7 @@ impl Report<'_, '_> {
         }
     }
 
-    // The line of a claim that fails.
+    // The line of a claim that fails: `  FAILS  no A()    27 of 378 ways of slow`
     fn write_failure(
         &self,
         alloc: Global,
@@ -652,7 +668,7 @@ impl Report<'_, '_> {
         Ok(())
     }
 
-    // The case of a claim that fails in a case.
+    // The section of a claim that fails in this case. The one without a line is held against each case by itself.
     fn section(&self, claim: usize, case: usize) -> Option<usize>
         ensures { result ≡ section_in case (slice_get self.now.test.now.claim_lines.items claim) }
     {
@@ -662,7 +678,7 @@ impl Report<'_, '_> {
         }
     }
 
-    // The line of a claim that holds.
+    // The line of a claim that holds: `  ok     no A()    (every schedule)`
     fn write_success(
         &self,
         claim: usize,
@@ -682,6 +698,7 @@ impl Report<'_, '_> {
         text.extend_from_slice(note.as_bytes())
     }
 
+    // The line of a row.
     fn write_row(&self, alloc: Global, row: Row, text: &mut Vec<u8>) -> Result<(), AllocError>
         ensures { OnOk result (text.new.items ≡ text.old.items ++ row_text self.now row) }
     {
@@ -697,7 +714,7 @@ impl Report<'_, '_> {
         }
     }
 
-    // The lines of rows, each failure with its details below it.
+    // The lines of rows, each failure with its details below it, which come in the order of the failures.
     fn write_rows(
         &self,
         alloc: Global,
@@ -726,8 +743,9 @@ impl Report<'_, '_> {
         }
     }
 
-    /// The table: a line that names the test and its program, a line for each case and each claim, below each that fails its details, which come in the order of
-    /// the rows, a line that tells how many fail, and where some do the commands that show the first. The error is refused memory.
+    /// The text of the table: a line that names the test and its program; a line for each row, below each failure its details; a line that says how
+    /// many claims fail; and, if some do, the commands that show the first failure. `details` has whole lines for each failure, in the order of the
+    /// rows; one that is missing is left out. The error is refused memory.
     pub fn table(
         &self,
         alloc: Global,
@@ -749,7 +767,7 @@ impl Report<'_, '_> {
 }
 
 impl Call<'_> {
-    // The first line.
+    // The first line: `charge.test, on charge.orc`
     fn write_title(&self, text: &mut Vec<u8>) -> Result<(), AllocError>
         ensures { OnOk result (text.new.items ≡ text.old.items ++ title_text self.now.source.now self.now.test.now) }
     {
@@ -760,7 +778,7 @@ impl Call<'_> {
         Ok(())
     }
 
-    // The command that shows the first failure.
+    // The command that writes the script of the first failure: `orc test charge.orc charge.test --fail 1`
     fn write_call(&self, text: &mut Vec<u8>) -> Result<(), AllocError>
         ensures { OnOk result (text.new.items ≡ text.old.items ++ call_text self.now.source.now self.now.test.now self.now.options.now) }
     {
@@ -772,7 +790,7 @@ impl Call<'_> {
         text.extend_from_slice(b" --fail 1")
     }
 
-    // The commands that show it.
+    // The two lines with the commands that show the first failure.
     fn write_commands(&self, text: &mut Vec<u8>) -> Result<(), AllocError>
         ensures { OnOk result (text.new.items ≡ text.old.items ++ commands_text self.now.source.now self.now.test.now self.now.options.now) }
     {
@@ -786,7 +804,7 @@ impl Call<'_> {
         Ok(())
     }
 
-    // The last lines.
+    // The last lines: those commands, or nothing if no claim fails.
     fn write_hint(&self, failing: usize, text: &mut Vec<u8>) -> Result<(), AllocError>
         ensures { OnOk result (text.new.items ≡ text.old.items ++ hint_text self.now.source.now self.now.test.now self.now.options.now failing) }
     {
@@ -797,7 +815,7 @@ impl Call<'_> {
     }
 }
 
-// Whether a comma stands before so many digits.
+// Whether a comma stands before the last so many digits of a number.
 fn is_grouped(digits: usize) -> bool
     ensures { result ≡ is_grouped digits }
 {
@@ -824,6 +842,7 @@ fn write_number(alloc: Global, number: u64, text: &mut Vec<u8>) -> Result<(), Al
     }
 }
 
+// `, 20 orders each`
 fn write_many(alloc: Global, orders: u64, text: &mut Vec<u8>) -> Result<(), AllocError>
     ensures { OnOk result (text.new.items ≡ text.old.items ++ (codes ", " ++ (number_text orders ++ codes " orders each"))) }
 {
@@ -833,6 +852,7 @@ fn write_many(alloc: Global, orders: u64, text: &mut Vec<u8>) -> Result<(), Allo
     Ok(())
 }
 
+// In how many orders each way was run.
 fn write_orders(alloc: Global, orders: u64, text: &mut Vec<u8>) -> Result<(), AllocError>
     ensures { OnOk result (text.new.items ≡ text.old.items ++ orders_text orders) }
 {
@@ -842,7 +862,7 @@ fn write_orders(alloc: Global, orders: u64, text: &mut Vec<u8>) -> Result<(), Al
     write_many(alloc, orders, text)
 }
 
-// How many ways there are, and how many were tried where it isn't all.
+// How many ways there are, and how many were tried if not all: `: 2 of 1,728 ways`
 fn write_ways(alloc: Global, ways: u64, tried: u64, text: &mut Vec<u8>) -> Result<(), AllocError>
     ensures { OnOk result (text.new.items ≡ text.old.items ++ ways_text ways tried) }
 {
@@ -860,7 +880,7 @@ fn write_ways(alloc: Global, ways: u64, tried: u64, text: &mut Vec<u8>) -> Resul
     text.extend_from_slice(b" ways")
 }
 
-// How many ways all cases have. None where they are too many to be counted.
+// How many ways all cases have together; None if 2^64 or more.
 fn all_ways(cases: &[CaseReport]) -> Option<u64>
     ensures { IfSome result (λ n. n ≡ all_ways cases.now) }
 {
@@ -877,7 +897,7 @@ fn all_ways(cases: &[CaseReport]) -> Option<u64>
     }
 }
 
-// How many of them were tried.
+// How many ways of all cases were tried; None if 2^64 or more.
 fn all_tried(cases: &[CaseReport]) -> Option<u64>
     ensures { IfSome result (λ n. n ≡ all_tried cases.now) }
 {
@@ -894,6 +914,7 @@ fn all_tried(cases: &[CaseReport]) -> Option<u64>
     }
 }
 
+// In how many ways a claim fails, 0 if nothing is reported of it.
 fn failing_in(told: Option<Told>) -> u64
     ensures { result ≡ failing_in told }
 {
@@ -903,13 +924,14 @@ fn failing_in(told: Option<Told>) -> u64
     }
 }
 
+// What stands before an item of a list.
 fn comma(is_first: bool) -> &'static str
     ensures { result.now ≡ comma is_first }
 {
     if is_first { "" } else { ", " }
 }
 
-/// The end of the line of a claim that holds.
+/// The end of the line of a claim that held in each run, with its LF: whether it was put to the test.
 pub fn note(tested: bool) -> &'static str
     ensures { result.now ≡ note tested }
 {
@@ -920,7 +942,7 @@ pub fn note(tested: bool) -> &'static str
     }
 }
 
-// The same of one that every schedule keeps.
+// The end of the line of a claim that every schedule keeps, with its LF.
 fn whole_note(tested: bool) -> &'static str
     ensures { result.now ≡ whole_note tested }
 {
@@ -931,7 +953,7 @@ fn whole_note(tested: bool) -> &'static str
     }
 }
 
-/// Writes how many of so many claims fail. The error is refused memory.
+/// Writes the line that says how many of so many claims fail: `fails: 1 of 2 claims`, or `ok: 2 claims`. The error is refused memory.
 pub fn write_sum(
     alloc: Global,
     failing: usize,

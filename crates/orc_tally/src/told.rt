@@ -1,4 +1,4 @@
-//! What is told of a claim.
+//! What is reported of a claim over many trials.
 
 ghost use Rattle.std.specs.Prelude.{◌≡◌, map, IfOk, IfSome};
 ghost use Rattle.orc_tally.specs.Told.{first_of, joined, joined_all, noted, noted_all, nothing};
@@ -18,10 +18,10 @@ pub struct Failure {
     pub verdict: Verdict,
 }
 
-/// What is told of a claim.
+/// What is reported of a claim over the trials of some ways of a case.
 #[derive(Clone, Copy, PartialEq, Eq, Debug)]
 pub struct Told {
-    /// In how many ways it fails in some order.
+    /// In how many ways it fails in some order: a way counts once.
     pub failing: u64,
     /// The first failure: no way before it has one, nor its way in an order before.
     pub first: Option<Failure>,
@@ -29,14 +29,14 @@ pub struct Told {
     pub tested: bool,
 }
 
-/// What is told of a claim before the first trial.
+/// What is reported of a claim before the first trial.
 const NOTHING: Told = Told {
     failing: 0,
     first: None,
     tested: false,
 };
 
-// The first of two, where there is one.
+// The first one if there is one, and otherwise the other.
 fn first_of(one: Option<Failure>, other: Option<Failure>) -> Option<Failure>
     ensures { result ≡ first_of one other }
 {
@@ -47,7 +47,7 @@ fn first_of(one: Option<Failure>, other: Option<Failure>) -> Option<Failure>
 }
 
 impl Told {
-    // What is told of one way with one trial more, in this order.
+    // What is reported of one way with one trial more of it, in this order, where `self` is what the orders before gave.
     fn noted(self, way: u64, order: u64, judged: Judged) -> Told
         ensures { result ≡ noted way order self judged }
     {
@@ -58,6 +58,7 @@ impl Told {
                 first: self.first,
                 tested,
             },
+            // One way is 1, in however many orders it fails.
             verdict => Told {
                 failing: 1,
                 first: first_of(
@@ -73,7 +74,7 @@ impl Told {
         }
     }
 
-    // What is told of some ways and then of others. None where they are too many to be counted.
+    // What is reported of some ways and of others behind them together. None if 2^64 ways fail.
     fn joined(self, others: Told) -> Option<Told>
         ensures { IfSome result (λ t. t ≡ joined self others) }
     {
@@ -86,7 +87,7 @@ impl Told {
     }
 }
 
-/// What is told of claims before the first trial. The error is refused memory.
+/// What is reported of claims before the first trial, for each claim. The error is refused memory.
 pub fn nothing_told(alloc: Global, claims: &[Claim]) -> Result<Vec<Told>, AllocError>
     ensures { IfOk result (λ all. all.items ≡ map (λ c. nothing) claims.now) }
 {
@@ -97,7 +98,8 @@ pub fn nothing_told(alloc: Global, claims: &[Claim]) -> Result<Vec<Told>, AllocE
     Ok(all)
 }
 
-/// What is told of one way with one trial more. The error is refused memory.
+/// What is reported of each claim over one way with one trial more of it: `told` is what the orders before gave, and `judged` what the claims say of
+/// the run in this order. Way and order are counted from 0. The error is refused memory.
 pub fn noted(
     alloc: Global,
     way: u64,
@@ -125,7 +127,7 @@ pub fn noted(
     }
 }
 
-/// What is told of some ways and then of others. The error is refused memory.
+/// What is reported of each claim over some ways and others behind them together. The error is refused memory.
 pub fn joined(alloc: Global, told: &[Told], others: &[Told]) -> Result<Vec<Told>, AllocError>
     ensures { IfOk result (λ all. all.items ≡ joined_all told.now others.now) }
 {
