@@ -29,7 +29,7 @@ counts e by h = is_met e h && up_to by h.time
 abbrev pub number : Event → Option ℕ → List Happening → ℕ
 number e by hs = count_by (counts e by) hs
 
--- one call more is out where one is made that meets the event, and one less where such a call ends
+-- a call that is made and meets the event is one more that pends, and one less where such a call ends
 abbrev pub out_by : Event → ℕ → Happening → Occurrence → ℕ
 out_by e n h (what.Call m args phase.Called) = cond (is_met e h) (suc n) n
 out_by e n h (what.Call m args p) = cond (is_met e (record { time = h.time; what = what.Call m args phase.Called })) (n - 1) n
@@ -38,7 +38,7 @@ out_by e n h (what.Published v) = n
 abbrev pub out_after : Event → ℕ → Happening → ℕ
 out_after e n h = out_by e n h h.what
 
--- how many calls that meet the event are out after these happenings, where so many were before
+-- how many calls that meet the event pend after these happenings, where so many did before
 abbrev pub out : Event → ℕ → List Happening → ℕ
 out e n [] = n
 out e n (h ∷ hs) = out e (out_after e n h) hs
@@ -64,7 +64,7 @@ any_forbids e h f (x ∷ xs) = is_met_with e h (meets f x []) || any_forbids e h
 abbrev pub is_counted : Event → Option ℕ → Option ℕ → List Happening → Happening → List Happening → Bool
 is_counted e most by before h behind = not (counts e by h) || up_to most (suc (number e by before))
 
--- with it not too many are out
+-- with it not too many pend
 abbrev pub is_uncrowded : Event → ℕ → List Happening → Happening → List Happening → Bool
 is_uncrowded e most before h behind = leb (out_after e (out e 0 before) h) most
 
@@ -99,11 +99,11 @@ abbrev pub published : List Happening → List Value
 published [] = []
 published (h ∷ hs) = published_by h.what ++ published hs
 
--- how often a value is one of these
+-- how often a value is among these
 abbrev pub times : Value → List Value → ℕ
 times v vs = count_by (value_eq v) vs
 
--- each of the first values is one of the others as often as one of these
+-- each of the first values is as often among the second as among the third
 abbrev pub each_as_often : List Value → List Value → List Value → Bool
 each_as_often [] vs ws = true
 each_as_often (x ∷ xs) vs ws = nat_eq (times x vs) (times x ws) && each_as_often xs vs ws
@@ -121,6 +121,7 @@ abbrev pub is_one_of : List Value → List Value → Bool
 is_one_of vs (w ∷ []) = is_among w vs
 is_one_of vs _ = false
 
+-- the run ended in an allowed way
 abbrev pub ends_so : Bool → Bool → State → Bool
 ends_so halted quiet state.Halted = halted
 ends_so halted quiet state.Quiet = quiet

@@ -52,12 +52,12 @@ meets_one (simple.Call m slots w) (what.Call n args p) given = cond (nat_eq m n)
 meets_one (simple.Published s) (what.Published v) given = fit s v given
 meets_one _ _ given = None
 
--- the first of two, where there is one
+-- the first one if there is one, and otherwise the other
 abbrev pub first_of : Option (List Bound) → Option (List Bound) → Option (List Bound)
 first_of None other = other
 first_of (Some given) other = Some given
 
--- the same of an event: the first thing that the happening meets gives the values
+-- the values with which a happening meets an event: the first thing that it meets gives them
 abbrev pub meets_any : List Simple → Occurrence → List Bound → Option (List Bound)
 meets_any [] w given = None
 meets_any (s ∷ ss) w given = first_of (meets_one s w given) (meets_any ss w given)

@@ -31,7 +31,7 @@ verdict_at (Some at) b = FailsAt at
 verdict_at None true = Holds
 verdict_at None false = FailsAtEnd
 
--- what it asks of the whole run beside that
+-- what it asks of the run as a whole: enough happenings, its end, all that it published
 abbrev pub is_kept : Plain → List Happening → State → ℕ → Bool
 is_kept (Count e low most by) hs end now = leb low (number e by hs)
 is_kept (Ends halted quiet by) hs end now = ends_so halted quiet end && up_to by now
@@ -43,7 +43,7 @@ is_kept _ hs end now = true
 abbrev pub verdict_plain : Plain → List Happening → State → ℕ → Verdict
 verdict_plain p hs end now = verdict_at (place p hs) (is_kept p hs end now)
 
--- so many are none at all
+-- the greatest number is 0: something never happens
 abbrev pub is_none_at_all : Option ℕ → Bool
 is_none_at_all (Some zero) = true
 is_none_at_all _ = false

@@ -1,69 +1,79 @@
-//! What may be claimed of a run.
+//! What may be claimed of a run. docs/testing.md, *Claims*, has the same in words; the comments here show how a test writes each.
 
 use orc_rules::value::Value;
 
-/// What stands in the place of a value: any value, this one, or a variable by its number, which is the same value wherever it stands.
+/// What stands in the place of a value.
 #[derive(Clone, Copy, PartialEq, Eq, Debug)]
 pub enum Slot {
+    /// `_`: any value.
     Any,
+    /// This value.
     Literal(Value),
+    /// A variable by its number: the same value wherever it stands in the claim's two events.
     Variable(u32),
 }
 
 /// What is wanted to become of a call.
 #[derive(Clone, Copy, PartialEq, Eq, Debug)]
 pub enum Wanted {
+    /// It is made.
     Called,
+    /// It is answered with such a value.
     Answered(Slot),
+    /// It halts.
     Halted,
+    /// It is cancelled.
     Cancelled,
 }
 
-/// One thing that may happen: something becomes of a call of a site with such arguments, or such a value is published.
+/// One thing that may happen.
 #[derive(Drop)]
 pub enum Simple {
+    /// This becomes of a call of the site of this number with such arguments.
     Call(u32, Vec<Slot>, Wanted),
+    /// Such a value is published.
     Published(Slot),
 }
 
-/// One of these happens. The first one that a happening meets gives the variables their values.
+/// An event: one of these happens. The first of them that a happening meets gives the variables their values.
 #[derive(Drop)]
 pub struct Event {
     pub alternatives: Vec<Simple>,
 }
 
-/// Whether an event happens in a run, or doesn't.
+/// `if A(_) then`, or `if no A(_) then`: the event happens in the run, or doesn't.
 #[derive(Drop)]
 pub struct Condition {
     pub event: Event,
-    /// Whether it is to happen.
+    /// Whether it is to happen: false behind `no`.
     pub happens: bool,
 }
 
-/// What is claimed of a run that meets the conditions.
+/// A claim without its conditions. Times are in units of logical time; None is no bound.
 #[derive(Drop)]
 pub enum Plain {
-    /// The event happens so often, at least and at most, up to a time.
+    /// `exactly 2 E by 30`, `at most 2 E`, `at least 2 E`, `no E`: the least and the greatest number of happenings that meet the event, up to the
+    /// time.
     Count(Event, u64, Option<u64>, Option<u64>),
-    /// So many calls that meet the event are out at one time, at most.
+    /// `at most 2 E at once`: the greatest number of calls that meet the event and are pending at one moment.
     AtOnce(Event, u64),
-    /// Before each happening that meets the first event one met the second with its values.
+    /// `E only after F`: before each happening that meets E one met F with its values.
     OnlyAfter(Event, Event),
-    /// Behind each happening that meets the second event none meets the first with its values.
+    /// `no E after F`: behind each happening that meets F none meets E with its values.
     NoneAfter(Event, Event),
-    /// Behind each happening that meets the first event one meets the second with its values, so much later at most.
+    /// `each E then F within 5`: behind each happening that meets E one meets F with its values, so much later at most.
     EachThen(Event, Event, Option<u64>),
-    /// The run halts, or comes to be quiet, where that is allowed, up to a time.
+    /// `ends Halted or Quiet by 30`: whether it may end as Halted, whether as Quiet, and by when.
     Ends(bool, bool, Option<u64>),
-    /// These values are published in this order, where none stands for any one.
+    /// `publishes 1 _ 3`: all values that are published, in this order, where None is any value. `publishes nothing` has none.
     InOrder(Vec<Option<Value>>),
-    /// These values are published, each as often as it stands here.
+    /// `publishes 1 2 2 in any order`: all values that are published, each as often as it stands here.
     InAnyOrder(Vec<Value>),
-    /// One value is published, and it is one of these.
+    /// `publishes one of 200 404`: one value is published, and it is one of these.
     OneOf(Vec<Value>),
 }
 
-/// If these conditions are met, so the rest.
+/// A claim: if all these conditions are met in a run, the rest holds in it.
 #[derive(Drop)]
 pub struct Claim {
     pub conditions: Vec<Condition>,

@@ -1,4 +1,4 @@
-//! Claims on how many there are.
+//! Claims on how many happenings there are, in all or at once.
 
 ghost use Rattle.std.specs.Prelude.{◌≡◌, ◌≤◌, ◌<◌, ◌+◌, ◌^◌, [], IfOk};
 ghost use Rattle.orc_claims.specs.Claims.{counts, is_counted, is_uncrowded, number, out_after, up_to};
@@ -20,7 +20,7 @@ pub(crate) fn up_to(most: Option<u64>, number: u64) -> bool
 }
 
 impl Event {
-    // Whether a happening counts: it meets the event, up to the time. The error is refused memory.
+    // Whether a happening counts: it meets the event, at the time `by` at the latest. `found` is only memory. The error is refused memory.
     fn counts(
         &self,
         by: Option<u64>,
@@ -35,7 +35,7 @@ impl Event {
         Ok(up_to(by, happening.time))
     }
 
-    /// How many happenings count. The error is refused memory.
+    /// How many happenings meet the event, at the time `by` at the latest. The error is refused memory.
     pub(crate) fn number(
         &self,
         alloc: Global,
@@ -54,7 +54,8 @@ impl Event {
         Ok(number)
     }
 
-    /// The place of the happening that is one too many. The error is refused memory.
+    /// The place, from 0, of the first happening that meets the event up to the time `by` and is one more than `most`; None if they are not too many.
+    /// The error is refused memory.
     #[tactic(auto, using(crate::proofs::Placed::goes_on, crate::proofs::Placed::stops, crate::proofs::Placed::done))]
     pub(crate) fn first_too_many(
         &self,
@@ -78,7 +79,7 @@ impl Event {
         Ok(None)
     }
 
-    // How many calls that meet the event are out after one happening more. The error is refused memory.
+    // How many calls that meet the event are pending after one happening more, of `out` before it. The error is refused memory.
     fn out_after(
         &self,
         out: u64,
@@ -99,18 +100,22 @@ impl Event {
                 out
             });
         }
+        // The call ends by this happening. Was it one of those that count? The event asks for calls that are made, so it is asked as if it were made
+        // now.
         let called = Happening {
             time: happening.time,
             what: Occurrence::Call(*site, args.copied(), Phase::Called),
         };
         Ok(if self.is_met(&called, found)? {
+            // The journal has the call's beginning too, so it was counted.
             out.saturating_sub(1)
         } else {
             out
         })
     }
 
-    /// The place of the call by which too many are out. The error is refused memory.
+    /// The place, from 0, of the first call by which more than `most` calls that meet the event are pending at one moment; None if there is none. The
+    /// error is refused memory.
     pub(crate) fn first_crowd(
         &self,
         alloc: Global,

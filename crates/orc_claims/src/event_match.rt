@@ -1,4 +1,6 @@
-//! Which happenings meet an event.
+//! Which happenings meet an event, and which values the event's variables get by that.
+//!
+//! A match that fails may have given values to some variables already, so `given` is of no use after false.
 
 ghost use Rattle.std.specs.Prelude.{◌≡◌, cond, Some, None, IfOk, Bool, true, List};
 ghost use Rattle.std.specs.List.{All};
@@ -11,14 +13,14 @@ use orc_rules::builtin::is_same;
 use orc_rules::value::Value;
 use std::alloc::AllocError;
 
-/// A variable with its value.
+/// A variable, by its number, with its value. A list of these has each variable once.
 #[derive(Clone, Copy, PartialEq, Eq)]
 pub struct Bound {
     pub(crate) variable: u32,
     pub(crate) value: Value,
 }
 
-// The value that a variable has.
+// The value that a variable has; None if it has none yet.
 fn value_in(given: &[Bound], variable: u32) -> Option<Value>
     ensures { result ≡ value_in given.now variable }
 {
@@ -36,7 +38,7 @@ fn value_in(given: &[Bound], variable: u32) -> Option<Value>
     }
 }
 
-// Whether these are the same values of the same variables.
+// Whether these are the same variables with the same values, in the same order. Only true is promised to mean it.
 fn are_same(one: &[Bound], other: &[Bound]) -> bool
     ensures { result ≡ true → one.now ≡ other.now }
 {
@@ -59,7 +61,7 @@ fn are_same(one: &[Bound], other: &[Bound]) -> bool
     }
 }
 
-/// Whether these values of variables are known. What is true of all that are known is true of them then.
+/// Whether these values of variables are among those that are known. If so, what is true of all that are known is true of them.
 #[tactic(auto, using(crate::proofs::Known::known_is))]
 pub(crate) fn is_known(known: &[Vec<Bound>], given: &[Bound]) -> bool
     ensures { (p : List BoundOf → Bool) → All (λ k. p k.items ≡ true) known.now → result ≡ true → p given.now ≡ true }
@@ -73,7 +75,8 @@ pub(crate) fn is_known(known: &[Vec<Bound>], given: &[Bound]) -> bool
 }
 
 impl Slot {
-    // Whether the value can stand in the slot. Then the variables have these values. The error is refused memory.
+    // Whether the value can stand in the slot, where `given` are the values that variables have. A variable without a value gets this one. The error
+    // is refused memory, here and below.
     fn fit(self, value: Value, given: &mut Vec<Bound>) -> Result<bool, AllocError>
         ensures { IfOk result (λ fits. fit self value given.old.items ≡ cond fits (Some given.new.items) None) }
     {
@@ -91,7 +94,7 @@ impl Slot {
     }
 }
 
-// The same of slots with a value each.
+// Whether the values can stand in the slots, one in each, and there are as many.
 fn fit_all(slots: &[Slot], values: &[Value], given: &mut Vec<Bound>) -> Result<bool, AllocError>
     ensures { IfOk result (λ fits. fit_all slots.now values.now given.old.items ≡ cond fits (Some given.new.items) None) }
 {
@@ -115,7 +118,7 @@ fn fit_all(slots: &[Slot], values: &[Value], given: &mut Vec<Bound>) -> Result<b
 }
 
 impl Wanted {
-    // The same of what became of a call.
+    // Whether this became of a call that was wanted; the value that was answered can stand in its slot.
     fn fit(self, phase: Phase, given: &mut Vec<Bound>) -> Result<bool, AllocError>
         ensures { IfOk result (λ fits. fit_phase self phase given.old.items ≡ cond fits (Some given.new.items) None) }
     {
@@ -130,7 +133,7 @@ impl Wanted {
 }
 
 impl Simple {
-    // Whether what happened is this. Then the variables have these values. The error is refused memory.
+    // Whether what happened is this. If so, `given` has the values of the variables.
     fn meets(&self, what: &Occurrence, given: &mut Vec<Bound>) -> Result<bool, AllocError>
         ensures { IfOk result (λ met. meets_one self.now what.now given.old.items ≡ cond met (Some given.new.items) None) }
     {
@@ -151,8 +154,8 @@ impl Simple {
 }
 
 impl Event {
-    // Whether a happening meets the event where variables have these values. Then `found` has the values of all variables that have one. The error is
-    // refused memory.
+    // Whether a happening meets the event, where variables have the values `given`. If so, `found` has those and the values that variables got by
+    // this; what it had before is gone. A caller hands it in so that its memory is used again. The error is refused memory.
     pub(crate) fn meets(
         &self,
         happening: &Happening,
@@ -177,7 +180,7 @@ impl Event {
         }
     }
 
-    // Whether a happening meets the event, with any values. The error is refused memory.
+    // Whether a happening meets the event, whatever values the variables get. `found` is only memory. The error is refused memory.
     pub(crate) fn is_met(
         &self,
         happening: &Happening,

@@ -1,4 +1,4 @@
-//! The happenings of a journal.
+//! The happenings of a journal: what those outside see of it.
 
 ghost use Rattle.std.specs.Prelude.{◌≡◌, OnOk, OnErr};
 ghost use Rattle.orc_claims.specs.Happenings.{Told, becomes, begin, calls, made_as, publishes, told};
@@ -9,17 +9,19 @@ use orc_rules::value::{Args, Value};
 use std::alloc::{AllocError, Global};
 use std::marker::Model;
 
-/// A call that was made.
+/// A call that was made: its site, by the number that the journal's entries have for it, and its arguments.
 #[derive(Drop)]
 pub struct Made {
     pub site: u32,
     pub args: Args,
 }
 
-/// The happenings of a journal, entry by entry. An entry takes the same time however long the journal is. A call takes some 900 bytes.
+/// The happenings of a journal, read entry by entry. An entry takes the same time however long the journal is. A call takes some 900 bytes.
 #[derive(Drop)]
 pub struct Happenings {
+    // The time now.
     time: u64,
+    // All calls so far. The journal numbers them from 1 on, so call k is at the place k - 1.
     made: Vec<Made>,
     happened: Vec<Happening>,
 }
@@ -49,14 +51,15 @@ impl Happenings {
         self.happened.as_slice()
     }
 
-    /// The time now.
+    /// The time to which the entries have come.
     pub fn time(&self) -> u64
         ensures { result ≡ self.now.time }
     {
         self.time
     }
 
-    // Something becomes of a call. The error is refused memory, and then nothing changes.
+    // Tells what became of the call of this number; nothing for a number of no call, which no accepted journal has. The error is refused memory, and
+    // then nothing changes.
     fn become_of(&mut self, call: u64, phase: Phase) -> Result<(), AllocError>
         ensures told { OnOk result (self.new ≡ becomes self.old (made_as call self.old.made) phase) }
         ensures refused { OnErr result (self.new ≡ self.old) }
@@ -74,7 +77,7 @@ impl Happenings {
         Ok(())
     }
 
-    // A call is made. The error is refused memory, and then nothing changes.
+    // Tells that a call is made, which gets the next number. The error is refused memory, and then nothing changes.
     fn make(&mut self, site: u32, args: &Args) -> Result<(), AllocError>
         ensures told { OnOk result (self.new ≡ calls self.old site args.now) }
         ensures refused { OnErr result (self.new ≡ self.old) }
@@ -91,7 +94,7 @@ impl Happenings {
         Ok(())
     }
 
-    // A value is published. The error is refused memory, and then nothing changes.
+    // Tells that a value is published. The error is refused memory, and then nothing changes.
     fn publish(&mut self, value: Value) -> Result<(), AllocError>
         ensures told { OnOk result (self.new ≡ publishes self.old value) }
         ensures refused { OnErr result (self.new ≡ self.old) }
@@ -118,6 +121,7 @@ impl Happenings {
                 self.time = *time;
                 Ok(())
             }
+            // All other entries only move marks or settle cells, which nobody outside sees.
             _ => Ok(()),
         }
     }

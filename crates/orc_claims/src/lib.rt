@@ -1,4 +1,5 @@
-//! What is claimed of a run, held against what happened in it.
+//! What is claimed of a run, held against what happened in it. A *happening* is something that those outside a run see, with its time; an *event* of
+//! a claim describes some of them, and a happening *meets* it or doesn't.
 #![tactic(auto)]
 
 pub mod claim;

@@ -1,4 +1,4 @@
-//! Claims on what comes before and behind what.
+//! Claims on what comes before and behind what: `only after`, `no .. after` and `each .. then`. The order is that of the journal, also at one time.
 
 ghost use Rattle.std.specs.Prelude.{◌≡◌, [], IfOk, OnOk};
 ghost use Rattle.orc_claims.specs.Claims.{any_forbids, any_meets, is_allowed, is_followed, is_met_with, is_prepared};
@@ -12,7 +12,8 @@ use crate::happening::Happening;
 use std::alloc::{AllocError, Global};
 
 impl Event {
-    /// Whether one of these happenings meets the event with these values, so long after the time at most. The error is refused memory.
+    /// Whether one of these happenings meets the event, where variables have the values `given`, and at most `most` units after the time `since`;
+    /// None is no bound. `found` is only memory. The error is refused memory.
     pub(crate) fn any_meets(
         &self,
         given: &[Bound],
@@ -39,8 +40,8 @@ impl Event {
         }
     }
 
-    // Whether, where a happening meets the event, one of those before it met the other with its values. All values that are known are such ones, and those
-    // that are found become known. The error is refused memory.
+    // Whether a happening doesn't meet the event, or one of those before it met the other with its values. `known` has values with which some
+    // happening before met the other; those that are found are added, so that the same values aren't looked for again. The error is refused memory.
     fn is_prepared(
         &self,
         alloc: Global,
@@ -68,7 +69,8 @@ impl Event {
         Ok(true)
     }
 
-    /// The place of the first happening that meets the event where none before it met the other with its values. The error is refused memory.
+    /// The place, from 0, of the first happening that meets the event while none before it met the other with its values; None if there is none. The
+    /// error is refused memory.
     #[tactic(auto, using(crate::proofs::Placed::goes_on, crate::proofs::Placed::stops, crate::proofs::Placed::done, crate::proofs::Known::still_met))]
     pub(crate) fn first_unprepared(
         &self,
@@ -88,7 +90,7 @@ impl Event {
         Ok(None)
     }
 
-    // Whether one of these happenings met the other event with values with which this one meets the event. The error is refused memory.
+    // Whether one of the happenings before met the other event with values with which this one meets the event. The error is refused memory.
     fn any_forbids(
         &self,
         alloc: Global,
@@ -116,7 +118,8 @@ impl Event {
         }
     }
 
-    /// The place of the first happening that meets the event with the values with which one before it met the other. The error is refused memory.
+    /// The place, from 0, of the first happening that meets the event with the values with which one before it met the other; None if there is none.
+    /// The error is refused memory.
     #[tactic(auto, using(crate::proofs::Placed::goes_on, crate::proofs::Placed::stops, crate::proofs::Placed::done))]
     pub(crate) fn first_forbidden(
         &self,
@@ -134,8 +137,8 @@ impl Event {
         Ok(None)
     }
 
-    // Whether, where a happening meets the event, one of those behind it meets the other with its values, so much later at most. The error is refused
-    // memory.
+    // Whether a happening doesn't meet the event, or one of those behind it meets the other with its values, `within` units later at most. The error
+    // is refused memory.
     fn is_followed(
         &self,
         alloc: Global,
@@ -154,8 +157,8 @@ impl Event {
         other.any_meets(given.as_slice(), happening.time, within, behind, &mut found)
     }
 
-    /// The place of the first happening that meets the event where none behind it meets the other with its values, so much later at most. The error
-    /// is refused memory.
+    /// The place, from 0, of the first happening that meets the event while none behind it meets the other with its values, `within` units later at
+    /// most; None if there is none. The error is refused memory.
     #[tactic(auto, using(crate::proofs::Placed::goes_on, crate::proofs::Placed::stops, crate::proofs::Placed::done))]
     pub(crate) fn first_unfollowed(
         &self,

@@ -9,7 +9,7 @@ use orc_rules::builtin::is_same;
 use orc_rules::value::Value;
 use std::alloc::{AllocError, Global};
 
-/// What was published, in its order. The error is refused memory.
+/// The values that were published, in order. The error is refused memory.
 pub(crate) fn published(alloc: Global, happenings: &[Happening]) -> Result<Vec<Value>, AllocError>
     ensures { IfOk result (λ values. values.items ≡ published happenings.now) }
 {
@@ -28,7 +28,7 @@ pub(crate) fn published(alloc: Global, happenings: &[Happening]) -> Result<Vec<V
     }
 }
 
-/// Whether these are the values in this order, where None stands for any one.
+/// Whether the values are the wanted ones in this order, and as many, where None is any value.
 pub(crate) fn are_in_order(wanted: &[Option<Value>], values: &[Value]) -> bool
     ensures { result ≡ matches wanted.now values.now }
 {
@@ -53,7 +53,7 @@ pub(crate) fn are_in_order(wanted: &[Option<Value>], values: &[Value]) -> bool
     }
 }
 
-// How often a value is one of these.
+// How often a value is among these.
 fn times(value: Value, values: &[Value]) -> usize
     ensures { result ≡ times value values.now }
 {
@@ -66,14 +66,14 @@ fn times(value: Value, values: &[Value]) -> usize
     times
 }
 
-// Whether a value is one of the first as often as one of the others.
+// Whether a value is among `values` as often as among `others`.
 fn is_as_often(value: Value, values: &[Value], others: &[Value]) -> bool
     ensures { result ≡ nat_eq (times value values.now) (times value others.now) }
 {
     times(value, values) == times(value, others)
 }
 
-// Whether each of the first values is one of the others as often as one of these.
+// Whether each value of `first` is among `values` as often as among `others`.
 fn each_as_often(first: &[Value], values: &[Value], others: &[Value]) -> bool
     ensures { result ≡ each_as_often first.now values.now others.now }
 {
@@ -85,14 +85,14 @@ fn each_as_often(first: &[Value], values: &[Value], others: &[Value]) -> bool
     true
 }
 
-/// Whether these are the same values in any order. It takes the time of their number squared.
+/// Whether these are the same values in any order, each as often. It takes the time of their number squared.
 pub(crate) fn are_same_in_any_order(wanted: &[Value], values: &[Value]) -> bool
     ensures { result ≡ are_same_in_any_order wanted.now values.now }
 {
     wanted.len() == values.len() && each_as_often(wanted, wanted, values)
 }
 
-/// Whether one value was published alone, and it is one of these.
+/// Whether `values` is one value, and it is one of the wanted ones.
 pub(crate) fn is_one_of(wanted: &[Value], values: &[Value]) -> bool
     ensures { result ≡ is_one_of wanted.now values.now }
 {

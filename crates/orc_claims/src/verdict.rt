@@ -1,4 +1,4 @@
-//! What is said of a claim.
+//! The verdict on a claim: whether it holds of a run, and else where it fails.
 
 ghost use Rattle.std.specs.Prelude.{◌≡◌, IfOk, map};
 ghost use Rattle.orc_claims.specs.Claims.{come_true, ends_so, holds};
@@ -21,7 +21,7 @@ pub enum Verdict {
     FailsAtEnd,
 }
 
-/// What is said of a claim.
+/// What one run says of a claim.
 #[derive(Clone, Copy, PartialEq, Eq, Debug)]
 pub struct Judged {
     pub verdict: Verdict,
@@ -29,7 +29,7 @@ pub struct Judged {
     pub tested: bool,
 }
 
-// Whether a run may end so.
+// Whether a run ended in an allowed way: as Halted or as Quiet, where that is. One that was cut did in neither.
 fn ends_so(halted: bool, quiet: bool, end: State) -> bool
     ensures { result ≡ ends_so halted quiet end }
 {
@@ -40,7 +40,7 @@ fn ends_so(halted: bool, quiet: bool, end: State) -> bool
     }
 }
 
-// Whether so many are none at all.
+// Whether a greatest number is 0: the claim is that something never happens.
 fn is_none_at_all(most: Option<u64>) -> bool
     ensures { result ≡ is_none_at_all most }
 {
@@ -51,7 +51,8 @@ fn is_none_at_all(most: Option<u64>) -> bool
 }
 
 impl Plain {
-    // The place of the happening at which a claim fails. The error is refused memory.
+    // The place, from 0, of the first happening at which a claim fails; None if it fails at none, though perhaps at the end. The error is refused
+    // memory.
     fn place(&self, alloc: Global, happenings: &[Happening]) -> Result<Option<usize>, AllocError>
         ensures { IfOk result (λ at. at ≡ place self.now happenings.now) }
     {
@@ -67,7 +68,7 @@ impl Plain {
         }
     }
 
-    // Whether what it asks of the whole run beside that is so. The error is refused memory.
+    // Whether the run as a whole is as the claim asks: enough happenings, its end, all that it published. The error is refused memory.
     fn is_kept(
         &self,
         alloc: Global,
@@ -99,6 +100,7 @@ impl Plain {
         }
     }
 
+    // The verdict on a claim whose conditions are met. The error is refused memory.
     fn verdict(
         &self,
         alloc: Global,
@@ -117,7 +119,8 @@ impl Plain {
         Ok(Verdict::FailsAtEnd)
     }
 
-    // Whether it was put to the test. The error is refused memory.
+    // Whether the run puts a claim to the test whose conditions are met: something happened that it is about. One that something never happens, on
+    // the end, or on all that is published always is. The error is refused memory.
     fn is_tested(&self, alloc: Global, happenings: &[Happening]) -> Result<bool, AllocError>
         ensures { IfOk result (λ tested. tested ≡ tests_plain self.now happenings.now) }
     {
@@ -138,7 +141,7 @@ impl Plain {
     }
 }
 
-// Whether all conditions come true. The error is refused memory.
+// Whether all conditions are met in the run. The error is refused memory.
 fn come_true(
     alloc: Global,
     conditions: &[Condition],
@@ -163,7 +166,7 @@ fn come_true(
 }
 
 impl Claim {
-    // What is said of the claim. The error is refused memory.
+    // What the run says of the claim, which holds untested if a condition isn't met. The error is refused memory.
     fn judge(
         &self,
         alloc: Global,
@@ -185,8 +188,8 @@ impl Claim {
     }
 }
 
-/// What is said of each claim, in their order, of a run in which this happened, and which ended so at this time; a run that was cut short is still
-/// Running. The error is refused memory.
+/// What a run says of each of these claims, in their order: `happenings` is all that happened in it, `end` how it ended (a run that was cut is
+/// Running), and `now` when. The error is refused memory.
 ///
 /// A count, a number at once and the end take one pass over the happenings. A claim on what is before or behind takes a pass for each happening that
 /// meets its first event, and `NoneAfter` one for each happening. Values in any order take the time of their number squared.
