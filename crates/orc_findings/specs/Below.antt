@@ -27,7 +27,7 @@ headed begins head [] = []
 headed true head (c ∷ cs) = head ++ (c ∷ headed (nat_eq c 10) head cs)
 headed false head (c ∷ cs) = c ∷ headed (nat_eq c 10) head cs
 
--- those of the way, below one another: the first stands behind the number
+-- the lines of the way: the first one is behind the number, each other one behind blanks
 abbrev pub lines_or_usual : List ℕ → List ℕ
 lines_or_usual [] = codes "all services as usual\n"
 lines_or_usual (c ∷ cs) = headed false blanks (c ∷ cs)
@@ -48,11 +48,11 @@ failing_text ss hs end now v order = margin ++ (place_text ss (standing.Ended en
 
 -- ---- what a claim saw of a run
 
--- a time, as far as the claim tells times apart: behind the last of them all are one
+-- a time, as far as the claim tells times apart: the latest one stands for all from it on
 abbrev pub time_text : ℕ → ℕ → List ℕ
 time_text latest time = cond (nat_lt time latest || nat_eq latest (2 ^ 64 - 1)) (codes "time " ++ decimal time) (codes "a time over " ++ decimal (latest - 1))
 
--- the same before and behind what happened, where it tells some apart
+-- a time before what happened, and behind an end; nothing if the claim tells no times apart
 abbrev pub timed : ℕ → ℕ → List ℕ
 timed zero time = []
 timed latest time = time_text latest time ++ codes ": "

@@ -30,7 +30,7 @@ end_text s hs now = standing_text s ++ (codes " at time " ++ (decimal now ++ (co
 abbrev pub moment_text : List SiteName → Happening → List ℕ
 moment_text ss h = codes "time " ++ (decimal h.time ++ (codes ": " ++ happening_text ss h.what))
 
--- the happening at which the claim fails
+-- the happening at which the claim fails, or the end if there is no such happening
 abbrev pub at_text : List SiteName → Standing → List Happening → ℕ → Option Happening → List ℕ
 at_text ss s hs now (Some h) = moment_text ss h
 at_text ss s hs now None = end_text s hs now

@@ -30,7 +30,7 @@ abbrev pub verdict_in : Option Claim → Sight → Option Verdict
 verdict_in (Some c) s = Some (said c s).verdict
 verdict_in None s = None
 
--- the same of what is said first
+-- the verdict of the first one
 abbrev pub first_verdict : List Judged → Option Verdict
 first_verdict [] = None
 first_verdict (j ∷ js) = Some j.verdict
@@ -55,7 +55,7 @@ rows_text ss s [] js = []
 rows_text ss s (l ∷ ls) [] = []
 rows_text ss s (l ∷ ls) (j ∷ js) = cond (is_always l) (row_text ss s l j ++ rows_text ss s ls js) (rows_text ss s ls js)
 
--- so many of these don't hold
+-- how many of these claims below `always` fail
 abbrev pub failing_of : Sight → List ClaimLine → List Claim → ℕ
 failing_of s [] cs = 0
 failing_of s (l ∷ ls) [] = 0
@@ -68,7 +68,7 @@ failing t s = failing_of s t.claim_lines.items t.claims.items
 abbrev pub findings_text : Test → Sight → List ℕ
 findings_text t s = rows_text t.sites.items s t.claim_lines.items (map (λ c. said c s) t.claims.items) ++ sum_text (failing t s) (count_by is_always t.claim_lines.items)
 
--- the same number, by what is said of the claims
+-- how many fail, by what was said of the claims
 abbrev pub unsaid : List ClaimLine → List Judged → ℕ
 unsaid [] js = 0
 unsaid (l ∷ ls) [] = 0

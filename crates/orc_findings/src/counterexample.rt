@@ -1,4 +1,5 @@
-//! What stands below a claim that fails: the way, where in its run, and what the claim saw there.
+//! What stands below a claim that fails in the table of a test: the way, where the claim fails in its run, or what it saw of a run that a search
+//! found. Each writer appends to `text`; its error is refused memory.
 
 ghost use Rattle.std.specs.Prelude.{◌≡◌, ◌++◌, OnOk, true};
 ghost use Rattle.orc_findings.specs.Below.{at_time, failing_text, headed, lines_or_usual, number_text, seen_all, seen_one, seen_text, time_text, timed, way_text};
@@ -11,19 +12,20 @@ use orc_outcome::End;
 use orc_ways::test::SiteName;
 use std::alloc::{AllocError, Global};
 
-// Writes the number of a failure, and blanks up to where lines begin.
+// `    [12]`, and blanks up to the column where lines begin.
 fn write_number(alloc: Global, number: usize, text: &mut Vec<u8>) -> Result<(), AllocError>
     ensures { OnOk result (text.new.items ≡ text.old.items ++ number_text number) }
 {
     let head = format!(in alloc; "    [{number}]")?;
     text.extend_from_slice(head.as_bytes())?;
+    // None if the number is longer than the blanks.
     match b"           ".get(head.len()..) {
         Some(blanks) => text.extend_from_slice(blanks),
         None => Ok(()),
     }
 }
 
-// Writes lines with a head before each; before the first one where `begins` says so.
+// Appends lines with a head before each but the first, and before that too if `begins` says so.
 fn write_headed(
     begins: bool,
     head: &[u8],
@@ -49,6 +51,7 @@ fn write_headed(
     }
 }
 
+// Appends the lines, each below the first one behind blanks; or a sentence if there are none.
 fn write_or_usual(lines: &[u8], text: &mut Vec<u8>) -> Result<(), AllocError>
     ensures { OnOk result (text.new.items ≡ text.old.items ++ lines_or_usual lines.now) }
 {
@@ -58,7 +61,8 @@ fn write_or_usual(lines: &[u8], text: &mut Vec<u8>) -> Result<(), AllocError>
     write_headed(false, b"           ", lines, text)
 }
 
-/// Writes the number of a failure and behind it those lines of its way that aren't usual, or that all are. The error is refused memory.
+/// Appends the number of a failure, from 1, and behind it those lines of its way that aren't usual, or that all services are as usual. `lines` are
+/// whole lines with their LF. The error is refused memory.
 pub fn write_way(
     alloc: Global,
     number: usize,
@@ -71,7 +75,8 @@ pub fn write_way(
     write_or_usual(lines, text)
 }
 
-// Writes a time as far as a claim tells times apart: behind the last of them all are one.
+// `time 12`, or `a time over 30` for the latest time that the claim tells apart, which stands for all times from it on. With the greatest `latest`
+// all times are told apart, and that one is itself.
 fn write_time(alloc: Global, latest: u64, time: u64, text: &mut Vec<u8>) -> Result<(), AllocError>
     ensures { OnOk result (text.new.items ≡ text.old.items ++ time_text latest time) }
 {
@@ -81,7 +86,7 @@ fn write_time(alloc: Global, latest: u64, time: u64, text: &mut Vec<u8>) -> Resu
     write_numbered(alloc, "a time over ", latest.saturating_sub(1), text)
 }
 
-// Writes when something happened, where a claim tells times apart.
+// `time 12: `, or nothing if the claim tells no times apart, which is a `latest` of 0.
 fn write_timed(alloc: Global, latest: u64, time: u64, text: &mut Vec<u8>) -> Result<(), AllocError>
     ensures { OnOk result (text.new.items ≡ text.old.items ++ timed latest time) }
 {
@@ -92,7 +97,7 @@ fn write_timed(alloc: Global, latest: u64, time: u64, text: &mut Vec<u8>) -> Res
     text.extend_from_slice(b": ")
 }
 
-// The same behind the word of an end.
+// ` at time 12`, or nothing if the claim tells no times apart.
 fn write_at(alloc: Global, latest: u64, time: u64, text: &mut Vec<u8>) -> Result<(), AllocError>
     ensures { OnOk result (text.new.items ≡ text.old.items ++ at_time latest time) }
 {
@@ -103,7 +108,7 @@ fn write_at(alloc: Global, latest: u64, time: u64, text: &mut Vec<u8>) -> Result
     write_time(alloc, latest, time, text)
 }
 
-// Writes one of the happenings that a claim saw.
+// Appends one of the happenings that a claim saw, and the comma behind it: an end always follows.
 fn write_one(
     alloc: Global,
     sites: &[SiteName<'_>],
@@ -119,17 +124,20 @@ fn write_one(
     Ok(())
 }
 
-/// A run that ended, as claims see it: what happened, where the sites have the numbers that the claims have for them; how it ended; and when.
+/// A run that ended, as claims see it.
 #[derive(Clone, Copy)]
 pub struct Ended<'s> {
+    /// What happened, or what of it a claim sees, where sites have the numbers that claims have for them.
     pub happenings: &'s [Happening],
+    /// How it ended.
     pub end: End,
+    /// When it ended, in units of logical time.
     pub time: u64,
 }
 
 impl Ended<'_> {
-    /// Writes the line that says where a claim fails in the run, of which this is said: at a happening with its time, or at the end; and in which order the
-    /// run was made. The error is refused memory.
+    /// Appends the line that says where a claim with this verdict fails in the run, at a happening with its time or at the end, and in which order,
+    /// from 0, the run was made. The error is refused memory.
     pub fn write_failing(
         &self,
         alloc: Global,
@@ -152,7 +160,7 @@ impl Ended<'_> {
         Ok(())
     }
 
-    // Writes the happenings, each with its time where the claim tells times apart.
+    // Appends the happenings, each with its time if the claim tells times apart.
     fn write_all(
         &self,
         alloc: Global,
@@ -174,8 +182,8 @@ impl Ended<'_> {
         }
     }
 
-    /// Writes the line that says what a claim saw of the run, and how that ended; with times where the claim tells some apart, which are up to the latest
-    /// one, and 0 where it asks for none. The error is refused memory.
+    /// Appends the line that says what a claim saw of the run, which is `happenings`, and how the run ended. `latest` is the latest time that the
+    /// claim tells apart; if it is 0 the claim asks for no time, and the line has none. The error is refused memory.
     pub fn write_seen(
         &self,
         alloc: Global,
@@ -195,7 +203,7 @@ impl Ended<'_> {
     }
 }
 
-/// Writes lines with a head before each. The error is refused memory.
+/// Appends lines with this head before each. The error is refused memory.
 pub fn write_each(head: &[u8], lines: &[u8], text: &mut Vec<u8>) -> Result<(), AllocError>
     ensures { OnOk result (text.new.items ≡ text.old.items ++ headed true head.now lines.now) }
 {

@@ -1,4 +1,4 @@
-//! Where in a run a claim fails.
+//! Where in a run a claim fails, as text: at a happening, or at the run's end.
 
 ghost use Rattle.std.specs.Prelude.{◌≡◌, ◌++◌, OnOk, decimal};
 ghost use Rattle.std.specs.List.{slice_get};
@@ -11,23 +11,26 @@ use orc_outcome::End;
 use orc_ways::test::SiteName;
 use std::alloc::{AllocError, Global};
 
-/// How a run stands where a claim is judged.
+/// How a run stands where its journal ends.
 #[derive(Clone, Copy)]
 pub(crate) enum Standing {
+    /// It ended so.
     Ended(End),
+    /// It may go on: the journal is of a run that nobody ended.
     Running,
 }
 
-/// The course of a run in which a claim may fail: what happened, where the sites have the numbers that the claims have for them; how the run stands at
-/// the end; and the time then.
+/// The course of a run in which a claim may fail.
 #[derive(Clone, Copy)]
 pub(crate) struct Course<'s> {
+    /// What happened, where sites have the numbers that claims have for them.
     pub(crate) happenings: &'s [Happening],
     pub(crate) standing: Standing,
+    /// The time at the end of the journal.
     pub(crate) time: u64,
 }
 
-/// What an end is called.
+/// What an end is called in texts on claims.
 pub(crate) fn word_of(end: End) -> &'static str
     ensures { result.now ≡ end_word end }
 {
@@ -40,6 +43,7 @@ pub(crate) fn word_of(end: End) -> &'static str
     }
 }
 
+// `ended Halted`, or `not ended`
 fn write_standing(standing: Standing, text: &mut Vec<u8>) -> Result<(), AllocError>
     ensures { OnOk result (text.new.items ≡ text.old.items ++ standing_text standing) }
 {
@@ -52,7 +56,7 @@ fn write_standing(standing: Standing, text: &mut Vec<u8>) -> Result<(), AllocErr
     }
 }
 
-/// Writes a number behind these words. The error is refused memory.
+/// Appends these words and the number. The error is refused memory, here and below.
 pub(crate) fn write_numbered(
     alloc: Global,
     words: &'static str,
@@ -65,7 +69,7 @@ pub(crate) fn write_numbered(
     text.extend_from_slice(line.as_bytes())
 }
 
-// Writes a happening at which a claim fails, behind its time. The error is refused memory.
+// `time 12: PayB(7) answered 2001`
 fn write_moment(
     alloc: Global,
     sites: &[SiteName<'_>],
@@ -81,7 +85,7 @@ fn write_moment(
 }
 
 impl Course<'_> {
-    // Writes how the run stands at the end, and what it published.
+    // `ended Quiet at time 40, having published 1 2`
     fn write_end(&self, alloc: Global, text: &mut Vec<u8>) -> Result<(), AllocError>
         ensures { OnOk result (text.new.items ≡ text.old.items ++ end_text self.now.standing self.now.happenings.now self.now.time) }
     {
@@ -92,7 +96,7 @@ impl Course<'_> {
         Ok(())
     }
 
-    // Writes the happening at this place.
+    // Appends the happening at this place, from 0; the end if there is none.
     fn write_at(
         &self,
         alloc: Global,
@@ -108,7 +112,7 @@ impl Course<'_> {
         }
     }
 
-    /// Writes where a claim fails, of which this is said. The error is refused memory.
+    /// Appends where a claim with this verdict fails: at a happening, or at the end, as also for `Holds`. The error is refused memory.
     pub(crate) fn write_place(
         &self,
         alloc: Global,

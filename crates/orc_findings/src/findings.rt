@@ -1,4 +1,4 @@
-//! What the claims of a test that stand below `always` say of a run.
+//! What the claims of a test that stand below `always` say of one run, whoever made it: the answer of `orc check --claims`.
 
 ghost use Rattle.std.specs.Prelude.{◌≡◌, ◌++◌, IfOk, OnOk, length};
 ghost use Rattle.std.specs.List.{count_by, slice_get};
@@ -16,21 +16,23 @@ use orc_tally::{claim_text, note, write_sum};
 use orc_ways::test::{ClaimLine, SiteName, Test};
 use std::alloc::{AllocError, Global};
 
-/// A run as claims see it: what happened, where the sites have the numbers that the claims have for them; where the run stands at the end; and the
-/// time then.
+/// A run as claims see it, up to where its journal ends.
 #[derive(Clone, Copy)]
 pub struct Seen<'s> {
+    /// What happened, where sites have the numbers that claims have for them.
     pub happenings: &'s [Happening],
+    /// The state of the run at the end of the journal.
     pub state: State,
+    /// The time then, in logical units.
     pub time: u64,
 }
 
 /// What the claims say of a run.
 #[derive(Drop)]
 pub struct Findings {
-    /// A line for each claim, below each that fails where it does, and a line that tells how many fail.
+    /// A line for each claim, below each that fails a line that says where, and a line that says how many fail.
     pub text: Vec<u8>,
-    /// So many fail.
+    /// How many fail.
     pub failing: usize,
 }
 
@@ -44,6 +46,7 @@ fn is_always(line: &ClaimLine<'_>) -> bool
     }
 }
 
+// Whether the claim holds.
 fn says_so(verdict: Verdict) -> bool
     ensures { result ≡ says_so verdict }
 {
@@ -53,7 +56,7 @@ fn says_so(verdict: Verdict) -> bool
     }
 }
 
-// How many claims below `always` don't hold.
+// How many of the claims below `always` fail. Each has a line and a verdict, in the same order.
 fn count_failing(lines: &[ClaimLine<'_>], judged: &[Judged]) -> usize
     ensures { result ≡ unsaid lines.now judged.now }
 {
@@ -96,7 +99,7 @@ fn count_always(lines: &[ClaimLine<'_>]) -> usize
     }
 }
 
-// How a run stands whose program is in this state.
+// How a run in this state stands.
 fn standing_of(state: State) -> Standing
     ensures { result ≡ standing_of state }
 {
@@ -118,7 +121,8 @@ fn first_verdict(judged: &[Judged]) -> Option<Verdict>
 }
 
 impl Seen<'_> {
-    /// What is said of where the claim at this place fails in the run; None where there is no such claim. The error is refused memory.
+    /// The verdict of the run on the claim at this place, from 0, be it one of `always` or of a case; None if there is no such claim. The error is
+    /// refused memory.
     #[tactic(auto, using(crate::proofs::Placed::none_there))]
     pub fn verdict(
         &self,
@@ -141,7 +145,7 @@ impl Seen<'_> {
         Ok(first_verdict(judged.as_slice()))
     }
 
-    // Writes where a claim fails, of which this is said.
+    // Appends where a claim with this verdict fails. The error is refused memory, here and below.
     fn write_place(
         &self,
         alloc: Global,
@@ -159,7 +163,7 @@ impl Seen<'_> {
         course.write_place(alloc, sites, verdict, text)
     }
 
-    // The row of a claim.
+    // Appends the line of a claim, and below one that fails the line that says where.
     fn write_row(
         &self,
         alloc: Global,
@@ -183,7 +187,7 @@ impl Seen<'_> {
         Ok(())
     }
 
-    // A row for each claim below `always`.
+    // Appends the lines of each claim below `always`.
     fn write_rows(
         &self,
         alloc: Global,

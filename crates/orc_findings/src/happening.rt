@@ -1,4 +1,4 @@
-//! The text of what happens in a run.
+//! The text of what happens in a run: `Pay(7, 100) answered 2001`. Each writer appends to `text`; its error is refused memory.
 
 ghost use Rattle.std.specs.Prelude.{◌≡◌, ◌++◌, OnOk, true, length};
 ghost use Rattle.std.specs.List.{slice_get};
@@ -11,7 +11,7 @@ use orc_rules::value::Value;
 use orc_ways::test::SiteName;
 use std::alloc::AllocError;
 
-// Writes the values after the first one, and the bracket.
+// The values after the first one, each behind a comma, and the bracket that closes.
 fn write_closing(values: &[Value], text: &mut Vec<u8>) -> Result<(), AllocError>
     ensures { OnOk result (text.new.items ≡ text.old.items ++ closing values.now) }
 {
@@ -59,6 +59,7 @@ fn write_phase(phase: Phase, text: &mut Vec<u8>) -> Result<(), AllocError>
     }
 }
 
+// The name of a site, by its number among the test's; nothing if there is no such site.
 fn write_name(sites: &[SiteName<'_>], site: u32, text: &mut Vec<u8>) -> Result<(), AllocError>
     ensures { OnOk result (text.new.items ≡ text.old.items ++ name_of (slice_get sites.now site)) }
 {
@@ -68,7 +69,7 @@ fn write_name(sites: &[SiteName<'_>], site: u32, text: &mut Vec<u8>) -> Result<(
     }
 }
 
-/// Writes what happens, as `Pay(7, 100) answered 2001`, where claims number these sites so. The error is refused memory.
+/// Appends what happens, as `Pay(7, 100) answered 2001` or `published 3`. A site's number is its place among these. The error is refused memory.
 pub fn write_occurrence(
     sites: &[SiteName<'_>],
     what: &Occurrence,
@@ -89,7 +90,7 @@ pub fn write_occurrence(
     }
 }
 
-/// The same of a happening, without its time. The error is refused memory.
+/// Appends what happens, as `write_occurrence` does, and not when. The error is refused memory.
 pub fn write_happening(
     sites: &[SiteName<'_>],
     happening: &Happening,
@@ -100,7 +101,7 @@ pub fn write_happening(
     write_occurrence(sites, &happening.what, text)
 }
 
-/// Writes the values that are published, each behind a blank, or that there is none. The error is refused memory.
+/// Appends the values that are published, each behind a blank, or ` nothing` if none is. The error is refused memory.
 pub fn write_published(happenings: &[Happening], text: &mut Vec<u8>) -> Result<(), AllocError>
     ensures { OnOk result (text.new.items ≡ text.old.items ++ published_from true happenings.now) }
 {

@@ -1,4 +1,5 @@
-//! What the claims of a test say of one run, told line by line.
+//! Texts on claims of a test and single runs: what the claims below `always` say of one run (`find`), and what stands below a claim that fails in the
+//! table of `orc test` (`write_way`, `Ended`).
 #![tactic(auto)]
 
 mod counterexample;
