@@ -10,18 +10,21 @@ use std::alloc::{AllocError, Global};
 use std::cmp::Reverse;
 use std::collections::{BTreeMap, BinaryHeap, VecDeque};
 
-/// A token whose turn comes; `listed` where it stands in the lists of all cells for which it still waits.
+/// A token in the queue, by its mark.
 #[derive(Clone, Copy)]
 struct Turn {
     token: u64,
+    /// Whether it is in the list of each cell for which it still waits, since it was woken from one of them.
     listed: bool,
 }
 
-/// Tokens take their turns one after another, so none is starved. A token that waits stands in the list of each of its cells: a call
+/// Tokens take their turns one after another, so none is starved. A token that waits is in the list of each of its cells: a call
 /// moves once one of its arguments is void, whichever that is.
 #[derive(Drop)]
 pub struct Agenda {
+    /// The queue of tokens that may be able to move, the next one first. A mark of no token any more is skipped.
     tokens: VecDeque<Turn>,
+    /// For each cell the tokens that wait for it.
     waiting: BTreeMap<u64, Vec<u64>>,
     /// The due time and the number of each call that has one, the least first.
     due: BinaryHeap<Reverse<(u64, u64)>>,
@@ -42,7 +45,7 @@ impl Agenda {
         })
     }
 
-    // Puts a token that waits into the lists of its cells.
+    // Puts a token that waits into the list of each cell for which it waits. The error is refused memory.
     fn wait(&mut self, program: &Program, marked: &Marked, token: u64) -> Result<(), AllocError> {
         let alloc = *self.tokens.allocator();
         for position in 0..MOST_ARGUMENTS {
@@ -54,7 +57,7 @@ impl Agenda {
         Ok(())
     }
 
-    // A new token takes its turn after the others.
+    // Puts a new token at the end of the queue. The error is refused memory.
     fn join(&mut self, token: u64) -> Result<(), AllocError> {
         self.tokens.push_back(Turn {
             token,
@@ -63,12 +66,13 @@ impl Agenda {
         Ok(())
     }
 
-    // The return of a call that is due now, else a tick to the least due time.
+    // The return of a call that is due now, else a tick to the least due time; nothing if no pending call will ever be due.
     fn choose_call(&mut self, marked: &Marked) -> Choice {
         for _ in 0..self.due.len() {
             let Some(&Reverse((at, call))) = self.due.peek() else {
                 break;
             };
+            // None if the call was cancelled: then it is dropped from the queue.
             let answer = marked.due(call);
             if answer.is_some() && marked.now() < at {
                 return Choice::Entry(Entry::Tick(at));
@@ -81,7 +85,7 @@ impl Agenda {
         Choice::Nothing
     }
 
-    // The tokens that waited for a cell can move.
+    // Puts the tokens that wait for a cell at the end of the queue, since it was bound or lost. The error is refused memory.
     fn wake(&mut self, cell: u64) -> Result<(), AllocError> {
         if let Some(tokens) = self.waiting.remove(&cell) {
             for token in tokens {
@@ -109,6 +113,7 @@ impl Turns for Agenda {
             if let Some(next) = marked.next(program, turn.token) {
                 match token_entry(marked, turn.token, next) {
                     Some(entry) => return Ok(Choice::Entry(entry)),
+                    // It waits.
                     None if turn.listed => {}
                     None => self.wait(program, marked, turn.token)?,
                 }

@@ -1,7 +1,8 @@
 //! A run that shows what is wanted, looked for among all that the rules allow.
 //!
-//! The search goes along one run as far as it shows no more than is wanted, and then back to the last choice. What it finds is played again, entry by
-//! entry, so nothing that is said of the run rests on the search.
+//! A depth-first search: it goes along one run as far as that shows no more than is wanted, and then back to the last choice. What it finds is played
+//! again, entry by entry, so nothing that is said of the run rests on the search, and most of it has no contract. The *way* is the entries so far. A
+//! *position* is where a run stands after them; one that looks as another did which was tried before isn't tried again.
 
 ghost use Rattle.std.specs.Prelude.{◌≡◌, ◌⊎◌, IfOk, IfSome};
 ghost use Rattle.orc_outcome.specs.Outcome.{IsPlayed};
@@ -26,40 +27,50 @@ use std::mem::replace;
 pub enum Happened<'e> {
     /// A site, by its number in the table, is called with these arguments.
     Called(u32, &'e Args),
-    /// Such a call is answered.
+    /// Such a call is answered, or halts.
     Answered(u32, &'e Args, Answer),
+    /// The run publishes a value.
     Published(Value),
 }
 
-/// What is wanted of a run.
+/// What is wanted of a run: that things happen in it one after another, and how it ends. What has happened of it is a number, 0 at first, whose
+/// meaning is the implementor's.
 pub trait Wanted {
-    /// The time now, as far as times matter.
+    /// The time `now` as far as times matter: two times that are equal here make no difference.
     fn time(&self, now: u64) -> u64;
 
-    /// How much of it has been seen after this happened at such a time, where so much had been before. None where this isn't to happen.
+    /// How much of it has been seen after this happened at such a time, where `seen` had been before. None if this isn't to happen.
     fn after(&self, seen: usize, time: u64, happened: Happened<'_>) -> Option<usize>;
 
-    /// Whether a run is wanted that ends so at such a time after so much of it has been seen.
+    /// Whether a run is wanted that ends so at such a time after so much of it has been seen. Times are as `time` gives them.
     fn is_met(&self, seen: usize, time: u64, end: End) -> bool;
 }
 
-// A call that was made on the way: where its entry stands, and a number of what was called.
+// A call that was made on the way.
 #[derive(Clone, Copy)]
 struct Made {
+    // The place of its entry in the way.
     entry: usize,
+    // A hash of the site and the arguments.
     called: u64,
 }
 
-// Where the way stood before a choice: the term, the entries that are still to be tried there, and how far the way, its calls and what was seen had come.
+// A choice on the way: the position before it, to which the search comes back.
 struct Level {
     marked: Marked,
+    // The entries that are still to be tried there, the next one last.
     next: Vec<Entry>,
+    // How many entries the way had.
     entries: usize,
+    // How many calls had been made.
     calls: usize,
+    // A hash of how often which calls had been made, as far as later ones are answered otherwise for it.
     counts: u64,
+    // How much of what is wanted had been seen.
     seen: usize,
 }
 
+// Written out, so that a caller's proof sees one call and not the drop of each field.
 impl Drop for Level {
     fn drop(self) {
         let Level {
@@ -78,22 +89,28 @@ impl Drop for Level {
 enum Turn {
     /// The way leads to what is wanted.
     Found,
+    /// There is more to try.
     More,
     /// All has been tried.
     Nothing,
 }
 
+// The search for a run of a program whose calls `answers` answers.
 struct Search<'s> {
     alloc: Global,
     program: &'s Program,
     answers: &'s Answers,
+    /// All entries so far, also those that no rule asks for.
     way: Vec<Entry>,
+    /// The calls of the way: the one of the number k is at the place k - 1.
     calls: Vec<Made>,
+    /// The choices on the way, the last one last.
     levels: Vec<Level>,
-    /// The places to which a way has led, by numbers of what they look like.
+    /// The positions to which a way has led, as hashes of what they look like. With equal hashes one is taken for the other.
     known: HashMap<u64, ()>,
 }
 
+// Written out, so that a caller's proof sees one call and not the drop of each field.
 impl Drop for Search<'_> {
     fn drop(self) {
         let Search {
@@ -108,7 +125,7 @@ impl Drop for Search<'_> {
     }
 }
 
-// A number of the site that is called and the arguments.
+// A hash of the site that is called and the arguments.
 fn mix_args(site: u32, args: &Args) -> u64 {
     let mut mixed = mix(1, site as u64);
     for value in args.as_slice() {
@@ -123,7 +140,7 @@ fn is_of_marks(next: &Next) -> bool {
 }
 
 impl Search<'_> {
-    // A call that was made on the way, by its number.
+    // The site and the arguments of a call that was made on the way, by its number from 1.
     fn made(&self, call: u64) -> Option<(u32, &Args)> {
         let made = self.calls.get(call.saturating_sub(1) as usize)?;
         match self.way.get(made.entry) {
@@ -132,6 +149,7 @@ impl Search<'_> {
         }
     }
 
+    // How much has been seen after the call of this number is answered. None if that isn't to happen.
     fn answered<W: Wanted>(
         &self,
         wanted: &W,
@@ -144,7 +162,7 @@ impl Search<'_> {
         wanted.after(seen, time, Happened::Answered(site, args, answer))
     }
 
-    // How much has been seen after an entry at such a time. None where it isn't to be.
+    // How much has been seen after an entry at such a time. None if it isn't to happen. Entries that nobody sees change nothing.
     fn seen_after<W: Wanted>(
         &self,
         wanted: &W,
@@ -169,7 +187,8 @@ impl Search<'_> {
         }
     }
 
-    // Adds an entry to the way. For a call, the counts of calls so far with this one, as far as later calls are answered otherwise for it.
+    // Adds an entry to the way: the hash of counts of calls after it. It changes only for a call after which later ones of its kind are answered
+    // otherwise. It is a sum, so that the order of the calls doesn't matter. The error is refused memory, here and below.
     fn add(&mut self, entry: Entry, counts: u64) -> Result<u64, AllocError> {
         let mut after = counts;
         if let Entry::Call(_, _, site, args) = &entry {
@@ -200,7 +219,8 @@ impl Search<'_> {
         Ok(())
     }
 
-    // Applies the cancels that are due, and the moves of marks of the tokens from this mark on, which no rule asks for.
+    // Applies the cancels that are due, and those entries of the tokens from the mark `from` on that only move marks. They leave no choice, so the
+    // search takes them at once. New marks that such an entry makes are looked at too.
     fn settle(&mut self, marked: &mut Marked, from: u64) -> Result<(), AllocError> {
         for _turn in 0..marked.new_call() {
             match marked.next_cancel() {
@@ -223,7 +243,7 @@ impl Search<'_> {
         Ok(())
     }
 
-    // The entry by which the token or the side of a node can go on.
+    // The entry by which a node of the marked term can go on: a token moves, or a side that has halted ends; None if it can't.
     fn entry_at(&self, marked: &Marked, kind: Kind) -> Option<Entry> {
         match kind {
             Kind::Leaf(Tip::Token(mark, _, _)) | Kind::Leaf(Tip::Bears(mark, _)) => {
@@ -238,7 +258,8 @@ impl Search<'_> {
         }
     }
 
-    // The entries that can come next: moves of tokens and sides, and returns that are due; a tick where there are none.
+    // All entries that can come next, the first to be tried last: moves of tokens and sides, and returns that are due; a tick if there are none of
+    // these. None at all says that the run is quiet.
     fn entries(&self, marked: &mut Marked) -> Result<Vec<Entry>, AllocError> {
         let mut entries = Vec::new(self.alloc);
         for slot in marked.nodes() {
@@ -259,12 +280,12 @@ impl Search<'_> {
                 entries.push(Entry::Tick(time))?;
             }
         }
-        // The last one is tried first.
+        // A level takes them from its end.
         entries.reverse();
         Ok(entries)
     }
 
-    // What a place looks like, as a number: its term, the calls that count and what was seen.
+    // What a position looks like, as a hash: of its term, the calls that count, what was seen, and the time as far as it matters.
     fn number_of(
         &self,
         marked: &Marked,
@@ -280,7 +301,7 @@ impl Search<'_> {
         Ok(mix(mix(mix(mix(1, form), counts), seen as u64), time))
     }
 
-    // Goes on from a place to which the way has led: a new level of choices, unless it ends there or was there before.
+    // Goes on from a position to which the way has led: with a new level of choices, unless the run ends there or a way led there before.
     fn stand<W: Wanted>(
         &mut self,
         wanted: &W,
@@ -320,7 +341,7 @@ impl Search<'_> {
         Ok(Turn::More)
     }
 
-    // Tries the next entry at the last choice, or goes back to the one before.
+    // Tries the next entry at the last choice, or goes back to the choice before if none is left. `Nothing` says that there is no choice any more.
     fn turn<W: Wanted>(&mut self, wanted: &W) -> Result<Turn, AllocError> {
         let Some(level) = self.levels.last_mut() else {
             return Ok(Turn::Nothing);
@@ -347,11 +368,12 @@ impl Search<'_> {
         self.stand(wanted, marked, counts, seen)
     }
 
-    // Looks for what is wanted through so many places at most: the way that leads there.
+    // Looks for what is wanted through `most` positions at most: the entries that lead there; None if they weren't found.
     fn go<W: Wanted>(&mut self, wanted: &W, most: usize) -> Result<Option<Vec<Entry>>, AllocError> {
         let mut marked = Marked::new(self.alloc, self.program, true)?;
         self.settle(&mut marked, 1)?;
         let mut turn = self.stand(wanted, marked, 0, 0)?;
+        // Each position is tried once, so the search ends; the bound only shows that the loop does.
         for _turn in 0..u64::MAX {
             match turn {
                 Turn::Found => return Ok(Some(replace(&mut self.way, Vec::new(self.alloc)))),
@@ -367,7 +389,7 @@ impl Search<'_> {
     }
 }
 
-// The entries of a way, one in each turn. Cancels follow by themselves.
+// The entries of a way, to be played again, one in each turn. Its cancels are left out, since the engine records them by itself.
 #[derive(Drop)]
 struct Steps {
     // The next one last.
@@ -396,7 +418,7 @@ impl Turns for Steps {
     }
 }
 
-// A way to what is wanted, through so many places at most. The error is refused memory.
+// The entries of a run that shows what is wanted, looked for through `most` positions at most; None if none was found. The error is refused memory.
 fn way_to<W: Wanted>(
     alloc: Global,
     program: &Program,
@@ -417,10 +439,12 @@ fn way_to<W: Wanted>(
     Ok(way)
 }
 
-/// A run of a program that shows what is wanted, with its journal: looked for through so many places at most, at which a run may stand. It ends by itself.
-/// None where no such run was found, and where the one that was found has more than `limit` entries, cancels not counted.
+/// A run of a program that ends by itself, with its journal, found by a search for what is wanted through `most` positions at most. The contract says
+/// that it is a run of the program and ended by itself, and not that it shows what is wanted: a caller asks that of its journal. None if no run was
+/// found, and if the one that was found has more than `limit` entries, cancels not counted.
 ///
-/// The fault is Memory where memory was refused; or Broken where the rules refuse an entry that was to come next.
+/// The fault is Memory where memory was refused; or Broken where the rules refuse an entry that was to come next, and also where memory was refused
+/// among the cancels of a bind.
 pub fn find<W: Wanted>(
     alloc: Global,
     program: &Program,

@@ -1,6 +1,8 @@
 //! The form of a marked term as one number: terms that differ in marks and in the numbers of calls and cells alone have the same one.
 //!
-//! Nothing is promised of it. Two terms may have the same number by chance, and then a search takes one for the other.
+//! It is a sum over the parts of the term, each a hash of what the part is and of its place. A *place* is a hash of the way from the root to the
+//! part. Each kind of thing mixes in a small number of its own. Nothing is promised of it. Two terms may have the same number by chance, and then a
+//! search takes one for the other.
 
 use orc_checker::Marked;
 use orc_rules::param::{Operand, Param};
@@ -10,22 +12,24 @@ use orc_term::arena::{Double, Kind, Single, Tip};
 use std::alloc::{AllocError, Global};
 use std::collections::HashMap;
 
-/// A number that differs for most texts of numbers, into which the words are mixed one after another.
+/// A hash with a word mixed in: words that are mixed in one after another give a number that differs for most lists of words.
 pub(crate) fn mix(seed: u64, word: u64) -> u64 {
+    // The odd constant is 2^64 over the golden ratio, which spreads its factor over all bits.
     (seed ^ word)
         .wrapping_add(0x9E37_79B9_7F4A_7C15)
         .wrapping_mul(0x9E37_79B9_7F4A_7C15)
         .rotate_left(29)
 }
 
-// Spreads each bit over all others, so that sums of such numbers are seldom equal.
+// Spreads each bit over all others, so that sums of such numbers are seldom equal. Only 0 becomes 0. The odd constant is one that is known to mix
+// well.
 fn spread(word: u64) -> u64 {
     let once = (word ^ (word >> 32)).wrapping_mul(0xD6E8_FEB8_6659_FD93);
     let twice = (once ^ (once >> 32)).wrapping_mul(0xD6E8_FEB8_6659_FD93);
     twice ^ (twice >> 32)
 }
 
-/// The same with a value mixed in.
+/// A hash with a value mixed in.
 pub(crate) fn mix_value(seed: u64, value: Value) -> u64 {
     match value {
         Value::Number(number) => mix(
@@ -37,7 +41,7 @@ pub(crate) fn mix_value(seed: u64, value: Value) -> u64 {
     }
 }
 
-// The same with what a call is answered, and the time that it has left.
+// A hash with what a call is answered mixed in, and the time that it has left, where it was made at the time `at`.
 fn mix_found(seed: u64, found: Found, at: u64, now: u64) -> u64 {
     match found {
         Found::Never => mix(seed, 5),
@@ -51,14 +55,16 @@ fn mix_found(seed: u64, found: Found, at: u64, now: u64) -> u64 {
     }
 }
 
-/// What the form of a marked term is taken of.
+/// What is needed to take the form of a marked term.
 pub(crate) struct Forms<'p> {
     pub alloc: Global,
     pub program: &'p Program,
-    /// The place of the pruning of each cell that was opened on the way to where the walk stands.
+    /// For each cell, by its number, the place of its opened pruning, of those that the walk has come to. By this a cell is known, whatever its
+    /// number is.
     cells: HashMap<u64, u64>,
 }
 
+// Written out, so that a caller's proof sees one call and not the drop of each field.
 impl Drop for Forms<'_> {
     fn drop(self) {
         let Forms {
@@ -70,7 +76,7 @@ impl Drop for Forms<'_> {
 }
 
 impl Forms<'_> {
-    /// For terms of a program.
+    /// What is needed for the form of one term of this program.
     pub(crate) fn new(alloc: Global, program: &Program) -> Forms<'_> {
         Forms {
             alloc,
@@ -79,6 +85,7 @@ impl Forms<'_> {
         }
     }
 
+    // A hash with an operand mixed in, as the scope of this number has it: a value, void, a name, or a cell by its place.
     fn mix_operand(&self, seed: u64, marked: &Marked, operand: Operand, scope: u32) -> u64 {
         match marked.param(operand, scope as usize) {
             Param::Is(value) => mix_value(mix(seed, 8), value),
@@ -91,7 +98,7 @@ impl Forms<'_> {
         }
     }
 
-    // With a call of a site or a definition mixed in.
+    // A hash with the operands of a call mixed in, by the number of their list in the program.
     fn mix_call(&self, seed: u64, marked: &Marked, list: usize, scope: u32) -> u64 {
         let mut mixed = seed;
         for operand in self.program.operands(list) {
@@ -100,7 +107,7 @@ impl Forms<'_> {
         mixed
     }
 
-    // With a node of the program mixed in and all below it, in a scope. The error is refused memory.
+    // A hash with a node of the program mixed in, and all nodes below it, whose names mean what they do in this scope. The error is refused memory.
     fn mix_node(
         &self,
         seed: u64,
@@ -108,6 +115,7 @@ impl Forms<'_> {
         node: u32,
         scope: u32,
     ) -> Result<u64, AllocError> {
+        // A stack in place of a recursion, here and below; the bound only shows that the loop ends.
         let mut mixed = seed;
         let mut todo = Vec::new(self.alloc);
         todo.push(node as usize)?;
@@ -156,9 +164,11 @@ impl Forms<'_> {
         Ok(mixed)
     }
 
-    // The form of what stands at a place without parts.
+    // The hash of a part without parts at this place. `calls` has a hash of what was called for each call, by its number from 1. The error is refused
+    // memory.
     fn tip(&self, place: u64, marked: &Marked, calls: &[u64], tip: Tip) -> Result<u64, AllocError> {
         match tip {
+            // A part that has ended leaves the sum as it is.
             Tip::Gone | Tip::Ended => Ok(0),
             Tip::Token(_, node, scope) => self.mix_node(place, marked, node, scope),
             Tip::Bears(_, value) => Ok(mix_value(mix(place, 8), value)),
@@ -177,7 +187,8 @@ impl Forms<'_> {
         }
     }
 
-    /// The form of a marked term, whose calls have these numbers by what was called. The error is refused memory.
+    /// The form of a marked term. `calls` has a hash of the site and the arguments of each call that was made, in the order of the calls. The error
+    /// is refused memory.
     pub(crate) fn of(&mut self, marked: &Marked, calls: &[u64]) -> Result<u64, AllocError> {
         let mut form = 0_u64;
         let mut todo = Vec::new(self.alloc);
@@ -194,6 +205,7 @@ impl Forms<'_> {
                     let tip = self.tip(place, marked, calls, tip)?;
                     form = form.wrapping_add(spread(tip));
                 }
+                // An otherwise that has published is as its left side is.
                 Kind::One(Single::Passed, part) => todo.push((part, place))?,
                 Kind::One(Single::Feeds(name, node, scope), part) => {
                     let seed = mix(mix(place, 20), name as u64);
@@ -209,6 +221,7 @@ impl Forms<'_> {
                     todo.push((right, mix(place, 23)))?;
                 }
                 Kind::Two(Double::Side(cell), left, right) => {
+                    // Before the left side is walked through, which alone names the cell.
                     self.cells.insert(cell, place)?;
                     form = form.wrapping_add(spread(mix(place, 26)));
                     todo.push((left, mix(place, 24)))?;

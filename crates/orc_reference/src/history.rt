@@ -20,10 +20,12 @@ use orc_rules::value::Value;
 use std::alloc::{AllocError, Global};
 use std::marker::Model;
 
-/// A run so far, with what it has published.
+/// A run so far.
 #[derive(Drop)]
 pub struct History {
+    // The program's term after the journal, as the checker keeps it.
     marked: Marked,
+    // All that the journal publishes, in order.
     published: Vec<Value>,
     journal: Journal,
 }
@@ -36,7 +38,7 @@ impl Model for History {
     ghost view = { λ h. record { marked = h.marked; published = h.published.items; journal = h.journal } };
 }
 
-// The publication of an entry, at the end of those before it.
+// Notes the value that an entry publishes, if it publishes one, behind those before it. There is room, so the push can't be refused.
 fn note(values: &mut Vec<Value>, entry: &Entry)
     requires { vec_len values.old < vec_capacity values.old }
     ensures { values.new.items ≡ values.old.items ++ published (entry.now ∷ []) }
@@ -48,18 +50,20 @@ fn note(values: &mut Vec<Value>, entry: &Entry)
 }
 
 impl History {
-    /// The empty journal of a program. The error is refused memory.
+    /// The run of a program before its first entry. The error is refused memory.
     pub fn new(alloc: Global, program: &Program) -> Result<History, AllocError>
         ensures { (t : Table) → IfOk result (IsReached program.now t 0) }
     {
         Ok(History {
+            // True: its binds are followed by cancels, as in the second version of journals.
             marked: Marked::new(alloc, program, true)?,
             published: Vec::new(alloc),
             journal: Journal::new(alloc, Version::Two),
         })
     }
 
-    /// Adds an entry that the rules allow next. After a fault nothing has changed.
+    /// Adds an entry, if the rules allow it next. The fault is Memory, or the reason for which the rules refuse it. After a fault nothing has
+    /// changed.
     pub fn record(
         &mut self,
         program: &Program,
@@ -69,6 +73,7 @@ impl History {
         ensures grows { OnOk result (Grows program.now answers.now entry.now self.old self.new) }
         ensures refused { OnErr result (self.new ≡ self.old) }
     {
+        // All that can be refused comes before the term's step, and the journal's entry is taken back if that is refused.
         if self.published.try_reserve(1).is_err() {
             return Err(RuleFault::Memory);
         }
@@ -91,14 +96,15 @@ impl History {
         &self.marked
     }
 
-    /// A side that has halted, of those that stand the first that may have. None where none has.
+    /// The first side found that has halted, so that its otherwise or its cell can go on: a left side of an otherwise, or a right side of a pruning.
+    /// None if there is none. The run doesn't change.
     pub fn halted_side(&mut self) -> Option<Side>
         ensures { self.new ≡ self.old }
     {
         self.marked.halted_side()
     }
 
-    /// Whether the run is quiet: it hasn't halted, no rule can be used, and no tick is possible.
+    /// Whether the run is quiet: it hasn't halted, no rule can be used, and no tick is possible. The run doesn't change.
     pub fn is_quiet(&mut self, program: &Program) -> bool
         ensures quiet { (x : Context) (p : Place) → x.definitions ≡ definitions program.now → Spells x (code program.now) self.old.marked p → (result ≡ true) ↔ IsQuiet x (moment p) }
         ensures same { self.new ≡ self.old }
@@ -106,7 +112,7 @@ impl History {
         self.marked.is_quiet(program)
     }
 
-    /// What is told of the run, once it has ended so.
+    /// What is reported of the run, which has ended so: its end, counts and time, its publications, and its journal.
     pub fn played(self, end: End) -> Played
         ensures played { (l : Listing) (t : Table) (limit : ℕ) → HasEnded l t limit self end → IsPlayed l t limit result.summary result.published.items result.journal }
         ensures end { result.summary.end ≡ end }

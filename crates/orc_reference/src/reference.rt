@@ -1,4 +1,4 @@
-//! The loop of the engine.
+//! The loop of the plain engine: choose an entry, record it, record the cancels that it makes due, and again.
 
 ghost use Rattle.std.specs.Prelude.{◌≡◌, ◌+◌, ◌<◌, ◌≤◌, ◌^◌, ℕ, IfOk, OnOk};
 ghost use Rattle.orc_outcome.specs.Outcome.{IsPlayed};
@@ -22,10 +22,11 @@ pub(crate) enum Choice {
     Nothing,
 }
 
-/// What says which entry comes next. No contract depends on it.
+/// What says which entry comes next: an agenda, or a way that was found. No contract depends on it, since `History::record` refuses an entry that the
+/// rules don't allow.
 pub(crate) trait Turns {
-    /// An entry that can come next, while no cancel is due: a move of a token, else the end of `side`, which has halted, else a return that is
-    /// due now, else a tick.
+    /// The entry that comes next, while no cancel is due: a move of a token, else the end of `side`, which has halted, else a return that is
+    /// due now, else a tick. The error is refused memory.
     fn choose(
         &mut self,
         program: &Program,
@@ -33,11 +34,12 @@ pub(crate) trait Turns {
         side: Option<Side>,
     ) -> Result<Choice, AllocError>;
 
-    /// Takes note of what an entry has made: new tokens, a call, or tokens that wait no more.
+    /// Takes note of what a recorded entry has made: new tokens, a call, or tokens that wait no more. `marked` is the term after it. The error is
+    /// refused memory.
     fn note(&mut self, entry: &Entry, marked: &Marked) -> Result<(), AllocError>;
 }
 
-// How a run ends where nothing can come next.
+// How a run ends in which nothing can come next: halted or quiet. Broken is for a `Turns` that says so too early.
 fn rest(history: &mut History, program: &Program) -> Result<End, PlayFault>
     ensures { (t : Table) (turns limit : ℕ) → turns ≤ limit → IsReached program.now t turns history.old → IfOk result (HasEnded program.now t limit history.new) }
 {
@@ -50,7 +52,8 @@ fn rest(history: &mut History, program: &Program) -> Result<End, PlayFault>
     Err(PlayFault::Broken)
 }
 
-// How a run ends whose journal has as many entries as the limit.
+// How a run ends whose journal has as many entries as the limit, while an entry could come next: cut, unless it is quiet and only moves of marks are
+// left.
 fn cut(history: &mut History, program: &Program, limit: u64) -> End
     ensures { (t : Table) → IsReached program.now t limit history.old → HasEnded program.now t limit history.new result }
 {
@@ -60,7 +63,7 @@ fn cut(history: &mut History, program: &Program, limit: u64) -> End
     End::Quiet
 }
 
-// Records the cancels that are due, one after another.
+// Records the cancels that are due, one after another. The fault is Broken, also where memory was refused: the run can't end before all are recorded.
 fn settle(history: &mut History, program: &Program, answers: &Answers) -> Result<(), PlayFault>
     ensures { OnOk result (Settles program.now answers.now history.old history.new) }
 {
@@ -79,7 +82,8 @@ fn settle(history: &mut History, program: &Program, answers: &Answers) -> Result
     Err(PlayFault::Broken)
 }
 
-// Adds entries until nothing can come next or the journal has `limit` of them, cancels not counted.
+// Adds entries until nothing can come next or the journal has `limit` of them, cancels not counted: how the run ended, which is Memory where memory
+// was refused. The fault is Broken where the rules refuse an entry that `turns` says, and also where memory was refused among the cancels of a bind.
 pub(crate) fn proceed<T: Turns>(
     history: &mut History,
     turns: &mut T,
@@ -106,6 +110,7 @@ pub(crate) fn proceed<T: Turns>(
             return Ok(End::Memory);
         }
     }
+    // The limit is reached. Whether it cut the run depends on whether something could still come.
     let side = history.halted_side();
     match turns.choose(program, history.marked(), side) {
         Ok(Choice::Entry(_)) => Ok(cut(history, program, limit)),
@@ -117,7 +122,8 @@ pub(crate) fn proceed<T: Turns>(
 /// Runs a program: entries that the rules allow, one after another, until nothing can come next or the journal has `limit` of them, cancels not
 /// counted. The cancels of a bind follow it at once. The journal is kept.
 ///
-/// The fault is Memory where memory was refused before the run began; or Broken where the rules refuse an entry that was to come next.
+/// The fault is Memory where memory was refused before the run began; or Broken where the rules refuse an entry that was to come next. Where memory
+/// is refused later the run ends so, as `End::Memory`, except among the cancels of a bind, where it is Broken.
 pub fn play(
     alloc: Global,
     program: &Program,
