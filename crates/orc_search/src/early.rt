@@ -1,6 +1,8 @@
 //! Early steps of a numbered term: those that may go first, since they leave all its other steps as they are (`Early` in `specs/Early.antt`). Such
 //! are all steps but publications, and of these one that is all that a `>x>` or a cell waits for. Calls and answers are only where nobody sees them,
 //! which the caller says.
+//!
+//! In contracts `own` is what the definitions let a part do by itself, `IsEarly` says that a step is early, and `Extends` that all terms stay.
 
 ghost use Rattle.std.specs.Prelude.{◌≡◌, ◌<◌, ◌++◌, ◌∷◌, [], ℕ, List, length, Some, slice_get, true, IfOk, IfSome, OnOk};
 ghost use Rattle.std.specs.List.{AllZip};
@@ -177,6 +179,7 @@ impl Parts {
         requires part { IsPart (smalls terms.old) self.now.root self.now.list.items part }
         requires there { step.to < length (smalls terms.old) }
         requires passed { is_passed (happening_of step.happening) ≡ true }
+        // If the step of the part is early, so is the step of the whole, with the same happening.
         ensures lifts { IfOk result (λ s. Lifts (smalls terms.old) (smalls terms.new) part.spot (record { at = self.now.root; depth = 0 }) step s) }
         ensures kept { Extends (smalls terms.old) (smalls terms.new) }
     {
@@ -209,6 +212,7 @@ impl Parts {
         requires parts { AreParts (smalls terms.old) self.now.root self.now.list.items }
         requires part { IsPart (smalls terms.old) self.now.root self.now.list.items part }
         requires there { step.to < length (smalls terms.old) }
+        // If `step` is the step of the part by itself, the answer is an early step of the whole.
         ensures early { IfOk result (λ o. IfSome o (λ s. (defs : List SmallDefinition) (ask : ℕ → List Datum → Out) → AllZip (IsSuccessor (smalls terms.old)) (step ∷ []) (own defs ask part.spot.depth (small_at (smalls terms.old) part.spot.at)) → IsEarly defs ask (smalls terms.new) self.now.root s)) }
         ensures kept { Extends (smalls terms.old) (smalls terms.new) }
     {
@@ -243,6 +247,7 @@ impl Parts {
         requires parts { AreParts (smalls terms.old) self.now.root self.now.list.items }
         requires part { IsPart (smalls terms.old) self.now.root self.now.list.items part }
         requires there { IfSome step (λ s. s.to < length (smalls terms.old)) }
+        // As `early_by` has it.
         ensures early { IfOk result (λ o. IfSome o (λ s. (defs : List SmallDefinition) (ask : ℕ → List Datum → Out) → AllZip (IsSuccessor (smalls terms.old)) (list_of step) (own defs ask part.spot.depth (small_at (smalls terms.old) part.spot.at)) → IsEarly defs ask (smalls terms.new) self.now.root s)) }
         ensures kept { Extends (smalls terms.old) (smalls terms.new) }
     {
@@ -265,6 +270,7 @@ impl Parts {
         requires ready { IsReady (smalls terms.old) source.now }
         requires root { self.old.root < length (smalls terms.old) }
         requires parts { AreParts (smalls terms.old) self.old.root self.old.list.items }
+        // It is an early step of the term by the definition `Early`, where its happening is taken to be hidden.
         ensures early { IfOk result (λ o. IfSome o (λ s. IsEarly (small_definitions source.now.program.now) (next_call (coming_of_made source.now.answers.now.sites made.now)) (smalls terms.new) self.old.root s)) }
         ensures parts { OnOk result (AreParts (smalls terms.new) self.new.root self.new.list.items) }
         ensures root { self.new.root ≡ self.old.root }

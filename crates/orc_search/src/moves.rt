@@ -1,4 +1,7 @@
 //! All that a numbered term may do. A part does something *by itself* (`own_step`), and `lifted_out` says what the whole does by that.
+//!
+//! In contracts `smalls terms` is the list of all terms by their numbers, `Extends` says that those which were there stay, and `AllZip (IsSuccessor
+//! ..)` that numbered steps are the steps of a list, one by one.
 
 ghost use Rattle.std.specs.Prelude.{◌≡◌, ◌<◌, ◌≤◌, ◌++◌, List, ℕ, length, map, reverse, Some, None, slice_get, IfOk, OnOk, IfSome, IfNone};
 ghost use Rattle.std.specs.List.{AllZip};
@@ -151,6 +154,7 @@ fn asked(
     site: u32,
     params: &[Param],
 ) -> Result<Option<Becoming>, AllocError>
+    // A call with what the table says of the next one, if all parameters are values; and a silent end if one is void.
     ensures { IfOk result (λ o. becoming_of o ≡ asked (next_call (coming_of_made source.now.answers.now.sites made.now)) site (values_of params.now) ++ silently (has_void params.now) nothing) }
 {
     if params.len() > MOST_ARGUMENTS {
@@ -221,6 +225,7 @@ fn own_of(
 
 // The definition of that number; None if there is none.
 fn definition(program: &Program, number: u32) -> Option<&Definition>
+    // As a small definition it is the one of that number.
     ensures there { IfSome result (λ d. slice_get (small_definitions program.now) number ≡ Some (small_definition (definition_of program.now (routine_of d.now)))) }
     ensures none { IfNone result (slice_get (small_definitions program.now) number ≡ None) }
 {
@@ -233,6 +238,7 @@ fn definition(program: &Program, number: u32) -> Option<&Definition>
 // The number of the term of a program's node; where there is no such node, its term is nothing. The error is refused memory.
 fn number_of_node(terms: &mut Terms, source: &Source, node: usize) -> Result<usize, AllocError>
     requires { IsReady (smalls terms.old) source.now }
+    // The number is that of the small term of the program's node.
     ensures number { IfOk result (λ n. slice_get (smalls terms.new) n ≡ Some (small (code source.now.program.now node))) }
     ensures kept { Extends (smalls terms.old) (smalls terms.new) }
 {
@@ -254,6 +260,7 @@ fn filled(
     body: usize,
 ) -> Result<usize, AllocError>
     requires { body < length terms.old }
+    // The number is that of `body` with the parameters for the names.
     ensures number { IfOk result (λ n. slice_get (smalls terms.new) n ≡ Some (set_all names.now params.now (small_at (smalls terms.old) body))) }
     ensures kept { Extends (smalls terms.old) (smalls terms.new) }
 {
@@ -277,6 +284,7 @@ fn entered(
     params: &[Param],
 ) -> Result<Option<Successor>, AllocError>
     requires { IsReady (smalls terms.old) source.now }
+    // It is the step that the definitions have for this call, or there is none there either.
     ensures entered { IfOk result (λ o. AllZip (IsSuccessor (smalls terms.new)) (list_of o) (entered (slice_get (small_definitions source.now.program.now) number) params.now)) }
     ensures kept { Extends (smalls terms.old) (smalls terms.new) }
 {
@@ -303,6 +311,7 @@ fn opened(
 ) -> Result<usize, AllocError>
     requires left { f < length terms.old }
     requires right { g < length terms.old }
+    // The number is that of the opened pruning of f, with the cell for x, and g.
     ensures number { IfOk result (λ n. slice_get (smalls terms.new) n ≡ Some (needs (set (Cell depth) x (small_at (smalls terms.old) f)) (small_at (smalls terms.old) g))) }
     ensures kept { Extends (smalls terms.old) (smalls terms.new) }
 {
@@ -323,6 +332,7 @@ fn turned(
 ) -> Result<Option<usize>, AllocError>
     requires left { f < length terms.old }
     requires right { g < length terms.old }
+    // It is the step that the definitions have for the joined term by itself, or there is none there either.
     ensures turned { IfOk result (λ o. (defs : List SmallDefinition) (ask : ℕ → List Datum → Out) → Turns (smalls terms.new) o (own defs ask depth (joined joint (small_at (smalls terms.old) f) (small_at (smalls terms.old) g)))) }
     ensures kept { Extends (smalls terms.old) (smalls terms.new) }
 {
@@ -362,6 +372,7 @@ pub(crate) fn own_step(
 ) -> Result<Option<Successor>, AllocError>
     requires ready { IsReady (smalls terms.old) source.now }
     requires there { spot.at < length terms.old }
+    // It is the step of the part in the list `own` of the definitions, which has one at most.
     ensures own { IfOk result (λ o. AllZip (IsSuccessor (smalls terms.new)) (list_of o) (own (small_definitions source.now.program.now) (next_call (coming_of_made source.now.answers.now.sites made.now)) spot.depth (small_at (smalls terms.old) spot.at))) }
     ensures kept { Extends (smalls terms.old) (smalls terms.new) }
 {
@@ -407,7 +418,9 @@ fn step(
 ) -> Result<Option<Successor>, AllocError>
     requires ready { IsReady (smalls terms.old) source.now }
     requires there { spot.at < length terms.old }
+    // As `own_step` has it.
     ensures own { IfOk result (λ o. AllZip (IsSuccessor (smalls terms.new)) (list_of o) (own (small_definitions source.now.program.now) (next_call (coming_of_made source.now.answers.now.sites made.now)) spot.depth (small_at (smalls terms.old) spot.at))) }
+    // The parts of the part are the next tasks of the walk.
     ensures planned { IfOk result (λ _. IsPlanned (smalls terms.old) spot walk.old walk.new) }
     ensures kept { Extends (smalls terms.old) (smalls terms.new) }
 {
@@ -437,6 +450,7 @@ fn whole_of(
 ) -> Result<Option<Successor>, AllocError>
     requires around { AreAround (length terms.old) (reverse path.now) }
     requires part { IfSome own (λ s. s.to < length terms.old) }
+    // It is the step through all frames of the path, the last one first.
     ensures lifted { IfOk result (λ o. AllZip (IsSuccessor (smalls terms.new)) (list_of o) (map (λ s. through (smalls terms.old) (reverse path.now) (successor_of (smalls terms.old) s)) (list_of own))) }
     ensures kept { Extends (smalls terms.old) (smalls terms.new) }
 {
@@ -471,6 +485,7 @@ pub fn successors(
 ) -> Result<Vec<Successor>, AllocError>
     requires ready { IsReady (smalls terms.old) source.now }
     requires there { root < length terms.old }
+    // They are the list `moves` of the definitions for this term, one by one.
     ensures all { IfOk result (λ v. AllZip (IsSuccessor (smalls terms.new)) v.items (moves (small_definitions source.now.program.now) (next_call (coming_of_made source.now.answers.now.sites made.now)) 0 (small_at (smalls terms.old) root))) }
     ensures kept { Extends (smalls terms.old) (smalls terms.new) }
 {

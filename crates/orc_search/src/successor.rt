@@ -120,6 +120,7 @@ fn fed(
 ) -> Result<usize, AllocError>
     requires left { f < length terms.old }
     requires right { g < length terms.old }
+    // The number is that of `(f >x> g) | g`, where the second g has the value for x.
     ensures number { IfOk result (λ to. slice_get (smalls terms.new) to ≡ Some (both (feeds (small_at (smalls terms.old) f) x (small_at (smalls terms.old) g)) (set (param_is.Is value) x (small_at (smalls terms.old) g)))) }
     ensures kept { Extends (smalls terms.old) (smalls terms.new) }
 {
@@ -139,6 +140,7 @@ pub fn lifted(
 ) -> Result<Successor, AllocError>
     requires other { IsAround (length terms.old) frame }
     requires part { successor.to < length terms.old }
+    // It is the step that the definitions have for the enclosing term, `in_frame`.
     ensures lifted { IfOk result (λ s. IsSuccessor (smalls terms.new) s (in_frame (smalls terms.old) frame (successor_of (smalls terms.old) successor))) }
     ensures kept { Extends (smalls terms.old) (smalls terms.new) }
 {

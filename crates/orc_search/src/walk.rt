@@ -45,6 +45,7 @@ pub(crate) fn lifted_out(
 ) -> Result<Successor, AllocError>
     requires around { AreAround (length terms.old) (reverse path.now) }
     requires part { successor.to < length terms.old }
+    // It is the step through all frames of the path, the last one first.
     ensures lifted { IfOk result (λ s. IsSuccessor (smalls terms.new) s (through (smalls terms.old) (reverse path.now) (successor_of (smalls terms.old) successor))) }
     ensures kept { Extends (smalls terms.old) (smalls terms.new) }
 {
@@ -110,6 +111,7 @@ impl Walk {
 
     /// Goes on to the next part, whose frames are the path then; None once all parts have been entered. The error is refused memory.
     pub(crate) fn next(&mut self) -> Result<Option<Spot>, AllocError>
+        // What was still to be found is what the part has to give, and what is still to be found now; with None it was nothing.
         ensures { IfOk result (λ o. GoesOn self.old o self.new) }
     {
         while let Some(task) = self.todo.pop() {
