@@ -37,6 +37,7 @@ impl Tables {
         requires from { IsKnown self.old from }
         ensures all { OnOk result (AreKnown self.new) }
         ensures kept { OnOk result (Keeps self.old self.new) }
+        // True says that the happening is hidden: `ahead_follows` of orc_search asks for that.
         ensures hidden { IfOk result (λ is. is ≡ true → IsHidden (is_unkept (kept_by sieve.now)) (coming_at answers.now.sites self.old from.made) (happening_of happening.now)) }
         ensures terms { self.new.terms ≡ self.old.terms }
         ensures states { self.new.states ≡ self.old.states }
@@ -65,6 +66,7 @@ impl Tables {
         ensures all { OnOk result (AreKnown self.new) }
         ensures kept { OnOk result (Keeps self.old self.new) }
         ensures there { IfOk result (λ o. IfSome o (λ term. term < length (smalls self.new.terms))) }
+        // By early steps, none of which is kept, the term of the state leads to it: here by one.
         ensures leads { IfOk result (λ o. IfSome o (λ term. LeadsTo (small_definitions source.now.program.now) (kept_by sieve.now) source.now.answers.now.sites self.new from term)) }
         ensures states { OnOk result (self.new.states ≡ self.old.states) }
         ensures ends { OnOk result (self.new.ends ≡ self.old.ends) }
@@ -99,6 +101,7 @@ impl Tables {
         ensures all { OnOk result (AreKnown self.new) }
         ensures kept { OnOk result (Keeps self.old self.new) }
         ensures there { IfOk result (λ term. term < length (smalls self.new.terms)) }
+        // By early steps, none of which is kept, the term of the state leads to it.
         ensures leads { IfOk result (λ term. LeadsTo (small_definitions source.now.program.now) (kept_by sieve.now) source.now.answers.now.sites self.new from term) }
         ensures states { OnOk result (self.new.states ≡ self.old.states) }
         ensures ends { OnOk result (self.new.ends ≡ self.old.ends) }

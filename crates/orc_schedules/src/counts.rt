@@ -94,7 +94,9 @@ fn hash_of(made: &[Made]) -> u64 {
 // calls were made first. Nothing is promised of that order: in another one the search would find more states.
 fn place_of(made: &[Made], calls: &Made) -> Place
     ensures within { result.at ≤ length made.now }
+    // No entry before the place is for these calls.
     ensures before { (i : ℕ) (e : Entry) → i < result.at → slice_get made.now i ≡ Some e → is_kind (count_of e) (count_of calls.now) ≡ false }
+    // With `again` the entry at the place is.
     ensures again { result.again ≡ true → (e : Entry) × (slice_get made.now result.at ≡ Some e) × (is_kind (count_of e) (count_of calls.now) ≡ true) }
 {
     let hash = hash_of_kind(calls);
@@ -263,6 +265,7 @@ impl Counts {
     fn raised(&mut self, alloc: Global, at: usize, calls: Made) -> Result<usize, AllocError>
         requires { at < length self.old }
         ensures there { IfOk result (λ to. to < length self.new) }
+        // In the new list the calls have this entry's count, and all others the count that they had.
         ensures times { IfOk result (λ to. (m : ℕ) (args : List Datum) → times_of (made_at self.new to) m args ≡ times_with (count_of calls) (times_of (made_at self.old at)) m args) }
         ensures kept { Grows self.old self.new }
     {
@@ -286,6 +289,7 @@ impl Counts {
     ) -> Result<usize, AllocError>
         requires { at < length self.old }
         ensures there { IfOk result (λ to. to < length self.new) }
+        // What the table says of the calls to come, after the new list, is what it said after the old one, without the next such call.
         ensures coming { IfOk result (λ to. coming_of_made answers.now.sites (made_at self.new to) ≡ without_next site args.now (coming_of_made answers.now.sites (made_at self.old at))) }
         ensures kept { Grows self.old self.new }
     {
@@ -318,6 +322,7 @@ impl Counts {
     ) -> Result<usize, AllocError>
         requires { at < length self.old }
         ensures there { IfOk result (λ to. to < length self.new) }
+        // What the table says of the calls to come, after the new list, is what it said after the old one and this happening.
         ensures coming { IfOk result (λ to. coming_of_made answers.now.sites (made_at self.new to) ≡ coming_after (happening_of happening.now) (coming_of_made answers.now.sites (made_at self.old at))) }
         ensures kept { Grows self.old self.new }
     {

@@ -141,8 +141,10 @@ impl Moves {
         requires ready { IsReady (smalls terms.old) source.now }
         requires term { from.term < length (smalls terms.old) }
         requires made { from.made < length counts.now }
+        // All that is kept is right, for these terms and lists of calls.
         requires listed { AreListed (small_definitions source.now.program.now) source.now.answers.now.sites (smalls terms.old) counts.now self.old }
         ensures listed { OnOk result (AreListed (small_definitions source.now.program.now) source.now.answers.now.sites (smalls terms.new) counts.now self.new) }
+        // What is kept at the place is the list `moves` of the definitions for the term, after these calls.
         ensures all { IfOk result (λ at. AreNext (small_definitions source.now.program.now) source.now.answers.now.sites (smalls terms.new) counts.now from.made (small_at (smalls terms.old) from.term) (next_at self.new at)) }
         ensures kept { Extends (smalls terms.old) (smalls terms.new) }
     {

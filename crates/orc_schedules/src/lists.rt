@@ -281,6 +281,7 @@ impl Lists {
     fn after_value(&mut self, at: usize, sieve: &Sieve, value: Value) -> Result<usize, AllocError>
         requires { at < length (lists self.old) }
         ensures there { IfOk result (λ to. to < length (lists self.new)) }
+        // The new list is the old one with this publication behind it, if it is named.
         ensures list { IfOk result (λ to. list_at (lists self.new) to ≡ seen_now (list_at (lists self.old) at) (named (names_of sieve.now) (Event.Published value ∷ []))) }
         ensures kept { Grows (lists self.old) (lists self.new) }
     {
@@ -307,6 +308,7 @@ impl Lists {
     ) -> Result<usize, AllocError>
         requires { at < length (lists self.old) }
         ensures there { IfOk result (λ to. to < length (lists self.new)) }
+        // The new list is the old one with this behind it, if it is named.
         ensures list { IfOk result (λ to. list_at (lists self.new) to ≡ seen_now (list_at (lists self.old) at) (named (names_of sieve.now) (becomes (sites_of sieve.now) site args.now phase ∷ []))) }
         ensures kept { Grows (lists self.old) (lists self.new) }
     {
@@ -327,6 +329,7 @@ impl Lists {
     pub(crate) fn wait(&mut self, at: usize, sieve: &Sieve, by: u64) -> Result<usize, AllocError>
         requires { at < length (lists self.old) }
         ensures there { IfOk result (λ to. to < length (lists self.new)) }
+        // The new list is the old one at the later time, as far as times are told apart.
         ensures list { IfOk result (λ to. list_at (lists self.new) to ≡ seen_after (kept_by sieve.now) (list_at (lists self.old) at) (waits by)) }
         ensures kept { Grows (lists self.old) (lists self.new) }
     {
@@ -354,6 +357,7 @@ impl Lists {
     ) -> Result<usize, AllocError>
         requires { at < length (lists self.old) }
         ensures there { IfOk result (λ to. to < length (lists self.new)) }
+        // The new list is the old one with what the sieve keeps of the happening behind it.
         ensures list { IfOk result (λ to. list_at (lists self.new) to ≡ seen_after (kept_by sieve.now) (list_at (lists self.old) at) (happens (happening_of happening.now))) }
         ensures kept { Grows (lists self.old) (lists self.new) }
     {

@@ -1,4 +1,7 @@
 //! The tables of a search: what it has found, and the steps by which it finds more.
+//!
+//! In contracts `AreKnown` says that all numbers in the tables are of something, `Keeps` that all that was there stays with its number, `reached` is
+//! the list of the states that the numbers mean, and `outcomes` that of the ends.
 
 ghost use Rattle.std.specs.Prelude.{◌≡◌, ◌<◌, ◌≤◌, ◌∷◌, [], ℕ, List, length, map, true, false, Some, slice_get, IfSome, IfNone, IfOk, OnOk};
 ghost use Rattle.orc_rules.specs.Sites.{Site};
@@ -110,7 +113,9 @@ impl Tables {
         requires to { successor.now.to < length (smalls self.old.terms) }
         ensures all { OnOk result (AreKnown self.new) }
         ensures kept { OnOk result (Keeps self.old self.new) }
+        // What the state becomes is among the states.
         ensures followed { OnOk result (IsIn (after (kept_by sieve.now) answers.now.sites self.old from successor.now) (reached answers.now.sites self.new)) }
+        // No other state is added.
         ensures added { OnOk result (AddsOnly answers.now.sites (λ r. r ≡ after (kept_by sieve.now) answers.now.sites self.old from successor.now) self.old self.new) }
         ensures ends { OnOk result (self.new.ends ≡ self.old.ends) }
     {
@@ -139,7 +144,9 @@ impl Tables {
         requires to { (i : ℕ) (s : Next) → slice_get successors.now i ≡ Some s → s.to < length (smalls self.old.terms) }
         ensures all { OnOk result (AreKnown self.new) }
         ensures kept { OnOk result (Keeps self.old self.new) }
+        // What the state becomes by each of them is among the states.
         ensures followed { OnOk result ((i : ℕ) (s : Next) → slice_get successors.now i ≡ Some s → IsIn (after (kept_by sieve.now) answers.now.sites self.old from s) (reached answers.now.sites self.new)) }
+        // No other state is added.
         ensures added { OnOk result (AddsOnly answers.now.sites (IsAfterOne (kept_by sieve.now) answers.now.sites self.old from successors.now) self.old self.new) }
         ensures ends { OnOk result (self.new.ends ≡ self.old.ends) }
     {
@@ -156,7 +163,9 @@ impl Tables {
         requires from { IsKnown self.old from }
         ensures all { OnOk result (AreKnown self.new) }
         ensures kept { OnOk result (Keeps self.old self.new) }
+        // If the state waits, the wait is no longer than the longest, and what it becomes is among the states.
         ensures waited { OnOk result ((sites : List Site) (by : ℕ) → some_time (least_left (small_at (smalls self.old.terms) from.term)) ≡ Some by → (by ≤ self.new.longest) × IsIn (waited (kept_by sieve.now) sites self.old from by) (reached sites self.new)) }
+        // No other state is added.
         ensures added { OnOk result ((sites : List Site) → AddsOnly sites (IsWaited (kept_by sieve.now) sites self.old from self.new.longest) self.old self.new) }
         ensures ends { OnOk result (self.new.ends ≡ self.old.ends) }
     {
@@ -184,7 +193,9 @@ impl Tables {
         requires from { IsKnown self.old from }
         ensures all { OnOk result (AreKnown self.new) }
         ensures kept { OnOk result (Keeps self.old self.new) }
+        // If the state is an end, that end is among the ends, with what was seen on the way.
         ensures told { OnOk result ((e : Ending) → ending_if still (small_at (smalls self.old.terms) from.term) ≡ Some e → IsIn (end_of e, seen_at self.old from.seen) (outcomes self.new)) }
+        // No other end is added.
         ensures added { OnOk result (AddsEnd (outcomes self.old) (ending_if still (small_at (smalls self.old.terms) from.term)) (seen_at self.old from.seen) (outcomes self.new)) }
         ensures states { OnOk result (self.new.states ≡ self.old.states) }
     {
@@ -225,10 +236,13 @@ impl Tables {
         requires from { IsKnown self.old from }
         requires ready { IsReady (smalls self.old.terms) source.now }
         requires listed { AreListed (small_definitions source.now.program.now) source.now.answers.now.sites (smalls self.old.terms) self.old.counts moves.old }
+        // What `moves` keeps stays right. The same holds below.
         ensures listed { OnOk result (AreListed (small_definitions source.now.program.now) source.now.answers.now.sites (smalls self.new.terms) self.new.counts moves.new) }
         ensures all { OnOk result (AreKnown self.new) }
         ensures kept { OnOk result (Keeps self.old self.new) }
+        // All that may come of the state is among the states, its wait is no longer than the longest, and its end is among the ends.
         ensures done { OnOk result (IsDone (small_definitions source.now.program.now) (kept_by sieve.now) (reached source.now.answers.now.sites self.new) self.new.longest (outcomes self.new) (reached_at source.now.answers.now.sites self.old from)) }
+        // If the states before came one from another, so do they now: `from` is ahead of one that is there.
         ensures found { OnOk result ((begin : State) (behind : ℕ) → IsIn (record { term = behind; made = from.made; seen = from.seen }) self.old.states → LeadsTo (small_definitions source.now.program.now) (kept_by sieve.now) source.now.answers.now.sites self.old (record { term = behind; made = from.made; seen = from.seen }) from.term → AreFound (small_definitions source.now.program.now) (kept_by sieve.now) begin source.now.answers.now.sites self.old → AreFound (small_definitions source.now.program.now) (kept_by sieve.now) begin source.now.answers.now.sites self.new) }
     {
         let at = moves.find(&mut self.terms, alloc, source, &self.counts, from)?;
@@ -260,7 +274,9 @@ impl Tables {
         ensures listed { OnOk result (AreListed (small_definitions source.now.program.now) source.now.answers.now.sites (smalls self.new.terms) self.new.counts moves.new) }
         ensures all { OnOk result (AreKnown self.new) }
         ensures kept { OnOk result (Keeps self.old self.new) }
+        // All of that is there for a state that early steps make of this one.
         ensures done { OnOk result (IsLookedAt (small_definitions source.now.program.now) (kept_by sieve.now) (reached source.now.answers.now.sites self.new) self.new.longest (outcomes self.new) (reached_at source.now.answers.now.sites self.old from)) }
+        // If the states before came one from another, so do they now.
         ensures found { OnOk result ((begin : State) → IsIn from self.old.states → AreFound (small_definitions source.now.program.now) (kept_by sieve.now) begin source.now.answers.now.sites self.old → AreFound (small_definitions source.now.program.now) (kept_by sieve.now) begin source.now.answers.now.sites self.new) }
     {
         let term = self.ahead_of(alloc, source, sieve, from)?;
@@ -288,7 +304,9 @@ impl Tables {
         requires listed { AreListed (small_definitions source.now.program.now) source.now.answers.now.sites (smalls self.old.terms) self.old.counts moves.old }
         ensures listed { OnOk result (AreListed (small_definitions source.now.program.now) source.now.answers.now.sites (smalls self.new.terms) self.new.counts moves.new) }
         ensures kept { OnOk result (Keeps self.old self.new) }
+        // If these were all, each state was looked at.
         ensures done { IfOk result (λ all. all ≡ true → AreDone (small_definitions source.now.program.now) (kept_by sieve.now) source.now.answers.now.sites self.new (length self.new.states)) }
+        // If the states before came one from another, so do they now.
         ensures found { OnOk result ((begin : State) → AreFound (small_definitions source.now.program.now) (kept_by sieve.now) begin source.now.answers.now.sites self.old → AreFound (small_definitions source.now.program.now) (kept_by sieve.now) begin source.now.answers.now.sites self.new) }
     {
         for at in 0..most {
@@ -346,6 +364,7 @@ impl Tables {
         claim: &Claim,
         told: Told,
     ) -> Result<Option<Seen>, AllocError>
+        // It is this end, and the claim fails there; None says that it holds there.
         ensures some { IfOk result (λ o. IfSome o (λ s. (end_seen s ≡ outcome_at self.now told) × (holds_by claim.now (outcome_at self.now told) ≡ false))) }
         ensures none { IfOk result (λ o. IfNone o (holds_by claim.now (outcome_at self.now told) ≡ true)) }
     {
@@ -363,6 +382,7 @@ impl Tables {
         alloc: Global,
         claim: &Claim,
     ) -> Result<Option<Seen>, AllocError>
+        // It is one of the ends, and the claim fails there; None says that it holds at all.
         ensures some { IfOk result (λ o. IfSome o (λ s. IsIn (end_seen s) (outcomes self.now) × (holds_by claim.now (end_seen s) ≡ false))) }
         ensures none { IfOk result (λ o. IfNone o ((e : EndSeen) → IsIn e (outcomes self.now) → holds_by claim.now e ≡ true)) }
     {
