@@ -1,4 +1,7 @@
 //! Claims: what has to hold. Each reader here takes the tokens of the line from where its part begins; None says that they are no such claim.
+//!
+//! In contracts `Gives f result (NAME_at ..)` says that a reader answers what the definition NAME_at gives for these tokens, and None where that
+//! does; f turns the code's value into that of the definitions.
 
 ghost use Rattle.std.specs.Prelude.{◌≡◌, IfOk, length, None, Some};
 ghost use Rattle.std.specs.List.{list_all};

@@ -1,4 +1,7 @@
 //! The draft of a test: what its lines so far say, and whether the next line is allowed behind them.
+//!
+//! In contracts `IsPlaced (with_NAME ..) new good` says that the draft becomes what the definition with_NAME gives, and that the answer is false
+//! where that gives nothing.
 
 ghost use Rattle.std.specs.Prelude.{◌≡◌, ◌≤◌, length, IfOk, OnOk, option_map, Option, Some, None};
 ghost use Rattle.orc_rules.specs.Digits.{Gives};

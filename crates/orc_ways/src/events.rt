@@ -1,4 +1,7 @@
 //! Events: what may happen in a run, as claims name it. A function here reads from the front of the tokens and hands back those behind what it read.
+//!
+//! In contracts `Gives f result (NAME_at ..)` says that a reader answers what the definition NAME_at gives for these tokens, and None where that
+//! does; f turns the code's value into that of the definitions.
 
 ghost use Rattle.std.specs.Prelude.{◌≡◌, ◌≤◌, length, IfOk, option_map};
 ghost use Rattle.orc_rules.specs.Digits.{Gives};

@@ -1,4 +1,7 @@
 //! The lines of services: `Pay(_) = 1 after 0..13 | halt then 2`.
+//!
+//! In contracts `Gives f result (NAME_at ..)` says that a reader answers what the definition NAME_at gives for these tokens, and None where that
+//! does; f turns the code's value into that of the definitions.
 
 ghost use Rattle.std.specs.Prelude.{◌≡◌, IfOk, option_map, codes};
 ghost use Rattle.std.specs.List.{list_all};

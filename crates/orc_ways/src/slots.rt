@@ -1,4 +1,7 @@
 //! Slots: what stands in the place of a value, which is a value, `_` or a variable.
+//!
+//! In contracts `Gives f result (NAME_at ..)` says that a reader answers what the definition NAME_at gives for these tokens, and None where that
+//! does; f turns the code's value into that of the definitions.
 
 ghost use Rattle.std.specs.Prelude.{◌≡◌, ◌<◌, length, IfOk, IfSome};
 ghost use Rattle.orc_rules.specs.Digits.{Gives};
