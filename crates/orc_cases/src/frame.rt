@@ -1,4 +1,7 @@
 //! The frame of a case: what the scripts of all its ways have in common. A way is a number in the frame, from 0, and `push_way` writes it out.
+//!
+//! In contracts `way_at (all_choices_of lines) number` is the way with this number, which is its lines' choices, and `IsCounted` says that `count` is
+//! the number of ways.
 
 ghost use Rattle.std.specs.Prelude.{◌≡◌, ◌++◌, ◌<◌, IfOk, OnOk, length, map, option_map, slice_get};
 ghost use Rattle.orc_ways.specs.Values.{service_of};

@@ -1,4 +1,6 @@
 //! Which services a case has: its own, and those of `given` that it doesn't override. Services are meant by their places in the test's list, from 0.
+//!
+//! In contracts `services_at services places` is the list of the services at these places.
 
 ghost use Rattle.std.specs.Prelude.{◌≡◌, ◌++◌, IfOk, OnOk, map, option_map, slice_get};
 ghost use Rattle.std.specs.List.{list_any};

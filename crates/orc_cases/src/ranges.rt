@@ -1,4 +1,6 @@
 //! With which delays of a range a case fails: `Pay(_) = 1 after 3..7, 12`.
+//!
+//! In contracts `map (way_at ..) numbers` is the list of the ways, in their order.
 
 ghost use Rattle.std.specs.Prelude.{◌≡◌, ◌<◌, ◌++◌, IfOk, OnOk, map, option_map};
 ghost use Rattle.orc_cases.specs.Digits.{way_at};
