@@ -38,7 +38,8 @@ impl Model for History {
     ghost view = { λ h. record { marked = h.marked; published = h.published.items; journal = h.journal } };
 }
 
-// Notes the value that an entry publishes, if it publishes one, behind those before it. There is room, so the push can't be refused.
+// Notes the value that an entry publishes, if it publishes one, behind those before it. There is room, so the push can't be refused: the prover is
+// shown that.
 fn note(values: &mut Vec<Value>, entry: &Entry)
     requires { vec_len values.old < vec_capacity values.old }
     ensures { values.new.items ≡ values.old.items ++ published (entry.now ∷ []) }
@@ -106,6 +107,7 @@ impl History {
 
     /// Whether the run is quiet: it hasn't halted, no rule can be used, and no tick is possible. The run doesn't change.
     pub fn is_quiet(&mut self, program: &Program) -> bool
+        // It is what the rules call quiet, of any program with these definitions at a place that the marked term spells.
         ensures quiet { (x : Context) (p : Place) → x.definitions ≡ definitions program.now → Spells x (code program.now) self.old.marked p → (result ≡ true) ↔ IsQuiet x (moment p) }
         ensures same { self.new ≡ self.old }
     {
@@ -114,6 +116,7 @@ impl History {
 
     /// What is reported of the run, which has ended so: its end, counts and time, its publications, and its journal.
     pub fn played(self, end: End) -> Played
+        // If the run has ended so within a limit, what is reported is what a run of the program owes (`IsPlayed` of orc_outcome).
         ensures played { (l : Listing) (t : Table) (limit : ℕ) → HasEnded l t limit self end → IsPlayed l t limit result.summary result.published.items result.journal }
         ensures end { result.summary.end ≡ end }
     {

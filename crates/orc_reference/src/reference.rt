@@ -41,6 +41,7 @@ pub(crate) trait Turns {
 
 // How a run ends in which nothing can come next: halted or quiet. Broken is for a `Turns` that says so too early.
 fn rest(history: &mut History, program: &Program) -> Result<End, PlayFault>
+    // After a journal of `turns` entries it is an end that the rules allow, within any limit that is as high.
     ensures { (t : Table) (turns limit : ℕ) → turns ≤ limit → IsReached program.now t turns history.old → IfOk result (HasEnded program.now t limit history.new) }
 {
     if history.marked().has_halted() {
