@@ -16,16 +16,19 @@ use Rattle.orc_search.specs.Small.{Small, set, settle_param, settle}
 use Rattle.orc_search.specs.Ticks.{less, pass}
 use Rattle.orc_search.specs.Nodes.{tip_of, joined, small_at}
 
+-- what a whole term becomes by a change
 abbrev pub changed : Change → Small → Small
 changed (Put q x) f = set q x f
 changed (Settle w n) f = settle w n f
 changed (Pass by) f = pass by f
 
+-- what one parameter becomes
 abbrev pub changed_param : Change → Param → Param
 changed_param (Put q x) p = put_param q x p
 changed_param (Settle w n) p = settle_param w n p
 changed_param (Pass by) p = p
 
+-- what comes of a pending call, which only time changes
 abbrev pub changed_rest : Change → Found → Found
 changed_rest (Put q x) rest = rest
 changed_rest (Settle w n) rest = rest
@@ -44,6 +47,7 @@ right_stays _ _ = false
 abbrev pub IsImage : List Small → Image → Type 0
 IsImage terms p = (p.from < length terms) × (slice_get terms p.to ≡ Some (changed p.change (small_at terms p.from)))
 
+-- each image that is kept is right
 abbrev pub AreImages : List Small → List Image → Type 0
 AreImages terms images = (k : ℕ) (p : Image) → slice_get images k ≡ Some p → IsImage terms p
 

@@ -15,12 +15,14 @@ use Rattle.orc_search.specs.Moves.{Happening, called, answered, published, unsee
 use Rattle.orc_search.specs.Successors.{Successor, in_left, in_right, in_feeds, in_main, in_side, in_first}
 use Rattle.orc_search.specs.Nodes.{small_at}
 
+-- a happening of the code as one of the definitions
 abbrev pub happening_of : Shown → Happening
 happening_of (Called m args) = called m args.items
 happening_of (Answered m args a) = answered m args.items a
 happening_of (Published v) = published v
 happening_of Unseen = unseen
 
+-- a numbered step of the code as one of the definitions
 abbrev pub successor_of : List Small → Numbered → Successor
 successor_of terms s = (happening_of s.happening, small_at terms s.to)
 

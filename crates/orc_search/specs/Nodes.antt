@@ -12,6 +12,7 @@ use Rattle.orc_search.specs.Small.{Out, Small, nothing, gives, asks, enters, bot
 use Rattle.orc_search.specs.Ticks.{is_over}
 use Rattle.orc_search.specs.Successors.{least_left}
 
+-- a pending call of the code as one of the definitions
 abbrev pub out_of : Waiting → Out
 out_of w = record { site = w.site; args = w.args.items; rest = w.rest }
 
@@ -45,6 +46,7 @@ abbrev pub smalls_from : List Small → List Node → List Small
 smalls_from terms [] = terms
 smalls_from terms (n ∷ ns) = smalls_from (terms ++ small_of_node terms n ∷ []) ns
 
+-- the terms of all nodes, by their numbers
 abbrev pub smalls : List Node → List Small
 smalls nodes = smalls_from [] nodes
 
@@ -53,6 +55,7 @@ abbrev pub HasParts : ℕ → Node → Type 0
 HasParts n (node.Pair j f g) = (f < n) × (g < n)
 HasParts n (node.Tip t) = Unit {0}
 
+-- so it is of each node
 abbrev pub ArePartsFirst : List Node → Type 0
 ArePartsFirst nodes = (i : ℕ) (n : Node) → slice_get nodes i ≡ Some n → HasParts i n
 

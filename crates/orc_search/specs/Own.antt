@@ -50,5 +50,6 @@ abbrev pub silent_of : Option ℕ → List Numbered
 silent_of None = []
 silent_of (Some to) = record { happening = Unseen; to = to } ∷ []
 
+-- the term of that number is what a silent step leads to, or there is none
 abbrev pub Turns : List Small → Option ℕ → List Successor → Type 0
 Turns terms o ms = AllZip (IsSuccessor terms) (silent_of o) ms

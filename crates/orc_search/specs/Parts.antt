@@ -40,6 +40,7 @@ abbrev pub IsInside : List Small → ℕ → List Part → Spot → Option Insid
 IsInside terms root parts s None = s ≡ record { at = root; depth = 0 }
 IsInside terms root parts s (Some x) = (q : Part) × (slice_get parts x.outer ≡ Some q) × Fits terms x.frame q.spot s
 
+-- a part of the term with that number, whose own number is that of a term
 abbrev pub IsPart : List Small → ℕ → List Part → Part → Type 0
 IsPart terms root parts p = (p.spot.at < length terms) × IsInside terms root parts p.spot p.inside
 

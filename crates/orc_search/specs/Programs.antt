@@ -19,11 +19,14 @@ none_out k = record { site = 0; args = []; rest = Never }
 abbrev pub small : Term → Small
 small t = seen none_out [] t
 
+-- a definition with its body as a small term
 abbrev pub small_definition : Definition → SmallDefinition
 small_definition d = record { params = d.params; body = small d.body }
 
+-- those of a program
 abbrev pub small_definitions : Listing → List SmallDefinition
 small_definitions l = map small_definition (definitions l)
 
+-- a program's definitions and its first moment are as the laws of runs ask
 abbrev pub ProgramIsReady : Type 0
 ProgramIsReady = (l : Listing) (sites : List Site) (cancels : Bool) → AreOf (small_definitions l) (record { definitions = definitions l; sites = sites; cancels = cancels }) × IsWell (start (source l))

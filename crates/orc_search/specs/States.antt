@@ -30,6 +30,7 @@ next_call coming m args = record { site = m; args = args; rest = coming m args 0
 abbrev pub without_next : ℕ → List Value → Coming → Coming
 without_next m args coming n vs i = coming n vs (cond (nat_eq n m && values_eq vs args) (suc i) i)
 
+-- what the calls to come are answered after something has happened: only a call changes it
 abbrev pub coming_after : Happening → Coming → Coming
 coming_after (called m args) coming = without_next m args coming
 coming_after (answered m args a) coming = coming

@@ -91,6 +91,7 @@ sooner None b = b
 sooner (Some a) None = Some a
 sooner (Some a) (Some b) = Some (min a b)
 
+-- the time that a pending call has left, if it will be answered
 abbrev pub time_left : Found → Option ℕ
 time_left (After a delay) = Some delay
 time_left Never = None

@@ -68,6 +68,7 @@ AreThere n [] = Unit {0}
 AreThere n (Enter f s ∷ tasks) = IsAround n f × (s.at < n) × AreThere n tasks
 AreThere n (Leave ∷ tasks) = AreThere n tasks
 
+-- all that a walk names is among so many terms
 abbrev pub IsWithin : ℕ → Walk → Type 0
 IsWithin n w = AreAround n (reverse w.path.items) × AreThere n (reverse w.todo.items)
 

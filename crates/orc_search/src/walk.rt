@@ -121,6 +121,7 @@ impl Walk {
                 }
                 Task::Enter(frame, spot) => {
                     self.path.push(frame)?;
+                    // The parts of this one are planned behind it, so the walk leaves once it has entered them all.
                     self.todo.push(Task::Leave)?;
                     return Ok(Some(spot));
                 }
