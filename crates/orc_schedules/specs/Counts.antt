@@ -14,6 +14,7 @@ pub record Count : Type 0 where
   pub args : List Value
   pub times : ℕ
 
+-- an entry of the code as one of the definitions
 abbrev pub count_of : Made → Count
 count_of m = record { site = m.site; args = m.args.items; times = m.times }
 

@@ -22,6 +22,7 @@ use Rattle.orc_schedules.specs.Tables.{AreDone, outcomes, reached}
 abbrev pub program_of : Explorer → Listing
 program_of e = e.source.program.now
 
+-- and what answers its calls
 abbrev pub answers_of : Explorer → Table
 answers_of e = e.source.answers.now
 

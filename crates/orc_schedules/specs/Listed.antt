@@ -20,6 +20,7 @@ abbrev pub next_of : Option Listed → List Successor
 next_of None = []
 next_of (Some l) = l.next.items
 
+-- those at this place
 abbrev pub next_at : List Listed → ℕ → List Successor
 next_at ls i = next_of (slice_get ls i)
 

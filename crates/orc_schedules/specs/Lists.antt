@@ -28,6 +28,7 @@ what_of calls Nothing = []
 abbrev pub list_of : List Occurrence → List Past → Longer → Past
 list_of calls ls x = record { happened = (list_at ls x.before).happened ++ all_at x.now (what_of calls x.what); now = x.now }
 
+-- these lists, and behind them those that longer ones make of lists before
 abbrev pub lists_from : List Occurrence → List Past → List Longer → List Past
 lists_from calls ls [] = ls
 lists_from calls ls (x ∷ xs) = lists_from calls (ls ++ list_of calls ls x ∷ []) xs
@@ -46,5 +47,6 @@ IsMade n (Published v) = Unit {0}
 IsMade n (Call k) = k < n
 IsMade n Nothing = Unit {0}
 
+-- so it is of each list
 abbrev pub AreMade : List Occurrence → List Longer → Type 0
 AreMade calls xs = (i : ℕ) (x : Longer) → slice_get xs i ≡ Some x → IsMade (length calls) x.what

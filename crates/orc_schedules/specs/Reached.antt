@@ -49,6 +49,7 @@ IsAmong es end vs = (k : ℕ) × (e : Ended) × (slice_get es k ≡ Some e) × (
 abbrev pub AreAll : Listing → Table → ℕ → List Ended → Type 0
 AreAll l t limit es = (o : Outcome) → IsRun l t limit o → HasEnded o.end → IsAmong es o.end (published o.journal)
 
+-- an end of a state as one of a run
 abbrev pub end_of : Ending → End
 end_of halted = Halted
 end_of quiet = Quiet

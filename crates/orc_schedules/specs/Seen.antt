@@ -59,6 +59,7 @@ abbrev pub is_nothing : List Occurrence → Bool
 is_nothing [] = true
 is_nothing (w ∷ ws) = false
 
+-- whether nothing of a happening is kept
 abbrev pub is_unkept : Kept → Happening → Bool
 is_unkept keep h = is_nothing (keep.of h)
 
@@ -93,13 +94,16 @@ abbrev pub names_of : Sieve → List Simple
 names_of Publications = publications
 names_of (Named watch sites) = watch.now.names
 
+-- the sites that claims name, of a sieve for a claim
 abbrev pub sites_of : Sieve → List ClaimSite
 sites_of Publications = []
 sites_of (Named watch sites) = sites.now
 
+-- the latest time that a sieve tells apart
 abbrev pub latest_in : Sieve → ℕ
 latest_in Publications = 0
 latest_in (Named watch sites) = watch.now.latest
 
+-- what a search keeps with this sieve
 abbrev pub kept_by : Sieve → Kept
 kept_by s = kept (names_of s) (sites_of s) (latest_in s)

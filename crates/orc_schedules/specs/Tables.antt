@@ -42,6 +42,7 @@ coming_at sites t i = coming_of_made sites (made_at t.counts i)
 abbrev pub reached_at : List Site → Tables → Key → Reached
 reached_at sites t k = (record { term = small_at (smalls t.terms) k.term; coming = coming_at sites t k.made }, seen_at t k.seen)
 
+-- all states by their numbers
 abbrev pub reached : List Site → Tables → List Reached
 reached sites t = map (reached_at sites t) t.states
 
@@ -49,6 +50,7 @@ reached sites t = map (reached_at sites t) t.states
 abbrev pub outcome_at : Tables → Told → EndSeen
 outcome_at t e = (e.end, seen_at t e.seen)
 
+-- all ends
 abbrev pub outcomes : Tables → List EndSeen
 outcomes t = map (outcome_at t) t.ends
 

@@ -71,6 +71,7 @@ watched_plain (InOrder vs) = publications
 watched_plain (InAnyOrder vs) = publications
 watched_plain (OneOf vs) = publications
 
+-- what the events of conditions name
 abbrev pub watched_conditions : List Condition → List Simple
 watched_conditions [] = []
 watched_conditions (c ∷ cs) = c.event.alternatives.items ++ watched_conditions cs
@@ -86,6 +87,7 @@ abbrev pub is_seen : Wanted → Bool
 is_seen wanted.Cancelled = false
 is_seen _ = true
 
+-- a search can see what this names
 abbrev pub sees : Simple → Bool
 sees (simple.Call m slots w) = is_seen w
 sees (simple.Published s) = true
@@ -151,6 +153,7 @@ all_at t ws = map (λ (w : Occurrence). record { time = t; what = w }) ws
 abbrev pub told_until : ℕ → Happening → Happening
 told_until latest h = record { time = min h.time latest; what = h.what }
 
+-- these with this one in front, if it is named
 abbrev pub add_happening : Bool → Happening → List Happening → List Happening
 add_happening b h hs = cond b (h ∷ hs) hs
 
