@@ -13,6 +13,7 @@ use Rattle.orc_ways.specs.Tokens.{Token, is_word, opens, number_of, pattern_in, 
 
 -- ---- what a claim is
 
+-- one thing that may happen: something becomes of a call of a site, or a value is published
 pub data Simple : Type 0 where
   call : ℕ → List Slot → Wanted → Simple
   published : Slot → Simple
@@ -38,6 +39,7 @@ pub data Plain : Type 0 where
   in_any_order : List Value → Plain
   one_of : List Value → Plain
 
+-- if all conditions are met, so the rest
 pub record Claim : Type 0 where
   pub conditions : List Condition
   pub plain : Plain
@@ -50,6 +52,7 @@ pub record Site : Type 0 where
   pub arguments : ℕ
   pub line : ℕ
 
+-- the site has this name and so many arguments
 abbrev pub is_site : List ℕ → ℕ → Site → Bool
 is_site n k s = bytes_eq s.name n && nat_eq s.arguments k
 
@@ -69,10 +72,12 @@ follows n =
     bytes_eq n (codes "or") || bytes_eq n (codes "only") || bytes_eq n (codes "after") || bytes_eq n (codes "then") || bytes_eq n (codes "within") || bytes_eq n (codes "by") || bytes_eq n (codes "at")
     || bytes_eq n (codes "once") || bytes_eq n (codes "called") || bytes_eq n (codes "answered") || bytes_eq n (codes "halted") || bytes_eq n (codes "cancelled")
 
+-- a name begins with a small letter
 abbrev pub is_small : List ℕ → Bool
 is_small [] = false
 is_small (c ∷ cs) = is_ascii_lowercase c
 
+-- a name that may be a variable
 abbrev pub is_variable : List ℕ → Bool
 is_variable n = is_small n && not (follows n)
 
@@ -113,6 +118,7 @@ slots_at line (t ∷ ts) = if is_left t then slots_behind line ts else None
 
 -- ---- events
 
+-- the slot that was read, or any value and nothing read
 abbrev pub answered_by : Option Slot → Token → List Token → Wanted × List Token
 answered_by None t ts = (Answered Any, t ∷ ts)
 answered_by (Some s) t ts = (Answered s, ts)
@@ -132,6 +138,7 @@ wanted_at line (t ∷ ts) =
     else if is_word (codes "cancelled") t then (Cancelled, ts)
     else (Called, t ∷ ts)
 
+-- the event of a call, with what becomes of it
 abbrev pub called : List Site → List ℕ → List Slot → Wanted × List Token → Simple × List Token
 called sites n slots w = (call (site_number sites n (length slots)) slots w.0, w.1)
 
@@ -157,12 +164,15 @@ abbrev pub more_or : List Token → Option (List Token) → Bool × List Token
 more_or ts None = (true, ts)
 more_or ts (Some us) = (false, us)
 
+-- whether a list of items with this word between them ends here, and what is behind the word if it doesn't
 abbrev pub more_items : List ℕ → List Token → Bool × List Token
 more_items w ts = more_or ts (behind_word w ts)
 
+-- an item, whether it is the last one by the word behind it, and what is behind that
 abbrev pub more_behind : {A : Type 0} → List ℕ → A × List Token → Option (A × Bool × List Token)
 more_behind w x = Some (x.0, (more_items w x.1).0, (more_items w x.1).1)
 
+-- one thing that may happen, and whether it is the last one by the `or` behind it
 abbrev pub event_step : List Site → List Token → List Token → Option (Simple × Bool × List Token)
 event_step sites line ts = then_read (simple_at sites line ts) (more_behind (codes "or"))
 
@@ -183,6 +193,7 @@ abbrev pub at_end : {A : Type 0} → A × List Token → Option A
 at_end (a, []) = Some a
 at_end (a, t ∷ ts) = None
 
+-- an event behind which nothing is
 abbrev pub last_event : List Site → List Token → List Token → Option Event
 last_event sites line ts = then_read (event_at sites line ts) at_end
 
@@ -190,10 +201,12 @@ last_event sites line ts = then_read (event_at sites line ts) at_end
 abbrev pub counted : ℕ → Option ℕ → Event × List Token → Option Plain
 counted low most x = option_map (λ by. count x.0 low most by) (time_at (codes "by") x.1)
 
+-- a call that is made
 abbrev pub is_called : Simple → Bool
 is_called (call m ss Called) = true
 is_called _ = false
 
+-- the tokens are `at once`
 abbrev pub is_at_once : List Token → Bool
 is_at_once (t ∷ u ∷ []) = is_word (codes "at") t && is_word (codes "once") u
 is_at_once _ = false
@@ -258,12 +271,15 @@ unfoldable pub end_at : List Token → Option ((Bool × Bool) × List Token)
 end_at [] = None
 end_at (t ∷ ts) = option_map (λ e. (e, ts)) (end_in t)
 
+-- the claim on the end, with the time that may be behind it
 abbrev pub ends_by : Bool × Bool → List Token → Option Plain
 ends_by e ts = option_map (λ by. ends e.0 e.1 by) (time_at (codes "by") ts)
 
+-- what one of both allows
 abbrev pub either : Bool × Bool → Bool × Bool → Bool × Bool
 either e f = (e.0 || f.0, e.1 || f.1)
 
+-- a second end behind an `or`, and else one alone
 abbrev pub ends_or : (Bool × Bool) × List Token → Option (List Token) → Option Plain
 ends_or x (Some more) = then_read (end_at more) (λ y. ends_by (either x.0 y.0) y.1)
 ends_or x None = ends_by x.0 x.1
@@ -277,6 +293,7 @@ abbrev pub ends_values : List Token → Bool
 ends_values [] = true
 ends_values (t ∷ ts) = is_word (codes "in") t
 
+-- a value or `_`, and whether it is the last one
 abbrev pub value_step : List Token → Option (Option Value × Bool × List Token)
 value_step [] = None
 value_step (t ∷ ts) = option_map (λ p. (p, ends_values ts, ts)) (pattern_in t)
@@ -285,6 +302,7 @@ value_step (t ∷ ts) = option_map (λ p. (p, ends_values ts, ts)) (pattern_in t
 abbrev pub values_at : List Token → Option (List (Option Value) × List Token)
 values_at ts = many value_step (length ts) ts
 
+-- a value, and whether it is the last one
 abbrev pub literal_step : List Token → Option (Value × Bool × List Token)
 literal_step [] = None
 literal_step (t ∷ ts) = then_read (pattern_in t) (λ p. option_map (λ v. (v, ends_values ts, ts)) p)
@@ -293,6 +311,7 @@ literal_step (t ∷ ts) = then_read (pattern_in t) (λ p. option_map (λ v. (v, 
 abbrev pub literals_at : List Token → Option (List Value × List Token)
 literals_at ts = many literal_step (length ts) ts
 
+-- the tokens are `in any order`
 abbrev pub is_any_order : List Token → Bool
 is_any_order (t ∷ u ∷ v ∷ []) = is_word (codes "in") t && (is_word (codes "any") u && is_word (codes "order") v)
 is_any_order _ = false
@@ -302,16 +321,20 @@ abbrev pub ordered : List Token → List (Option Value) × List Token → Option
 ordered ts (ps, []) = Some (in_order ps)
 ordered ts (ps, u ∷ us) = if is_any_order (u ∷ us) then option_map (λ x. in_any_order x.0) (literals_at ts) else None
 
+-- the claim that lists values
 unfoldable pub in_order_at : List Token → Option Plain
 in_order_at ts = then_read (values_at ts) (ordered ts)
 
+-- behind `publishes one of`
 unfoldable pub one_of_at : List Token → Option Plain
 one_of_at ts = then_read (literals_at ts) (λ x. option_map (λ vs. one_of vs) (at_end x))
 
+-- the tokens are `nothing`
 abbrev pub is_nothing : List Token → Bool
 is_nothing (t ∷ []) = is_word (codes "nothing") t
 is_nothing _ = false
 
+-- behind `publishes`: `one of`, or a list of values
 abbrev pub one_of_or : List Token → Option (List Token) → Option Plain
 one_of_or ts (Some us) = then_read (behind_word (codes "of") us) one_of_at
 one_of_or ts None = in_order_at ts
@@ -339,6 +362,7 @@ abbrev pub not_at : List Token → Bool × List Token
 not_at [] = (true, [])
 not_at (t ∷ ts) = if begins (codes "no") (t ∷ ts) then (false, ts) else (true, t ∷ ts)
 
+-- a condition on the event that was read, if a `then` is behind it
 abbrev pub condition_of : Bool → Event × List Token → Option (Condition × List Token)
 condition_of happens x = option_map (λ rest. (record { event = x.0; happens = happens }, rest)) (behind_word (codes "then") x.1)
 
@@ -346,6 +370,7 @@ condition_of happens x = option_map (λ rest. (record { event = x.0; happens = h
 unfoldable pub condition_at : List Site → List Token → List Token → Option (Condition × List Token)
 condition_at sites line ts = then_read (event_at sites line (not_at ts).1) (condition_of (not_at ts).0)
 
+-- the tokens but the first
 abbrev pub rest_of : List Token → List Token
 rest_of [] = []
 rest_of (t ∷ ts) = ts

@@ -9,6 +9,7 @@ use Rattle.orc_ways.specs.Tokens.{Token, cut}
 use Rattle.orc_ways.specs.Claims.{Claim, Site}
 use Rattle.orc_ways.specs.Lines.{Service, Kind, blank, given, always, case, serves, claims, kind_at, with_mentions}
 
+-- a case, and the number of the line with which it begins
 pub record Case : Type 0 where
   pub name : List ℕ
   pub line : ℕ
@@ -24,6 +25,7 @@ pub record ClaimLine : Type 0 where
   pub line : ℕ
   pub text : List ℕ
 
+-- a test: its sites, services, claims with a line each, and cases, each in the order of the text
 pub record Test : Type 0 where
   pub sites : List Site
   pub services : List ServiceLine
@@ -38,6 +40,7 @@ pub record Draft : Type 0 where
   pub always : Bool
   pub part : Part
 
+-- the draft of no lines
 abbrev pub empty : Draft
 empty = record { test = record { sites = []; services = []; claims = []; claim_lines = []; cases = [] }; given_at = None; always = false; part = Nowhere }
 
@@ -50,6 +53,7 @@ with_given d l = if is_some d.given_at then None else Some (record { test = d.te
 abbrev pub with_always : Draft → Option Draft
 with_always d = if d.always then None else Some (record { test = d.test; given_at = d.given_at; always = true; part = Always })
 
+-- a case has this name
 abbrev pub has_case : List Case → List ℕ → Bool
 has_case cs n = list_any (λ c. bytes_eq c.name n) cs
 
@@ -108,6 +112,7 @@ placed d l text (claims c) = with_claim d l text c (case_of_claim d.part d.test)
 
 -- ---- texts
 
+-- the draft with these sites
 abbrev pub with_sites : Draft → List Site → Draft
 with_sites d ss = record { test = record { sites = ss; services = d.test.services; claims = d.test.claims; claim_lines = d.test.claim_lines; cases = d.test.cases }; given_at = d.given_at; always = d.always; part = d.part }
 
@@ -117,10 +122,12 @@ pub data Reading : Type 0 where
   no_line : ℕ → Reading
   no_place : ℕ → Reading
 
+-- the reading with a line that makes this draft, or isn't allowed where it stands
 abbrev pub of_place : ℕ → Option Draft → Reading
 of_place l (Some d) = says d
 of_place l None = no_place l
 
+-- the reading with a line of this kind, or of none
 abbrev pub of_kind : Draft → ℕ → List ℕ → Option Kind → Reading
 of_kind d l text (Some k) = of_place l (placed d l text k)
 of_kind d l text None = no_line l
@@ -129,6 +136,7 @@ of_kind d l text None = no_line l
 abbrev pub of_sites : Draft → ℕ → List ℕ → List Token → List Site → Reading
 of_sites d l text ts ss = if nat_lt MOST_SITES (length ss) then no_line l else of_kind (with_sites d ss) l text (kind_at ss ts)
 
+-- the reading with a line of these tokens, or one that has no tokens
 abbrev pub of_tokens : Draft → ℕ → List ℕ → Option (List Token) → Reading
 of_tokens d l text (Some ts) = of_sites d l text ts (with_mentions d.test.sites l ts)
 of_tokens d l text None = no_line l
@@ -137,6 +145,7 @@ of_tokens d l text None = no_line l
 unfoldable pub read_line : Draft → ℕ → List ℕ → Reading
 read_line d l text = of_tokens d l text (cut text)
 
+-- a reading goes on if it is good so far
 abbrev pub then_lines : Reading → (Draft → Reading) → Reading
 then_lines (says d) f = f d
 then_lines (no_line l) f = no_line l

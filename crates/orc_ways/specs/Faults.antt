@@ -3,6 +3,7 @@ use Rattle.std.specs.Prelude.{ℕ, List, ◌++◌, codes, decimal}
 use Rattle.orc_ways.specs.declared.fault.TestFault.{TestFault}
 use Rattle.orc_ways.specs.declared.fault.TestFault.TheVariants.{Line, Memory, Long, Place, Unknown, Ways}
 
+-- the text of a fault, as it stands behind `orc: `
 abbrev pub test_line : TestFault → List ℕ
 test_line (Line number) = codes "T1 at line " ++ decimal number
 test_line Memory = codes "T2"

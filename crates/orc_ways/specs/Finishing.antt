@@ -12,6 +12,7 @@ use Rattle.orc_ways.specs.Drafts.{Case, ServiceLine, Test, Draft, says, no_line,
 abbrev pub only_case : Option ℕ → Case
 only_case at = record { name = codes "given"; line = unwrap_or at 1 }
 
+-- a test with at least one case
 abbrev pub with_some_case : Draft → List Case → Test
 with_some_case d [] = add_case d.test (only_case d.given_at)
 with_some_case d (c ∷ cs) = d.test
@@ -33,6 +34,7 @@ abbrev pub unknown_line : Table → List ServiceLine → List Site → Option �
 unknown_line others ls [] = None
 unknown_line others ls (s ∷ ss) = if is_known others ls s then unknown_line others ls ss else Some s.line
 
+-- the line of the first site of a test that isn't known
 abbrev pub unknown_in : Table → Test → Option ℕ
 unknown_in others t = unknown_line others t.services t.sites
 

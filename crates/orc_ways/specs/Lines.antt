@@ -17,6 +17,7 @@ use Rattle.orc_ways.specs.Claims.{Claim, Site, slots_at, more_behind, site_numbe
 abbrev pub History : Type 0
 History = List Reply
 
+-- a service: with `in each of N calls` its `calls` are N, otherwise 1
 pub record Service : Type 0 where
   pub name : List ℕ
   pub patterns : List Slot
@@ -44,6 +45,7 @@ reply_at (t ∷ ts) =
     if is_word (codes "never") t then Some (Never, ts)
     else then_read (answer_in t) (λ a. delay_or a ts (behind_word (codes "after") ts))
 
+-- an answer, and whether it is the last one by the `then` behind it
 abbrev pub reply_step : List Token → Option (Reply × Bool × List Token)
 reply_step ts = then_read (reply_at ts) (more_behind (codes "then"))
 
@@ -56,9 +58,11 @@ abbrev pub more_bars : List Token → Bool × List Token
 more_bars [] = (true, [])
 more_bars (t ∷ ts) = if is_bar t then (false, ts) else (true, t ∷ ts)
 
+-- an alternative, and whether it is the last one by the `|` behind it
 abbrev pub more_alternatives : History × List Token → Option (History × Bool × List Token)
 more_alternatives x = Some (x.0, (more_bars x.1).0, (more_bars x.1).1)
 
+-- one alternative, and whether it is the last one
 abbrev pub alternative_step : List Token → Option (History × Bool × List Token)
 alternative_step ts = then_read (history_at ts) more_alternatives
 
@@ -66,13 +70,16 @@ alternative_step ts = then_read (history_at ts) more_alternatives
 abbrev pub alternatives_at : List Token → Option (List History × List Token)
 alternatives_at ts = many alternative_step MOST_ALTERNATIVES ts
 
+-- an alternative is one answer
 abbrev pub is_one : History → Bool
 is_one (r ∷ []) = true
 is_one _ = false
 
+-- the N of `in each of N calls`, if it is in its range
 abbrev pub calls_within : ℕ → Option ℕ
 calls_within n = if nat_le 2 n && nat_le n MOST_CALLS then Some n else None
 
+-- the words of `in each of N calls`
 abbrev pub are_calls : Token → Token → Token → Token → Bool
 are_calls t u v w = is_word (codes "in") t && (is_word (codes "each") u && (is_word (codes "of") v && is_word (codes "calls") w))
 
@@ -86,6 +93,7 @@ calls_at hs _ = None
 abbrev pub service : List ℕ → List Slot → List History → ℕ → Service
 service n ps hs k = record { name = n; patterns = ps; alternatives = hs; calls = k }
 
+-- what is behind the `=`
 abbrev pub equals_at : List Token → Option (List Token)
 equals_at [] = None
 equals_at (t ∷ ts) = if is_equals t then Some ts else None
@@ -98,6 +106,7 @@ service_at (t ∷ ts) =
 
 -- ---- lines
 
+-- what a line is
 pub data Kind : Type 0 where
   blank : Kind
   given : Kind
@@ -106,9 +115,11 @@ pub data Kind : Type 0 where
   serves : Service → Kind
   claims : Claim → Kind
 
+-- a `=` is among the tokens
 abbrev pub has_equals : List Token → Bool
 has_equals ts = list_any is_equals ts
 
+-- `given` or `always`
 abbrev pub section_in : Token → Option Kind
 section_in t =
     if is_word (codes "given") t then Some given
@@ -121,6 +132,7 @@ section_at (t ∷ []) = section_in t
 section_at (t ∷ u ∷ []) = if is_word (codes "case") t then option_map case (name_in u) else None
 section_at _ = None
 
+-- the first one if there is one, and otherwise the other
 abbrev pub section_or : Option Kind → Option Kind → Option Kind
 section_or (Some k) other = Some k
 section_or None other = other
@@ -148,6 +160,7 @@ unfoldable pub arguments_from : ℕ → List Token → Option ℕ
 arguments_from zero ts = None
 arguments_from (suc n) ts = then_read (argument_step ts) (λ x. if x.0 then Some 1 else option_map suc (arguments_from n x.1))
 
+-- how many arguments are before the bracket, of what is behind the first bracket
 abbrev pub arguments_behind : List Token → Option ℕ
 arguments_behind [] = None
 arguments_behind (t ∷ ts) = if is_right t then Some 0 else arguments_from MOST_ARGUMENTS (t ∷ ts)
@@ -168,6 +181,7 @@ site l n k = record { name = n; arguments = k; line = l }
 abbrev pub with_site : List Site → ℕ → List ℕ → ℕ → List Site
 with_site sites l n k = if nat_lt (site_number sites n k) (length sites) || nat_lt MOST_SITES (length sites) then sites else sites ++ site l n k ∷ []
 
+-- the sites with the one that was named here, if one was
 abbrev pub with_mention : List Site → ℕ → Option (List ℕ × ℕ) → List Site
 with_mention sites l None = sites
 with_mention sites l (Some x) = with_site sites l x.0 x.1

@@ -6,6 +6,7 @@ use Rattle.orc_site.specs.Script.{Token as ScriptToken, name, left, right, comma
 use Rattle.orc_site.specs.Reading.{after_blanks, is_end, then_read, pattern_of, answer_of, delay_of}
 use Rattle.orc_site.specs.Reading.{token_at as script_token_at, is_word as is_script_word}
 
+-- a token of a script, or one of the two that only tests have
 pub data Token : Type 0 where
   plain : ScriptToken → Token
   bar : Token
@@ -38,6 +39,7 @@ cut line = cut_by (length line) (after_blanks line)
 
 -- ---- what one token is
 
+-- the token is this word
 abbrev pub is_word : List ℕ → Token → Bool
 is_word w (plain t) = is_script_word w t
 is_word w _ = false
@@ -78,14 +80,17 @@ abbrev pub number_of : Token → Option ℕ
 number_of (plain t) = delay_of t
 number_of _ = None
 
+-- the pattern that a token is: Some None is `_`
 abbrev pub pattern_in : Token → Option (Option Value)
 pattern_in (plain t) = pattern_of t
 pattern_in _ = None
 
+-- the answer that a token is
 abbrev pub answer_in : Token → Option Answer
 answer_in (plain t) = answer_of t
 answer_in _ = None
 
+-- a name that isn't reserved
 abbrev pub unless_reserved : List ℕ → Option (List ℕ)
 unless_reserved n = if is_reserved n then None else Some n
 
@@ -94,6 +99,7 @@ abbrev pub site_in : Token → Option (List ℕ)
 site_in (plain (name n)) = unless_reserved n
 site_in _ = None
 
+-- any name
 abbrev pub name_in : Token → Option (List ℕ)
 name_in (plain (name n)) = Some n
 name_in _ = None
