@@ -22,6 +22,7 @@ followed_by a b = record { off = a.off + b.off; is_ranged = a.is_ranged || b.is_
 abbrev pub each_followed : List Choice → List Choice → List Choice
 each_followed cs ds = flat_map (λ c. map (followed_by c) ds) cs
 
+-- one answer, with no call off
 abbrev pub one_answer : Bool → Found → Choice
 one_answer ranged f = record { off = 0; is_ranged = ranged; answers = f ∷ [] }
 
@@ -53,6 +54,7 @@ with_calls os (suc n) cs = with_calls os n (each_followed cs os)
 abbrev pub all_choices : Service → List Choice
 all_choices s = with_calls (options 0 s.alternatives) (max s.calls 1) (begin 0 ∷ [])
 
+-- a call is off, and so is the line
 abbrev pub is_off : Choice → Bool
 is_off c = nat_lt 0 c.off
 
@@ -60,5 +62,6 @@ is_off c = nat_lt 0 c.off
 abbrev pub off_first : List Choice → List Choice
 off_first cs = filter is_off cs ++ filter (λ c. not (is_off c)) cs
 
+-- what a service may do: what is off first
 unfoldable pub choices : Service → List Choice
 choices s = off_first (all_choices s)

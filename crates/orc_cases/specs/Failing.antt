@@ -38,10 +38,12 @@ failing_ranges c number fs = failing_or_none c fs (slice_get (ways c) number)
 
 -- ---- whether there are such lines
 
+-- a choice is there and has a range
 abbrev pub is_ranged : Option Choice → Bool
 is_ranged (Some c) = c.is_ranged
 is_ranged None = false
 
+-- a line from a place on has a range in this way
 abbrev pub has_ranged : ℕ → List Line → Way → Bool
 has_ranged line [] w = false
 has_ranged line (l ∷ ls) w = is_ranged (slice_get w line) || has_ranged (suc line) ls w

@@ -22,6 +22,7 @@ slots_eq _ _ = false
 abbrev pub is_same : Service → Service → Bool
 is_same s t = bytes_eq s.name t.name && slots_eq s.patterns t.patterns
 
+-- a line of this case; those of `given` have None
 abbrev pub is_own : ℕ → Option ℕ → Bool
 is_own case (Some k) = nat_eq k case
 is_own case None = false
@@ -35,6 +36,7 @@ own case (l ∷ ls) = cond (is_own case l.case_at) (l.service ∷ own case ls) (
 abbrev pub is_kept : List Service → ServiceLine → Bool
 is_kept ss l = not (is_some l.case_at) && not (list_any (is_same l.service) ss)
 
+-- the services of `given` that have the name and the patterns of none of these
 abbrev pub kept : List Service → List ServiceLine → List Service
 kept ss [] = []
 kept ss (l ∷ ls) = cond (is_kept ss l) (l.service ∷ kept ss ls) (kept ss ls)
@@ -45,6 +47,7 @@ services_of case ls = own case ls ++ kept (own case ls) ls
 
 -- ---- the other services
 
+-- a name is among these
 abbrev pub has_name : List (List ℕ) → List ℕ → Bool
 has_name ns n = list_any (λ m. bytes_eq m n) ns
 

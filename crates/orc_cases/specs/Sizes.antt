@@ -9,6 +9,7 @@ abbrev pub history_size : History → ℕ
 history_size [] = 1
 history_size (r ∷ rs) = length (answers_of r) * history_size rs
 
+-- how many histories alternatives stand for together
 abbrev pub options_size : List History → ℕ
 options_size [] = 0
 options_size (h ∷ hs) = history_size h + options_size hs
@@ -18,15 +19,18 @@ abbrev pub calls_size : ℕ → ℕ → ℕ
 calls_size options zero = 1
 calls_size options (suc n) = options * calls_size options n
 
+-- how many choices a service has
 abbrev pub service_size : Service → ℕ
 service_size s = calls_size (options_size s.alternatives) (max s.calls 1)
 
+-- how many ways services have together
 abbrev pub ways_size : List Service → ℕ
 ways_size [] = 1
 ways_size (s ∷ ss) = service_size s * ways_size ss
 
 -- ---- the same in numbers that stop at `MOST_WAYS` + 1, as the code multiplies and adds them up
 
+-- the number, or `MOST_WAYS` + 1 for each above
 unfoldable pub capped : ℕ → ℕ
 capped n = min n (MOST_WAYS + 1)
 
@@ -36,6 +40,7 @@ times a b = capped (a * b)
 unfoldable pub plus : ℕ → ℕ → ℕ
 plus a b = capped (a + b)
 
+-- a size times how many histories an alternative stands for, each product stopped so; the sizes below go on from a size in the same way
 abbrev pub history_from : ℕ → History → ℕ
 history_from size [] = size
 history_from size (r ∷ rs) = history_from (times size (capped (length (answers_of r)))) rs

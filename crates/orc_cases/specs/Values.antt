@@ -10,6 +10,7 @@ use Rattle.orc_cases.specs.Choices.{Choice}
 use Rattle.orc_cases.specs.Ways.{CaseWays, Line, choices_of, combinations, in_order}
 use Rattle.orc_cases.specs.Places.{AreBelow, picked}
 
+-- a choice of the code as one of the definitions
 abbrev pub choice_of : CodeChoice → Choice
 choice_of c = record { off = c.off; is_ranged = c.is_ranged; answers = c.answers.items }
 
@@ -29,6 +30,7 @@ abbrev pub services_at : List CodeServiceLine → List ℕ → List Service
 services_at ls [] = []
 services_at ls (n ∷ ns) = with_service (service_there (slice_get ls n)) (services_at ls ns)
 
+-- a line of the code as one of the definitions
 abbrev pub line_from : CodeLine → Line
 line_from l = record { call = l.call.items; choices = choices_from l.choices.items }
 
@@ -39,6 +41,7 @@ lines_from ls = map line_from ls
 abbrev pub all_choices_of : List CodeLine → List (List Choice)
 all_choices_of ls = choices_of (lines_from ls)
 
+-- a frame of the code as the case of the definitions
 abbrev pub ways_from : Frame → CaseWays
 ways_from f = record { lines = lines_from f.lines.items; halts = f.halts.items }
 

@@ -28,13 +28,16 @@ abbrev pub calls_off : Way → ℕ
 calls_off [] = 0
 calls_off (c ∷ cs) = c.off + calls_off cs
 
+-- so many lines are off, and so many calls
 abbrev pub is_off_by : ℕ → ℕ → Way → Bool
 is_off_by lines calls w = nat_eq (lines_off w) lines && nat_eq (calls_off w) calls
 
+-- the greatest of these numbers, 0 of none
 abbrev pub most : {X : Type 0} → (X → ℕ) → List X → ℕ
 most f [] = 0
 most f (x ∷ xs) = max (f x) (most f xs)
 
+-- 0 to n
 abbrev pub up_to : ℕ → List ℕ
 up_to n = range_with_len 0 (suc n)
 
@@ -54,9 +57,11 @@ pub record CaseWays : Type 0 where
   pub lines : List Line
   pub halts : List ℕ
 
+-- the line of a service
 abbrev pub line_of : Service → Line
 line_of s = record { call = call_text s; choices = choices s }
 
+-- what each line may do
 abbrev pub choices_of : List Line → List (List Choice)
 choices_of ls = map (λ l. l.choices) ls
 
@@ -68,6 +73,7 @@ ways c = in_order (combinations (choices_of c.lines))
 abbrev pub within_limit : CaseWays → Option CaseWays
 within_limit c = cond (nat_lt MOST_WAYS (length (combinations (choices_of c.lines)))) None (Some c)
 
+-- the case at a place of a test, however many ways it has
 abbrev pub case_of : Test → ℕ → CaseWays
 case_of t case = record { lines = map line_of (services_of case t.services); halts = halts_text (others_of case t.services) }
 
@@ -80,6 +86,7 @@ ways_of t case = within_limit (case_of t case)
 abbrev pub is_shown : Bool → Choice → Bool
 is_shown only_telling c = not only_telling || (is_off c || c.is_ranged)
 
+-- a line with what it does, if it is shown
 abbrev pub line_text : Bool → Line → Choice → List ℕ
 line_text only_telling l c = cond (is_shown only_telling c) (l.call ++ answers_text c.answers) []
 
