@@ -36,6 +36,7 @@ is_same _ _ = false
 abbrev pub told_here : Option ℕ → ℕ → ℕ → CaseReport → Option Told
 told_here section claim case r = cond (is_held section case) (slice_get r.told.items claim) None
 
+-- the first failure, if something is reported
 abbrev pub failure_of : Option Told → Option Failure
 failure_of (Some t) = t.first
 failure_of None = None
@@ -44,6 +45,7 @@ abbrev pub is_tested : Option Told → Bool
 is_tested (Some t) = t.tested
 is_tested None = false
 
+-- the failure in this case, or else what later cases have
 abbrev pub shown_or : ℕ → Option Failure → Option Shown → Option Shown
 shown_or case (Some f) other = Some (record { case = case; failure = f })
 shown_or case None other = other
@@ -114,6 +116,7 @@ abbrev pub cut_row : ℕ → Option Shown → List Row
 cut_row claim (Some s) = row.Fails claim (counterexample.Trial s) ∷ []
 cut_row claim None = []
 
+-- the row of that claim for a case, if it has one
 abbrev pub end_rows : List CaseReport → List Claim → List ClaimLine → ℕ → List Row
 end_rows rs cs ls case = cond (has_end case cs ls) [] (cut_row (length ls) (shown_in (Some case) (length ls) 0 rs))
 
@@ -160,10 +163,12 @@ trimmed_end t = take (length t - suffix_len is_ascii_whitespace t) t
 abbrev pub trimmed : List ℕ → List ℕ
 trimmed s = trimmed_end (drop (prefix_len is_ascii_whitespace s) s)
 
+-- the name of a case
 abbrev pub name_at : Option Case → List ℕ
 name_at (Some c) = c.name.now
 name_at None = []
 
+-- the text of a claim: its line without a comment, and that of the one without a line
 abbrev pub claim_at : Option ClaimLine → List ℕ
 claim_at (Some l) = trimmed (before_comment l.text.now)
 claim_at None = codes "ends Halted or Quiet"
@@ -172,6 +177,7 @@ claim_at None = codes "ends Halted or Quiet"
 abbrev pub is_grouped : ℕ → Bool
 is_grouped n = nat_lt 0 n && nat_eq (n % 3) 0
 
+-- digits with commas between groups of three
 abbrev pub grouped : List ℕ → List ℕ
 grouped [] = []
 grouped (d ∷ ds) = d ∷ cond (is_grouped (length ds)) (44 ∷ grouped ds) (grouped ds)
@@ -228,6 +234,7 @@ shares cs section claim is_first case (r ∷ rs) =
     (comma is_first ++ (share (failing_in (told_here section claim case r)) r.tried (name_at (slice_get cs case)) ++ shares cs section claim false (suc case) rs))
     (shares cs section claim is_first (suc case) rs)
 
+-- the section of a claim; the one without a line counts as one of `always` here
 abbrev pub section_of : Option ClaimLine → Option ℕ
 section_of (Some l) = l.case
 section_of None = None
@@ -258,9 +265,11 @@ abbrev pub share_text : Report → ℕ → Counterexample → List ℕ
 share_text r claim (counterexample.Trial s) = shares r.test.now.cases.items (section_in s.case (slice_get r.test.now.claim_lines.items claim)) claim true 0 r.cases.now
 share_text r claim (counterexample.Schedule b) = schedule_text r b.case
 
+-- the line of a claim that fails
 abbrev pub fails_text : Report → ℕ → Counterexample → List ℕ
 fails_text r claim x = codes "  FAILS  " ++ (claim_at (slice_get r.test.now.claim_lines.items claim) ++ (codes "    " ++ (share_text r claim x ++ codes "\n")))
 
+-- the line of a row
 abbrev pub row_text : Report → Row → List ℕ
 row_text r (row.Case case) = case_text r case
 row_text r row.Always = always_text r
