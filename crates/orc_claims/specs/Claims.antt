@@ -35,6 +35,7 @@ out_by e n h (what.Call m args phase.Called) = cond (is_met e h) (suc n) n
 out_by e n h (what.Call m args p) = cond (is_met e (record { time = h.time; what = what.Call m args phase.Called })) (n - 1) n
 out_by e n h (what.Published v) = n
 
+-- how many pend after one happening more
 abbrev pub out_after : Event → ℕ → Happening → ℕ
 out_after e n h = out_by e n h h.what
 
@@ -112,6 +113,7 @@ each_as_often (x ∷ xs) vs ws = nat_eq (times x vs) (times x ws) && each_as_oft
 abbrev pub are_same_in_any_order : List Value → List Value → Bool
 are_same_in_any_order vs ws = nat_eq (length vs) (length ws) && each_as_often vs vs ws
 
+-- a value is one of these
 abbrev pub is_among : Value → List Value → Bool
 is_among w [] = false
 is_among w (v ∷ vs) = value_eq v w || is_among w vs

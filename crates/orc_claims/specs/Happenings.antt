@@ -15,6 +15,7 @@ pub record Told : Type 0 where
   pub made : List Made
   pub happened : List Happening
 
+-- before the first entry, at time 0
 abbrev pub begin : Told
 begin = record { time = 0; made = []; happened = [] }
 

@@ -62,6 +62,7 @@ abbrev pub meets_any : List Simple → Occurrence → List Bound → Option (Lis
 meets_any [] w given = None
 meets_any (s ∷ ss) w given = first_of (meets_one s w given) (meets_any ss w given)
 
+-- the values with which a happening meets an event, where variables have these; None where it doesn't
 abbrev pub meets : Event → Happening → List Bound → Option (List Bound)
 meets e h given = meets_any e.alternatives.items h.what given
 

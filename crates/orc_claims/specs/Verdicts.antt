@@ -40,6 +40,7 @@ is_kept (InAnyOrder vs) hs end now = are_same_in_any_order vs.items (published h
 is_kept (OneOf vs) hs end now = is_one_of vs.items (published hs)
 is_kept _ hs end now = true
 
+-- whether a claim without conditions holds, and else where it fails
 abbrev pub verdict_plain : Plain → List Happening → State → ℕ → Verdict
 verdict_plain p hs end now = verdict_at (place p hs) (is_kept p hs end now)
 
