@@ -11,6 +11,7 @@ use Rattle.orc_findings.specs.Texts.{happening_text, published_from}
 use Rattle.orc_findings.specs.declared.course.Standing.{Standing}
 use Rattle.orc_findings.specs.declared.course.Standing.TheVariants as standing
 
+-- what an end is called
 abbrev pub end_word : End → List ℕ
 end_word ends.Halted = codes "Halted"
 end_word ends.Quiet = codes "Quiet"
@@ -18,6 +19,7 @@ end_word ends.Limit = codes "cut by the limit"
 end_word ends.Full = codes "Full"
 end_word ends.Memory = codes "without memory"
 
+-- how the run stands
 abbrev pub standing_text : Standing → List ℕ
 standing_text (standing.Ended e) = codes "ended " ++ end_word e
 standing_text standing.Running = codes "not ended"

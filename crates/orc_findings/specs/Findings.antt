@@ -18,6 +18,7 @@ use Rattle.orc_findings.specs.declared.course.Standing.{Standing}
 use Rattle.orc_findings.specs.declared.course.Standing.TheVariants as standing
 use Rattle.orc_findings.specs.declared.findings.Seen.{Seen}
 
+-- what claims see of the run
 abbrev pub sight_of : Seen → Sight
 sight_of s = record { happened = s.happenings.now; state = s.state; now = s.time }
 
@@ -45,6 +46,7 @@ standing_of states.Running = standing.Running
 
 -- ---- the rows
 
+-- the line of a claim, and below one that fails where it does
 abbrev pub row_text : List SiteName → Sight → ClaimLine → Judged → List ℕ
 row_text ss s l j = cond (says_so j.verdict) (codes "  ok     " ++ (claim_at (Some l) ++ note j.tested))
     (codes "  FAILS  " ++ (claim_at (Some l) ++ (codes "\n         " ++ (place_text ss (standing_of s.state) s.happened s.now j.verdict ++ codes "\n"))))
@@ -61,6 +63,7 @@ failing_of s [] cs = 0
 failing_of s (l ∷ ls) [] = 0
 failing_of s (l ∷ ls) (c ∷ cs) = cond (is_always l && fails c s) (suc (failing_of s ls cs)) (failing_of s ls cs)
 
+-- how many claims below `always` fail
 abbrev pub failing : Test → Sight → ℕ
 failing t s = failing_of s t.claim_lines.items t.claims.items
 

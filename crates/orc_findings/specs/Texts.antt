@@ -9,12 +9,14 @@ use Rattle.orc_claims.specs.declared.happening.Phase.{Phase}
 use Rattle.orc_claims.specs.declared.happening.Phase.TheVariants as phase
 use Rattle.orc_ways.specs.declared.test.SiteName.{SiteName}
 
+-- what became of a call
 abbrev pub phase_text : Phase → List ℕ
 phase_text phase.Called = codes " called"
 phase_text (phase.Answered v) = codes " answered " ++ value_text v
 phase_text phase.Halted = codes " halted"
 phase_text phase.Cancelled = codes " cancelled"
 
+-- the name of a site
 abbrev pub name_of : Option SiteName → List ℕ
 name_of (Some s) = s.name.now
 name_of None = []
@@ -24,6 +26,7 @@ abbrev pub happening_text : List SiteName → Occurrence → List ℕ
 happening_text ss (what.Published v) = codes "published " ++ value_text v
 happening_text ss (what.Call m args p) = name_of (slice_get ss m) ++ (arguments args ++ phase_text p)
 
+-- a published value behind a blank
 abbrev pub publication_text : Occurrence → List ℕ
 publication_text (what.Published v) = value v
 publication_text (what.Call m args p) = []
