@@ -55,7 +55,7 @@ fn mix_found(seed: u64, found: Found, at: u64, now: u64) -> u64 {
     }
 }
 
-/// What is needed to take the form of a marked term.
+/// A walk through a marked term that takes its form.
 pub(crate) struct Forms<'p> {
     pub alloc: Global,
     pub program: &'p Program,
@@ -76,7 +76,7 @@ impl Drop for Forms<'_> {
 }
 
 impl Forms<'_> {
-    /// What is needed for the form of one term of this program.
+    /// A walk through one marked term of this program that hasn't begun. Each form is taken with a new one, since it keeps the cells that it came to.
     pub(crate) fn new(alloc: Global, program: &Program) -> Forms<'_> {
         Forms {
             alloc,

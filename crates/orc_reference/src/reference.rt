@@ -92,6 +92,7 @@ pub(crate) fn proceed<T: Turns>(
     answers: &Answers,
     limit: u64,
 ) -> Result<End, PlayFault>
+    // From a run without entries on, what is there at the end is a run of the program that ended so within the limit.
     ensures { IsReached program.now answers.now 0 history.old → IfOk result (HasEnded program.now answers.now limit history.new) }
 {
     for _turn in 0..limit {
