@@ -8,7 +8,8 @@ use Rattle.orc_cases.specs.Ranges.{delays}
 use Rattle.orc_cases.specs.Texts.{intervals_text, mark, reply_text}
 use Rattle.orc_cases.specs.Ways.{CaseWays, Line, Way, ways}
 
--- what the line at a place answers to a call, with all delays with which it gives this answer to that call in those of the ways that fail, as intervals
+-- what the line at a place answers to a call, with all delays with which it gives this answer to that call in those of the ways that fail, as
+-- intervals
 abbrev pub failing_answer : ℕ → ℕ → Found → List Way → List Bool → List ℕ
 failing_answer line call (After a d) ws fs = reply_text a ++ (codes " after " ++ intervals_text true (intervals (ascending (delays line call a ws fs))))
 failing_answer line call Never ws fs = codes "never"
@@ -32,7 +33,8 @@ abbrev pub failing_or_none : CaseWays → List Bool → Option Way → List ℕ
 failing_or_none c fs (Some w) = failing_lines 0 c.lines w (ways c) fs
 failing_or_none c fs None = []
 
--- those lines of the way with this number, from 0, that have a range, with the numbers of the ranges with which the first ways fail, of each of which this says whether it does
+-- those lines of the way with this number, from 0, that have a range, with the numbers of the ranges with which the first ways fail, of each of which
+-- this says whether it does
 abbrev pub failing_ranges : CaseWays → ℕ → List Bool → List ℕ
 failing_ranges c number fs = failing_or_none c fs (slice_get (ways c) number)
 

@@ -32,6 +32,7 @@ pub(crate) struct Line {
 /// What the scripts of a case have in common.
 #[derive(Drop)]
 pub(crate) struct Frame {
+    /// One for each service of the case.
     pub(crate) lines: Vec<Line>,
     /// A line `NAME() = halt` for each name of a service that the test has and the case hasn't.
     pub(crate) halts: Vec<u8>,

@@ -64,7 +64,8 @@ impl Failing<'_> {
         }
     }
 
-    // These delays, each once, as ascending intervals. The error is refused memory.
+    // The delays after which a line gives this answer to the call at `place`, as `delays` has them, each once, as ascending intervals. The error is
+    // refused memory.
     fn intervals(
         &self,
         alloc: Global,
