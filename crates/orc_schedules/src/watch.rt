@@ -1,5 +1,7 @@
 //! What a search watches for, so that it can tell whether a claim holds: what the claim's events name, and times up to the latest that it tells
 //! apart.
+//!
+//! In contracts `NameSame` says that two lists name the same occurrences, and `all_seen` that none of a list names a cancel.
 
 ghost use Rattle.std.specs.Prelude.{◌≡◌, ◌++◌, ◌∷◌, [], IfOk, OnOk};
 ghost use Rattle.orc_claims.specs.declared.happening.Occurrence.{Occurrence as What};
