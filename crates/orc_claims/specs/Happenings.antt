@@ -9,7 +9,8 @@ use Rattle.orc_claims.specs.declared.happening.Occurrence.TheVariants as what
 use Rattle.orc_claims.specs.declared.happening.Happening.{Happening}
 use Rattle.orc_claims.specs.declared.happenings.Made.{Made}
 
--- What was told of a journal so far: the time, the calls that were made, and what happened. Calls are numbered from 1 in the order in which they are made.
+-- What was told of a journal so far: the time, the calls that were made, and what happened. Calls are numbered from 1 in the order in which they are
+-- made.
 pub record Told : Type 0 where
   pub time : ℕ
   pub made : List Made

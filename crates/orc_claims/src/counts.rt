@@ -20,7 +20,8 @@ pub(crate) fn up_to(most: Option<u64>, number: u64) -> bool
 }
 
 impl Event {
-    // Whether a happening counts: it meets the event, at the time `by` at the latest. `found` is only memory. The error is refused memory.
+    // Whether a happening counts: it meets the event, at the time `by` at the latest. `found` is scratch memory: what is in it before and after
+    // doesn't matter. The error is refused memory.
     fn counts(
         &self,
         by: Option<u64>,

@@ -180,7 +180,8 @@ impl Event {
         }
     }
 
-    // Whether a happening meets the event, whatever values the variables get. `found` is only memory. The error is refused memory.
+    // Whether a happening meets the event, whatever values the variables get. `found` is scratch memory: what is in it before and after doesn't
+    // matter. The error is refused memory.
     pub(crate) fn is_met(
         &self,
         happening: &Happening,

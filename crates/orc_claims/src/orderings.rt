@@ -13,7 +13,7 @@ use std::alloc::{AllocError, Global};
 
 impl Event {
     /// Whether one of these happenings meets the event, where variables have the values `given`, and at most `most` units after the time `since`;
-    /// None is no bound. `found` is only memory. The error is refused memory.
+    /// None is no bound. `found` is scratch memory: what is in it before and after doesn't matter. The error is refused memory.
     pub(crate) fn any_meets(
         &self,
         given: &[Bound],
