@@ -228,6 +228,7 @@ impl Search<'_> {
                 None => break,
             }
         }
+        // The end of this loop moves: a fork makes two marks more.
         for mark in from..u64::MAX {
             if mark >= marked.new_mark() {
                 break;

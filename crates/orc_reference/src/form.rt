@@ -92,6 +92,7 @@ impl Forms<'_> {
             Param::Void => mix(seed, 9),
             Param::Name(name) => mix(mix(seed, 10), name as u64),
             Param::Cell(cell) => {
+                // The walk has come to its pruning, which encloses the place where it is named.
                 let place = self.cells.get(&cell).copied().unwrap_or(0);
                 mix(mix(seed, 11), place)
             }
