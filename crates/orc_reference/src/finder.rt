@@ -444,8 +444,7 @@ fn way_to<W: Wanted>(
 /// that it is a run of the program and ended by itself, and not that it shows what is wanted: a caller asks that of its journal. None if no run was
 /// found, and if the one that was found has more than `limit` entries, cancels not counted.
 ///
-/// The fault is Memory where memory was refused; or Broken where the rules refuse an entry that was to come next, and also where memory was refused
-/// among the cancels of a bind.
+/// The fault is Memory where memory was refused; or Broken where the rules refuse an entry that was to come next.
 pub fn find<W: Wanted>(
     alloc: Global,
     program: &Program,

@@ -64,7 +64,7 @@ fn cut(history: &mut History, program: &Program, limit: u64) -> End
     End::Quiet
 }
 
-// Records the cancels that are due, one after another. The fault is Broken, also where memory was refused: the run can't end before all are recorded.
+// Records the cancels that are due, one after another: the run can't end before all are. The fault is Memory, or Broken where the rules refuse one.
 fn settle(history: &mut History, program: &Program, answers: &Answers) -> Result<(), PlayFault>
     ensures { OnOk result (Settles program.now answers.now history.old history.new) }
 {
@@ -74,9 +74,11 @@ fn settle(history: &mut History, program: &Program, answers: &Answers) -> Result
             None => return Ok(()),
             Some(call) => {
                 let cancel = Entry::Cancel(call);
-                let Ok(()) = history.record(program, answers, &cancel) else {
-                    return Err(PlayFault::Broken);
-                };
+                match history.record(program, answers, &cancel) {
+                    Ok(()) => {}
+                    Err(RuleFault::Memory) => return Err(PlayFault::Memory),
+                    Err(_) => return Err(PlayFault::Broken),
+                }
             }
         }
     }
@@ -84,7 +86,8 @@ fn settle(history: &mut History, program: &Program, answers: &Answers) -> Result
 }
 
 // Adds entries until nothing can come next or the journal has `limit` of them, cancels not counted: how the run ended, which is Memory where memory
-// was refused. The fault is Broken where the rules refuse an entry that `turns` says, and also where memory was refused among the cancels of a bind.
+// was refused. The fault is Broken where the rules refuse an entry that `turns` says, and Memory where it was refused among the cancels of a bind, before
+// all of which the run can't end.
 pub(crate) fn proceed<T: Turns>(
     history: &mut History,
     turns: &mut T,
@@ -124,8 +127,8 @@ pub(crate) fn proceed<T: Turns>(
 /// Runs a program: entries that the rules allow, one after another, until nothing can come next or the journal has `limit` of them, cancels not
 /// counted. The cancels of a bind follow it at once. The journal is kept.
 ///
-/// The fault is Memory where memory was refused before the run began; or Broken where the rules refuse an entry that was to come next. Where memory
-/// is refused later the run ends so, as `End::Memory`, except among the cancels of a bind, where it is Broken.
+/// The fault is Memory where memory was refused before the run began, or among the cancels of a bind; or Broken where the rules refuse an entry that
+/// was to come next. Where memory is refused elsewhere the run ends so, as `End::Memory`.
 pub fn play(
     alloc: Global,
     program: &Program,
