@@ -21,8 +21,9 @@ use std::marker::Model;
 /// it is still the one that was put there.
 pub struct Tokens {
     slots: Vec<Token>,
-    // Slots that became free. That they still are isn't proved, so each is tested when it is taken.
-    free: Vec<usize>,
+    // The slot that became free last, or `NO_SLOT`: a free slot has the one that became free before it in its `step`. That they still are free isn't
+    // proved, so each is tested when it is taken.
+    free: usize,
     // How many slots hold a token.
     count: usize,
     parking: Parking,
@@ -54,12 +55,19 @@ impl Model for Tokens {
     ghost invariant = { λ t. (t.count ≡ length (live t.slots.items)) × AreHeld t.slots.items t.parking.flags };
 }
 
-// What is in a free slot.
-const NOBODY: Token = Token {
-    serial: 0,
-    standing: Standing::At(0, 0),
-    step: 0,
-};
+// No slot has this number.
+const NO_SLOT: usize = usize::MAX;
+
+// What is in a free slot, before which this one became free.
+fn nobody(free: usize) -> Token
+    ensures { result.serial ≡ 0 }
+{
+    Token {
+        serial: 0,
+        standing: Standing::At(0, 0),
+        step: free,
+    }
+}
 
 // Writes into a slot that is there.
 #[inline(always)]
@@ -73,14 +81,17 @@ fn put(slots: &mut Vec<Token>, slot: usize, token: Token)
     }
 }
 
-// Takes the last slot from the stack, if it is free. None where the stack is empty or that slot is in use.
+// Takes the slot that became free last, if it is free. None where there is none.
 #[inline(always)]
-fn free_slot(slots: &Vec<Token>, free: &mut Vec<usize>) -> Option<usize>
+fn free_slot(slots: &Vec<Token>, free: &mut usize) -> Option<usize>
     ensures { IfSome result (λ slot. (free : Its) × (slice_get slots.now.items slot ≡ Some free) × (free.serial ≡ 0)) }
 {
-    let slot = free.pop()?;
+    let slot = *free;
     match slots.get(slot) {
-        Some(token) if token.serial == 0 => Some(slot),
+        Some(token) if token.serial == 0 => {
+            *free = token.step;
+            Some(slot)
+        }
         _ => None,
     }
 }
@@ -151,7 +162,7 @@ impl Tokens {
         }
         Ok(Tokens {
             slots,
-            free: Vec::new(alloc),
+            free: NO_SLOT,
             count: 1,
             parking: Parking::new(alloc),
             chains,
@@ -221,10 +232,6 @@ impl Tokens {
         ensures room { OnOk result (1 ≤ self.new.room) }
     {
         reserve(&mut self.slots)?;
-        // `remove` asks for no memory: a slot for which there is no room here isn't noted, and never used again.
-        if self.free.len() == self.free.capacity() {
-            self.free.try_reserve(1)?;
-        }
         self.chains.reserve()
     }
 
@@ -284,12 +291,10 @@ impl Tokens {
         ensures parked { StayParked self.old self.new }
     {
         self.parking.clear(slot);
-        put(&mut self.slots, slot, NOBODY);
+        put(&mut self.slots, slot, nobody(self.free));
+        self.free = slot;
         self.chains.take(slot);
         self.count -= 1;
-        if self.free.len() < self.free.capacity() {
-            self.free.push_reserved(slot);
-        }
     }
 
     /// Whether each token is known to wait. The contract promises it of `true` alone.
