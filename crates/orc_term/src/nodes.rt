@@ -106,8 +106,8 @@ fn keep_restless(items: &Vec<Slot>, list: &mut Vec<u32>)
     }
 }
 
-// Room for two more in a list of those with tokens. A full list drops the others first, and grows only if it is full without them too. So its length
-// depends on the most tokens at one time, not on how many nodes there were.
+// Room for two more in a list of those with tokens. A full list forgets the others first, and grows where half of it or more stays. So it has room for
+// four times the tokens at one time at most, and not for all nodes that there were; and between two looks at the whole list half of it is filled.
 fn reserve_listed(items: &Vec<Slot>, list: &mut Vec<u32>) -> Result<(), AllocError>
     ensures listed { AreListed items.now.items list.old.items → AreListed items.now.items list.new.items }
     ensures room { IfOk result (λ _. vec_len list.new + 2 ≤ vec_capacity list.new) }
@@ -116,11 +116,12 @@ fn reserve_listed(items: &Vec<Slot>, list: &mut Vec<u32>) -> Result<(), AllocErr
         return Ok(());
     }
     keep_restless(items, list);
-    if list.len() < list.capacity() / 4 {
-        // Less than a quarter of four items or more is taken, so two more fit.
+    let len = list.len();
+    if len < list.capacity() / 2 {
+        // So at least two of the room are left.
         return Ok(());
     }
-    list.try_reserve(2)
+    list.try_reserve(len.max(2))
 }
 
 // The hint of that number, the number itself where there is none.
