@@ -227,6 +227,12 @@ impl Ready {
                 at = rival;
             }
         }
+        // Those that are settled stay in front: the last of them takes the place of one that goes.
+        if at < order.settled && order.settled <= tokens {
+            order.settled -= 1;
+            self.handles.swap(at, order.settled);
+            at = order.settled;
+        }
         match self.handles.swap_remove_back(at) {
             Some(handle) => {
                 // The last token has taken the drawn one's place. If `UNSEEN` turns have gone by it may not be settled; it waits for a draw all the
