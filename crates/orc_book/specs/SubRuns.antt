@@ -5,8 +5,8 @@ use Rattle.orc_rules.specs.Nodes.{Listing}
 use Rattle.orc_ledger_spec.specs.Parts.{Apart, Fits, StandsFor}
 use Rattle.orc_ledger_spec.specs.declared.parts.Yield.{Yield}
 use Rattle.orc_word.specs.declared.view.View.{View}
-use Rattle.orc_book.specs.declared.sub_runs.Comer.{Comer}
-use Rattle.orc_book.specs.declared.sub_runs.Comer.TheVariants.{Token, Nobody}
+use Rattle.orc_book.specs.declared.sub_runs.SubRunEnd.{SubRunEnd}
+use Rattle.orc_book.specs.declared.sub_runs.SubRunEnd.TheVariants.{Token, Nobody}
 use Rattle.orc_book.specs.declared.token.BookFault.{BookFault}
 use Rattle.orc_book.specs.declared.token.BookFault.TheVariants.{Gone, Wrong, Limit, Memory}
 use Rattle.orc_book.specs.declared.token.Token.{Token as Out}
@@ -15,14 +15,14 @@ use Rattle.orc_book.specs.Refusals.{IsFound}
 use Rattle.orc_book.specs.Stepping.{ChangesOwn, LosesOne}
 
 -- a token is out in the slot with the pass, where the call has come to a value; else the pass comes back
-abbrev pub HasComer : {X : Type 0} → Held → ℕ → View → Option Yield → Comer X → Type 0
+abbrev pub HasComer : {X : Type 0} → Held → ℕ → View → Option Yield → SubRunEnd X → Type 0
 HasComer b slot pass (Some y) (Token k) = IsOut b k × (k.slot ≡ slot) × (k.pass ≡ pass)
 HasComer b slot pass (Some y) (Nobody v) = ⊥
 HasComer b slot pass None (Token k) = ⊥
 HasComer b slot pass None (Nobody v) = v ≡ pass
 
 -- where a token has come, what the book has of each group is as it was; else one token fewer of the group is out
-abbrev pub HasKept : {X : Type 0} → Held → Out X → List Hold → Comer X → Type 0
+abbrev pub HasKept : {X : Type 0} → Held → Out X → List Hold → SubRunEnd X → Type 0
 HasKept b k ps (Token c) = ps ≡ b.posts
 HasKept b k ps (Nobody v) = ChangesOwn b k ps LosesOne
 

@@ -37,5 +37,5 @@ pub use halt::Ended;
 pub use looks::{Needs, TokenView, needs_of};
 pub use out::{Births, StepOut};
 pub use pair::two_binds;
-pub use sub_runs::Comer;
+pub use sub_runs::SubRunEnd;
 pub use token::{BookFault, Refused, Token};

@@ -15,7 +15,7 @@ use orc_word::{Naming, Pass};
 
 /// What a sub-run has left where its token stood.
 #[derive(Drop)]
-pub enum Comer<P: Naming> {
+pub enum SubRunEnd<P: Naming> {
     /// A token on the value to which its call has come.
     Token(Token<P>),
     /// Nothing: the pass is to be left.
@@ -35,7 +35,7 @@ impl<P: Run + Naming> Book<P> {
         inputs: &Inputs<'_, P>,
         token: Token<P>,
         part: &SubRun<P>,
-    ) -> Result<Comer<P>, Refused<Token<P>>>
+    ) -> Result<SubRunEnd<P>, Refused<Token<P>>>
         ensures done { OnOk result ((t : Its) × IsUnkept self.old token.slot token.serial token.pass t × StandsFor P.listing self.old.ledger t part.now.definition part.now.args × TakesIn self.old.ledger self.new.ledger t part.now) }
         ensures stands { KeepsWords self.old self.new }
         ensures posts { IfOk result (HasKept self.old token self.new.posts) }
@@ -71,10 +71,10 @@ impl<P: Run + Naming> Book<P> {
         }
         if part.has_value() {
             let born = self.born(token.slot, token.pass);
-            return Ok(Comer::Token(born));
+            return Ok(SubRunEnd::Token(born));
         }
         // The token is gone. It was out, so `found.out` is 1 at least.
         set_out(&mut self.posts, found.group, found.out - 1);
-        Ok(Comer::Nobody(token.pass))
+        Ok(SubRunEnd::Nobody(token.pass))
     }
 }

@@ -132,7 +132,7 @@ impl Marked {
     // until the next tick. Only their contracts need `answers`: what the table says of a call was stored when it was made.
 
     /// `return K A V`: token `a` is on the value. The errors are those of `pending`, Number, those of `is_due_now`, and Memory.
-    pub(crate) fn answered(
+    pub(crate) fn return_value(
         &mut self,
         answers: &Answers,
         k: u64,
@@ -160,7 +160,7 @@ impl Marked {
     }
 
     /// `return K halt`: what pends becomes `stop`. The errors are those of `pending` and of `is_due_now`.
-    pub(crate) fn given_up(&mut self, answers: &Answers, k: u64) -> Result<(), RuleFault>
+    pub(crate) fn return_halt(&mut self, answers: &Answers, k: u64) -> Result<(), RuleFault>
         ensures done { IfOk result (λ _. (c : ℕ → Term) → EntersBy answers.now.sites c (entry.ReturnHalt k) self.old self.new) }
         ensures refused { OnErr result (self.new ≡ self.old) }
         ensures reason { IfErr result (λ r. (l : Listing) → IsRightlyRefused l answers.now (entry.ReturnHalt k) self.old r) }

@@ -113,26 +113,26 @@ impl Row {
 }
 
 /// All arguments, with the texts that `clap` borrows while it reads a command line: so they are made before it, and live as long as what is read.
-pub struct Ranges {
+pub struct ArgumentTexts {
     /// In the order of `ARGUMENTS`.
     rows: Vec<Row>,
 }
 
 // Written out, so that a caller's proof sees one call and not the drop of each field.
-impl Drop for Ranges {
+impl Drop for ArgumentTexts {
     fn drop(self) {
-        let Ranges { rows: _ } = self;
+        let ArgumentTexts { rows: _ } = self;
     }
 }
 
-impl Ranges {
+impl ArgumentTexts {
     /// All arguments with their texts. The error is refused memory.
-    pub fn new(alloc: Global) -> Result<Ranges, AllocError> {
+    pub fn new(alloc: Global) -> Result<ArgumentTexts, AllocError> {
         let mut rows = Vec::new(alloc);
         for argument in ARGUMENTS.iter() {
             rows.push(Row::new(alloc, argument)?)?;
         }
-        Ok(Ranges { rows })
+        Ok(ArgumentTexts { rows })
     }
 
     // A command with its arguments. The error is refused memory.

@@ -9,7 +9,7 @@ mod job;
 mod words;
 
 pub use arguments::{DEFAULT_STATES, DEFAULT_TRIALS, DEFAULT_WAYS};
-pub use commands::Ranges;
+pub use commands::ArgumentTexts;
 pub use job::{
     Asked, Job, Options, Order, STANDARD_INPUT, Shown, SurveyOptions, TestOptions, Wanted,
 };

@@ -5,7 +5,7 @@
 ghost use Rattle.std.specs.Prelude.{◌≡◌, IfOk, false};
 ghost use Rattle.orc_cli.specs.Inputs.{shares};
 
-use crate::commands::Ranges;
+use crate::commands::ArgumentTexts;
 use crate::job::{Asked, Job, Options, Order, Shown, SurveyOptions, TestOptions, Wanted};
 use clap::error::ErrorKind;
 use clap::{ArgMatches, Error};
@@ -240,11 +240,11 @@ const SHARED: &str = "'-' stands for more than one file, and standard input can 
 pub fn read_words<'a, S: AsStr>(
     alloc: Global,
     words: &'a [S],
-    ranges: &'a Ranges,
+    texts: &'a ArgumentTexts,
 ) -> Result<Asked<'a>, Error>
     ensures once { IfOk result (λ asked. shares asked.job ≡ false) }
 {
-    let mut command = ranges.orc_command(alloc)?;
+    let mut command = texts.orc_command(alloc)?;
     let matches = command.try_get_matches_from_mut(words)?;
     if let Some((name, given)) = matches.subcommand() {
         if let Some(job) = job_of(name, given) {

@@ -19,7 +19,7 @@ use orc_pool::WorkerQueue;
 use orc_rules::answers::Answers;
 use orc_rules::limits::{MOST_ENTRIES, MOST_WORKERS};
 use orc_rules::program::Program;
-use orc_scheduler::{Came, EngineFault, Scheduler, Stop, SubRunJob};
+use orc_scheduler::{EngineFault, Scheduler, Stop, SubRunJob, SubRunResult};
 use std::alloc::Global;
 use std::marker::Brand;
 use std::thread;
@@ -516,12 +516,12 @@ fn tally_of<P: Run>(jobs: &[SubRunJob<P>]) -> Tally {
     for job in jobs {
         tally.is_won = tally.is_won || job.has_won();
         match job.came() {
-            Came::Over(part) => {
+            SubRunResult::Over(part) => {
                 tally.over = tally.over.saturating_add(1);
                 tally.entries = tally.entries.saturating_add(part.len());
             }
-            Came::Long => tally.long = tally.long.saturating_add(1),
-            Came::Nothing => {}
+            SubRunResult::Long => tally.long = tally.long.saturating_add(1),
+            SubRunResult::Nothing => {}
         }
     }
     tally
@@ -551,7 +551,7 @@ fn take_one<P: Run>(
     ensures spread { IfOk result (λ _. HasSpread scheduler.old.ledger (deque_len scheduler.old.ready.handles) scheduler.new.ledger (deque_len scheduler.new.ready.handles)) }
     ensures stops { IfErr result (λ stop. Stops P.listing scheduler.new.ledger stop) }
 {
-    let Came::Over(part) = job.take() else {
+    let SubRunResult::Over(part) = job.take() else {
         return Ok(());
     };
     // What isn't taken in goes on in its place.

@@ -7,8 +7,8 @@
 use crate::ended::Ended;
 use crate::moves::{Moves, Wait};
 use crate::replay::{Made, Replay};
-use crate::rules::Rules;
 use crate::scene::{Scene, begin, name_of, reach, say_more};
+use crate::script_lines::ScriptLines;
 use orc_checker::rest::Called;
 use orc_outcome::{End, Summary};
 use orc_report::{Page, Subject};
@@ -40,55 +40,55 @@ fn count_out(calls: &[Made]) -> u64 {
 impl Scene<'_, '_> {
     // Each pending call of a quiet run, and why it never returns.
     fn silent_calls(&self, page: &mut Page) {
-        match Rules::new(self.alloc, self.subject.script_text()) {
-            Ok(rules) => self.calls_out(page, &rules),
+        match ScriptLines::new(self.alloc, self.subject.script_text()) {
+            Ok(lines) => self.calls_out(page, &lines),
             Err(_) => page.refuse(),
         }
     }
 
     // A line for each of the first pending calls, and how many there are more.
-    fn calls_out(&self, page: &mut Page, rules: &Rules) {
+    fn calls_out(&self, page: &mut Page, lines: &ScriptLines) {
         let mut shown: u64 = 0;
         let mut number: u64 = 0;
         for call in &self.replay.calls {
             number = number.saturating_add(1);
             if call.is_out && shown < LINES {
                 shown = shown.saturating_add(1);
-                self.silent_call(page, number, *call, rules);
+                self.silent_call(page, number, *call, lines);
             }
         }
         self.rest(page, count_out(&self.replay.calls), shown);
     }
 
     // The line of one pending call, by its number from 1.
-    fn silent_call(&self, page: &mut Page, number: u64, call: Made, rules: &Rules) {
+    fn silent_call(&self, page: &mut Page, number: u64, call: Made, lines: &ScriptLines) {
         page.note("");
         page.say_number("call ", number, ", ");
         self.call(page, call.entry);
         let at = (number as usize).saturating_sub(1);
         if let Some(kept) = self.replay.marked.calls().get(at) {
-            self.silence(page, call, kept.called(), rules);
+            self.silence(page, call, kept.called(), lines);
         }
         page.say("\n");
     }
 
     // When and where a call was made, and why it never returns. In a quiet run no pending call has a due time: the table says never, or the time
     // would be too great.
-    fn silence(&self, page: &mut Page, call: Made, called: Called, rules: &Rules) {
+    fn silence(&self, page: &mut Page, call: Made, called: Called, lines: &ScriptLines) {
         page.say_number(", made at time ", called.at, " in ");
         self.place(page, call.spot);
         match called.found {
-            Found::Never => self.never(page, call, rules),
+            Found::Never => self.never(page, call, lines),
             Found::After(_, _) => page.say(": its due time is over the greatest time"),
         }
     }
 
     // The line of the script that says never. No built-in site does.
-    fn never(&self, page: &mut Page, call: Made, rules: &Rules) {
+    fn never(&self, page: &mut Page, call: Made, lines: &ScriptLines) {
         if let Some(Entry::Call(_, _, site, args)) = self.journal.get(call.entry) {
             let name = name_of(self.ended.answers, site);
-            if let Some(place) = rules.first(name, args.as_slice()) {
-                page.say_number(": line ", rules.number(place), " of the script says never");
+            if let Some(place) = lines.first(name, args.as_slice()) {
+                page.say_number(": line ", lines.number(place), " of the script says never");
             }
         }
     }
@@ -292,7 +292,7 @@ impl Scene<'_, '_> {
                 self.cut(page, moves);
                 self.room(page, moves);
             }
-            // A halted run was explained above; of one without memory `explain_refusal` says all.
+            // A halted run was explained above; of one without memory `explain_refused_memory` says all.
             End::Halted | End::Memory => {}
         }
     }
@@ -300,7 +300,7 @@ impl Scene<'_, '_> {
 
 /// The text that explains that memory was refused in a run: a first line on its end, and one on how far it came. It needs no journal. The error is
 /// refused memory for the text.
-pub fn explain_refusal(alloc: Global, summary: Summary) -> Result<String, AllocError> {
+pub fn explain_refused_memory(alloc: Global, summary: Summary) -> Result<String, AllocError> {
     let mut page = Page::new(alloc);
     begin(&mut page, summary);
     page.note("memory was refused at time ");

@@ -13,8 +13,8 @@ mod ends;
 mod moves;
 mod remarks;
 mod replay;
-mod rules;
 mod scene;
+mod script_lines;
 
 pub use ended::Ended;
-pub use ends::{explain_end, explain_refusal};
+pub use ends::{explain_end, explain_refused_memory};

@@ -4,8 +4,8 @@
 //! Each function here with a `page` writes what its comment names at the end of that page.
 
 use crate::replay::{Loss, Made};
-use crate::rules::{Rule, Rules};
 use crate::scene::{Scene, begin, name_of};
+use crate::script_lines::{ScriptLine, ScriptLines};
 use orc_explain_fault::{built_in_named, wanted_by, why_halted};
 use orc_report::Page;
 use orc_rules::builtin::is_same;
@@ -111,9 +111,9 @@ fn why_built_in_halted(name: &[u8]) -> Option<&'static str> {
 }
 
 // Whether an earlier line answers all calls that a later one would, so that the later one is never used. A pattern None takes every value.
-fn hides(rules: &Rules, earlier: &Rule, later: &Rule) -> bool {
-    let hiding = rules.patterns(earlier);
-    let hidden = rules.patterns(later);
+fn hides(lines: &ScriptLines, earlier: &ScriptLine, later: &ScriptLine) -> bool {
+    let hiding = lines.patterns(earlier);
+    let hidden = lines.patterns(later);
     earlier.name == later.name
         && hiding.len() == hidden.len()
         && hiding.iter().zip(hidden.iter()).all(|(pattern, other)| match (pattern, other) {
@@ -144,14 +144,14 @@ fn differences(patterns: &[Option<Value>], args: &[Value]) -> (u64, Option<(u64,
 
 // The line of a site that is nearest to a call which none answers: of those for as many arguments the one with the fewest other values, else the
 // first. None where no line names the site.
-fn nearest<'a>(rules: &Rules<'a>, name: &[u8], args: &[Value]) -> Option<Rule<'a>> {
-    let mut nearest: Option<Rule<'a>> = None;
+fn nearest<'a>(lines: &ScriptLines<'a>, name: &[u8], args: &[Value]) -> Option<ScriptLine<'a>> {
+    let mut nearest: Option<ScriptLine<'a>> = None;
     let mut least: u64 = 0;
-    for rule in &rules.list {
-        if rule.name == name {
-            let far = distance(rules.patterns(rule), args);
+    for line in &lines.list {
+        if line.name == name {
+            let far = distance(lines.patterns(line), args);
             if nearest.is_none() || far < least {
-                nearest = Some(*rule);
+                nearest = Some(*line);
                 least = far;
             }
         }
@@ -169,9 +169,9 @@ fn distance(patterns: &[Option<Value>], args: &[Value]) -> u64 {
 }
 
 // Why the nearest line doesn't answer a call.
-fn missed(page: &mut Page, rules: &Rules, rule: &Rule, args: &[Value]) {
-    let patterns = rules.patterns(rule);
-    page.say_number("; the nearest one, line ", rule.number as u64, "");
+fn missed(page: &mut Page, lines: &ScriptLines, line: &ScriptLine, args: &[Value]) {
+    let patterns = lines.patterns(line);
+    page.say_number("; the nearest one, line ", line.number as u64, "");
     if patterns.len() != args.len() {
         page.say(", is for ");
         page.count(patterns.len() as u64, "argument");
@@ -187,25 +187,25 @@ fn missed(page: &mut Page, rules: &Rules, rule: &Rule, args: &[Value]) {
 
 impl Remarks {
     // Of all calls of the run. The error is refused memory.
-    fn new(alloc: Global, scene: &Scene, rules: &Rules) -> Result<Remarks, AllocError> {
+    fn new(alloc: Global, scene: &Scene, lines: &ScriptLines) -> Result<Remarks, AllocError> {
         let mut remarks = Remarks {
             wrong: Groups::new(alloc),
             unanswered: Groups::new(alloc),
             halted: Groups::new(alloc),
             used: Vec::new(alloc),
         };
-        remarks.read(scene, rules)?;
+        remarks.read(scene, lines)?;
         Ok(remarks)
     }
 
-    fn read(&mut self, scene: &Scene, rules: &Rules) -> Result<(), AllocError> {
-        for _rule in &rules.list {
+    fn read(&mut self, scene: &Scene, lines: &ScriptLines) -> Result<(), AllocError> {
+        for _rule in &lines.list {
             self.used.push(false)?;
         }
         let mut number: u64 = 0;
         for made in &scene.replay.calls {
             number = number.saturating_add(1);
-            self.add(scene, rules, *made, number)?;
+            self.add(scene, lines, *made, number)?;
         }
         Ok(())
     }
@@ -214,7 +214,7 @@ impl Remarks {
     fn add(
         &mut self,
         scene: &Scene,
-        rules: &Rules,
+        lines: &ScriptLines,
         made: Made,
         number: u64,
     ) -> Result<(), AllocError> {
@@ -223,7 +223,7 @@ impl Remarks {
         };
         let name = name_of(scene.ended.answers, site);
         if scene.ended.answers.is_scripted(site) {
-            self.scripted(rules, name, args.as_slice(), made, number)
+            self.scripted(lines, name, args.as_slice(), made, number)
         } else if wanted(name, args.as_slice()).is_some() {
             self.wrong.add(made, number)
         } else {
@@ -243,13 +243,13 @@ impl Remarks {
     // A call of a script's site: notes which line answers it, or that none does.
     fn scripted(
         &mut self,
-        rules: &Rules,
+        lines: &ScriptLines,
         name: &[u8],
         args: &[Value],
         made: Made,
         number: u64,
     ) -> Result<(), AllocError> {
-        match rules.first(name, args) {
+        match lines.first(name, args) {
             Some(place) => {
                 if let Some(used) = self.used.get_mut(place) {
                     *used = true;
@@ -281,18 +281,18 @@ impl Remarks {
 impl Scene<'_, '_> {
     /// The whole explanation of a run that has halted: its first line, and what looks like a mistake. Nothing at all where nothing does.
     pub(crate) fn halted(&self, page: &mut Page) {
-        let Ok(rules) = Rules::new(self.alloc, self.subject.script_text()) else {
+        let Ok(lines) = ScriptLines::new(self.alloc, self.subject.script_text()) else {
             page.refuse();
             return;
         };
-        match Remarks::new(self.alloc, self, &rules) {
-            Ok(remarks) => self.remarks(page, &remarks, &rules),
+        match Remarks::new(self.alloc, self, &lines) {
+            Ok(remarks) => self.remarks(page, &remarks, &lines),
             Err(_) => page.refuse(),
         }
     }
 
     // The explanation, from what was noted of the calls. `halted_calls` and `losses` come only where nothing was published.
-    fn remarks(&self, page: &mut Page, remarks: &Remarks, rules: &Rules) {
+    fn remarks(&self, page: &mut Page, remarks: &Remarks, lines: &ScriptLines) {
         let is_silent = self.ended.summary.published == 0;
         if !is_silent && remarks.is_empty() && !self.hides_a_site() {
             return;
@@ -302,12 +302,12 @@ impl Scene<'_, '_> {
             page.note("nothing was published\n");
         }
         self.wrong_calls(page, &remarks.wrong);
-        self.unanswered_calls(page, &remarks.unanswered, rules);
+        self.unanswered_calls(page, &remarks.unanswered, lines);
         if is_silent {
-            self.halted_calls(page, &remarks.halted, rules);
+            self.halted_calls(page, &remarks.halted, lines);
             self.losses(page);
         }
-        self.unused_lines(page, remarks, rules);
+        self.unused_lines(page, remarks, lines);
         self.hidden_sites(page);
     }
 
@@ -353,47 +353,47 @@ impl Scene<'_, '_> {
     }
 
     // Calls of a script's sites that no line answers.
-    fn unanswered_calls(&self, page: &mut Page, groups: &Groups, rules: &Rules) {
+    fn unanswered_calls(&self, page: &mut Page, groups: &Groups, lines: &ScriptLines) {
         let mut shown: u64 = 0;
         for group in groups.list.iter().take(SHOWN as usize) {
             shown = shown.saturating_add(1);
             self.halted_call(page, group);
             page.say("no line of the script answers it");
-            self.nearest_line(page, group.first.entry, rules);
+            self.nearest_line(page, group.first.entry, lines);
             self.others(page, group);
         }
         self.rest(page, groups.list.len() as u64, shown);
     }
 
     // The line that is nearest to the call of an entry, and why it doesn't answer it.
-    fn nearest_line(&self, page: &mut Page, entry: usize, rules: &Rules) {
+    fn nearest_line(&self, page: &mut Page, entry: usize, lines: &ScriptLines) {
         if let Some(Entry::Call(_, _, site, args)) = self.journal.get(entry) {
             let name = name_of(self.ended.answers, site);
-            if let Some(rule) = nearest(rules, name, args.as_slice()) {
-                missed(page, rules, &rule, args.as_slice());
+            if let Some(line) = nearest(lines, name, args.as_slice()) {
+                missed(page, lines, &line, args.as_slice());
             }
         }
     }
 
     // Calls that halted though a line or a built-in site answered them.
-    fn halted_calls(&self, page: &mut Page, groups: &Groups, rules: &Rules) {
+    fn halted_calls(&self, page: &mut Page, groups: &Groups, lines: &ScriptLines) {
         let mut shown: u64 = 0;
         for group in groups.list.iter().take(SHOWN as usize) {
             shown = shown.saturating_add(1);
             self.halted_call(page, group);
-            self.halting(page, group.first.entry, rules);
+            self.halting(page, group.first.entry, lines);
             self.others(page, group);
         }
         self.rest(page, groups.list.len() as u64, shown);
     }
 
     // Why a call halted that its site could answer: its line of the script says so, or the built-in site does.
-    fn halting(&self, page: &mut Page, entry: usize, rules: &Rules) {
+    fn halting(&self, page: &mut Page, entry: usize, lines: &ScriptLines) {
         if let Some(Entry::Call(_, _, site, args)) = self.journal.get(entry) {
             let name = name_of(self.ended.answers, site);
-            match rules.first(name, args.as_slice()) {
+            match lines.first(name, args.as_slice()) {
                 Some(place) => {
-                    page.say_number("line ", rules.number(place), " of the script says halt");
+                    page.say_number("line ", lines.number(place), " of the script says halt");
                 }
                 None => page.say(why_built_in_halted(name).unwrap_or("its site says halt")),
             }
@@ -435,15 +435,15 @@ impl Scene<'_, '_> {
     }
 
     // Lines of the script that answered no call, each with a reason where one is found.
-    fn unused_lines(&self, page: &mut Page, remarks: &Remarks, rules: &Rules) {
+    fn unused_lines(&self, page: &mut Page, remarks: &Remarks, lines: &ScriptLines) {
         let mut shown: u64 = 0;
-        for (place, rule) in rules.list.iter().enumerate() {
+        for (place, line) in lines.list.iter().enumerate() {
             if !remarks.used.get(place).copied().unwrap_or(true) && shown < SHOWN {
                 shown = shown.saturating_add(1);
                 page.note("line ");
-                page.number(rule.number as u64);
+                page.number(line.number as u64);
                 page.say(" of the script answered no call");
-                self.hidden(page, rules, place, rule);
+                self.hidden(page, lines, place, line);
                 page.say("\n");
             }
         }
@@ -475,9 +475,9 @@ impl Scene<'_, '_> {
     }
 
     // The reason why a line answered no call: an earlier line hides it, or its site was never called. Nothing where neither is so.
-    fn hidden(&self, page: &mut Page, rules: &Rules, place: usize, rule: &Rule) {
-        for earlier in rules.list.iter().take(place) {
-            if hides(rules, earlier, rule) {
+    fn hidden(&self, page: &mut Page, lines: &ScriptLines, place: usize, line: &ScriptLine) {
+        for earlier in lines.list.iter().take(place) {
+            if hides(lines, earlier, line) {
                 let number = earlier.number as u64;
                 page.say_number(
                     ": line ",
@@ -487,8 +487,8 @@ impl Scene<'_, '_> {
                 return;
             }
         }
-        if !self.is_called(rule.name) {
-            page.say_word(": `", rule.name, "` was never called");
+        if !self.is_called(line.name) {
+            page.say_word(": `", line.name, "` was never called");
         }
     }
 

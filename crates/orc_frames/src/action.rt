@@ -52,7 +52,7 @@ pub enum Action {
 
 /// What a token on this value does, by what takes the value from step `from` on outwards. Where there is no such step nothing takes it: the program
 /// publishes it.
-pub fn taken_from(steps: &Steps, from: usize, value: Value) -> Action
+pub fn publish_action(steps: &Steps, from: usize, value: Value) -> Action
     requires { AreOutwards steps.now.items }
     ensures { (code : ℕ → Term) (env : ℕ → Env) (left : ℕ → Bool) → result ≡ taken value (seen left (path code env steps.now.items from)) }
 {
@@ -76,7 +76,7 @@ pub fn are_values(
     requires { AreOrdered scopes.now }
     ensures { result ≡ true → scan false Nothing (closed (env_of cells.now scopes.now scope) operands.now) ≡ Action.Call }
 {
-    // It recurses over the operands of one call, which are `MOST_ARGUMENTS` at most; so does `call_with`.
+    // It recurses over the operands of one call, which are `MOST_ARGUMENTS` at most; so does `site_call_action`.
     match operands {
         [] => true,
         [operand, operands @ ..] => match meaning(scopes, cells, *operand, scope) {
@@ -90,7 +90,7 @@ pub fn are_values(
 
 /// What a token at a call of a site does: `Call` where all operands have values, `Void` where one is void, else `Wait`. `operands` are those that are
 /// still to be looked at: `waits` says that one before them has no value yet, and `first` is the first unbound cell before them.
-pub fn call_with(
+pub fn site_call_action(
     scopes: &[StoredScope],
     cells: &[Bound],
     operands: &[Operand],
@@ -110,20 +110,20 @@ pub fn call_with(
             }
         }
         [operand, operands @ ..] => match meaning(scopes, cells, *operand, scope) {
-            Some(Bound::Is(_)) => call_with(scopes, cells, operands, scope, waits, first),
+            Some(Bound::Is(_)) => site_call_action(scopes, cells, operands, scope, waits, first),
             // One void operand is enough, whatever the others wait for.
             Some(Bound::Void) => Action::Void,
             Some(Bound::Cell(cell)) => {
-                call_with(scopes, cells, operands, scope, true, first.or(Some(cell)))
+                site_call_action(scopes, cells, operands, scope, true, first.or(Some(cell)))
             }
             // A name that isn't bound, as no checked program has it.
-            None => call_with(scopes, cells, operands, scope, true, first),
+            None => site_call_action(scopes, cells, operands, scope, true, first),
         },
     }
 }
 
 // What a token does whose term is a variable or a value, by what stands for it.
-fn stand_on(
+fn variable_action(
     scopes: &[StoredScope],
     cells: &[Bound],
     steps: &Steps,
@@ -136,7 +136,7 @@ fn stand_on(
     ensures { (code : ℕ → Term) (env : ℕ → Env) (left : ℕ → Bool) → result ≡ of_param (seen left (path code env steps.now.items from)) (close_param (env_of cells.now scopes.now scope) (param_of operand)) }
 {
     match meaning(scopes, cells, operand, scope) {
-        Some(Bound::Is(value)) => taken_from(steps, from, value),
+        Some(Bound::Is(value)) => publish_action(steps, from, value),
         Some(Bound::Cell(cell)) => Action::Wait(cell),
         Some(Bound::Void) => Action::Void,
         None => Action::Wait(0),
@@ -144,7 +144,7 @@ fn stand_on(
 }
 
 /// What a token does at a node in a scope, where `from` is its innermost step, 0 if it has none.
-pub fn stand_at(
+pub fn action_at(
     graph: &Graph,
     scopes: &[StoredScope],
     cells: &[Bound],
@@ -159,9 +159,9 @@ pub fn stand_at(
 {
     match graph.node(node as usize) {
         Node::Stop => Action::Halt,
-        Node::Name(name) => stand_on(scopes, cells, steps, Operand::Name(name), scope, from),
-        Node::Is(value) => taken_from(steps, from, value),
-        Node::Site(_, list) => call_with(
+        Node::Name(name) => variable_action(scopes, cells, steps, Operand::Name(name), scope, from),
+        Node::Is(value) => publish_action(steps, from, value),
+        Node::Site(_, list) => site_call_action(
             scopes,
             cells,
             graph.operands(list as usize),

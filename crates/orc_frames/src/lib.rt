@@ -9,7 +9,7 @@ mod parameters;
 mod takers;
 mod waits;
 
-pub use action::{Action, are_values, call_with, stand_at, taken_from};
+pub use action::{Action, action_at, are_values, publish_action, site_call_action};
 pub use arguments::take_values;
 pub use left::{has_left, left_at};
 pub use parameters::parameter_scopes;

@@ -179,7 +179,7 @@ impl<P: Run> Ledger<P> {
                 )?;
                 self.entries += 2;
                 self.next_mark = mark + 1;
-                self.calls.pass_number();
+                self.calls.skip_number();
                 self.tokens.replace(
                     slot,
                     Token {
@@ -203,7 +203,7 @@ impl<P: Run> Ledger<P> {
                     &Entry::ReturnHalt(number),
                 )?;
                 self.entries += 2;
-                self.calls.pass_number();
+                self.calls.skip_number();
                 self.tokens.remove(slot);
                 self.groups.leave(group);
                 Ok(Called::Halted(group))

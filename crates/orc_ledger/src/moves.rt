@@ -32,7 +32,7 @@ use crate::claim::{Always, Claim};
 use crate::inputs::Inputs;
 use crate::ledger::Ledger;
 use orc_env::{Bound, StoredScope, meaning};
-use orc_frames::{Action, Taker, are_values, call_with, find_taker, take_values};
+use orc_frames::{Action, Taker, are_values, find_taker, site_call_action, take_values};
 use orc_graph::Node;
 use orc_ledger_spec::{LedgerFault, Moved};
 use orc_log::Run;
@@ -89,7 +89,7 @@ impl<P: Run> Ledger<P> {
     pub(crate) fn scan(&self, operands: &[Operand], scope: usize) -> Action
         ensures { result ≡ scan false Nothing (closed (its_env (code P.listing) self.now scope) operands.now) }
     {
-        call_with(&self.scopes, &self.cells, operands, scope, false, None)
+        site_call_action(&self.scopes, &self.cells, operands, scope, false, None)
     }
 
     #[inline(always)]

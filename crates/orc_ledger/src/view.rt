@@ -6,7 +6,7 @@ ghost use Rattle.orc_ledger_spec.specs.Doing.{what_of};
 
 use crate::inputs::Inputs;
 use crate::ledger::Ledger;
-use orc_frames::{Action, stand_at, taken_from};
+use orc_frames::{Action, action_at, publish_action};
 use orc_log::Run;
 use orc_tables::{Standing, Token};
 
@@ -17,8 +17,8 @@ impl<P: Run> Ledger<P> {
         ensures { result ≡ what_of (code P.listing) (definitions P.listing) self.now token.now }
     {
         match token.standing {
-            Standing::On(value) => taken_from(&self.steps, token.step, value),
-            Standing::At(node, scope) => stand_at(
+            Standing::On(value) => publish_action(&self.steps, token.step, value),
+            Standing::At(node, scope) => action_at(
                 inputs.graph,
                 &self.scopes,
                 &self.cells,

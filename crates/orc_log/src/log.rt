@@ -194,7 +194,7 @@ fn append_held(
     }
     let len = held.len();
     held.append(part, numbering)?;
-    let passed = calls.pass_numbers(made);
+    let passed = calls.skip_numbers(made);
     if passed.is_err() {
         held.truncate(len);
     }
@@ -386,7 +386,7 @@ impl<P: Run> Log<P> {
                 return Err(AllocError);
             }
         }
-        match calls.pass_numbers(made) {
+        match calls.skip_numbers(made) {
             Ok(()) => {}
             Err(_) => {
                 self.passed = passed;

@@ -30,8 +30,8 @@ use Rattle.orc_run.specs.Whole.{AreSaid, IsScriptAt}
 use Rattle.orc_run.specs.declared.faults.RunFault.{RunFault}
 use Rattle.orc_run.specs.declared.faults.RunFault.TheVariants as fault
 use Rattle.orc_run.specs.declared.scripts.CaseScripts.{CaseScripts}
-use Rattle.orc_run.specs.declared.tests.Untested.{Untested}
-use Rattle.orc_run.specs.declared.tests.Untested.TheVariants as untested
+use Rattle.orc_run.specs.declared.test_command.Untested.{Untested}
+use Rattle.orc_run.specs.declared.test_command.Untested.TheVariants as untested
 
 -- where nothing was written the output is as it was
 pub unwritten : (old : Option (List ℕ)) (f : Untested) → LeavesUntested old old f

@@ -44,8 +44,8 @@ use Rattle.orc_run.specs.TestFaults.{all_scripts, all_texts, AreReported, AreUns
 use Rattle.orc_run.specs.declared.faults.RunFault.{RunFault}
 use Rattle.orc_run.specs.declared.faults.RunFault.TheVariants as fault
 use Rattle.orc_run.specs.declared.scripts.CaseScripts.{CaseScripts}
-use Rattle.orc_run.specs.declared.tests.Untested.{Untested}
-use Rattle.orc_run.specs.declared.tests.Untested.TheVariants as untested
+use Rattle.orc_run.specs.declared.test_command.Untested.{Untested}
+use Rattle.orc_run.specs.declared.test_command.Untested.TheVariants as untested
 use Rattle.orc_run.proofs.Testing.{is_report, one_tried, stands_there}
 
 -- ---- the ways of the cases

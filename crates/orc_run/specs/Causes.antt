@@ -20,8 +20,8 @@ use Rattle.orc_run.specs.declared.picture.Undrawn.{Undrawn}
 use Rattle.orc_run.specs.declared.picture.Undrawn.TheVariants as undrawn
 use Rattle.orc_run.specs.declared.shown.Unshown.{Unshown}
 use Rattle.orc_run.specs.declared.shown.Unshown.TheVariants as unshown
-use Rattle.orc_run.specs.declared.tests.Untested.{Untested}
-use Rattle.orc_run.specs.declared.tests.Untested.TheVariants as untested
+use Rattle.orc_run.specs.declared.test_command.Untested.{Untested}
+use Rattle.orc_run.specs.declared.test_command.Untested.TheVariants as untested
 
 -- ---- with what the files hold
 

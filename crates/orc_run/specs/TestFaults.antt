@@ -33,8 +33,8 @@ use Rattle.orc_run.specs.Whole.{AreSaid}
 use Rattle.orc_run.specs.declared.faults.RunFault.{RunFault}
 use Rattle.orc_run.specs.declared.faults.RunFault.TheVariants as fault
 use Rattle.orc_run.specs.declared.scripts.CaseScripts.{CaseScripts}
-use Rattle.orc_run.specs.declared.tests.Untested.{Untested}
-use Rattle.orc_run.specs.declared.tests.Untested.TheVariants as untested
+use Rattle.orc_run.specs.declared.test_command.Untested.{Untested}
+use Rattle.orc_run.specs.declared.test_command.Untested.TheVariants as untested
 
 -- ---- the cause of each fault
 

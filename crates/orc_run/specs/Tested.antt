@@ -34,8 +34,8 @@ use Rattle.orc_run.specs.Whole.{AreSaid, IsScriptAt}
 use Rattle.orc_run.specs.declared.faults.RunFault.{RunFault}
 use Rattle.orc_run.specs.declared.faults.RunFault.TheVariants as fault
 use Rattle.orc_run.specs.declared.scripts.CaseScripts.{CaseScripts}
-use Rattle.orc_run.specs.declared.tests.Untested.{Untested}
-use Rattle.orc_run.specs.declared.tests.Untested.TheVariants as untested
+use Rattle.orc_run.specs.declared.test_command.Untested.{Untested}
+use Rattle.orc_run.specs.declared.test_command.Untested.TheVariants as untested
 
 -- these are the ways of the cases of a test, from the case at this place on
 abbrev pub AreWays : DraftedTest → ℕ → List CaseWays → Type 0

@@ -12,7 +12,7 @@ use std::alloc::{AllocError, Global};
 use std::thread::Threads;
 
 /// How many ways are run between two looks at whether a service is still unasked. If none is, the other ways aren't run.
-const SOME: usize = 64;
+const BATCH: usize = 64;
 
 // The place of a service's site among those of its test, which have it: a test's sites are all that its lines name.
 fn site_of(sites: &[SiteName<'_>], service: &Service<'_>) -> u32 {
@@ -119,7 +119,7 @@ impl<'s, 'a> Services<'s, 'a> {
         scripts: &[Vec<u8>],
     ) -> Result<(), AllocError> {
         let mut told = CaseTold::new(alloc, trials.claims)?;
-        for some in scripts.chunks(SOME) {
+        for some in scripts.chunks(BATCH) {
             if !self.has_unasked(case) {
                 return Ok(());
             }

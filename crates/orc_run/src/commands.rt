@@ -19,9 +19,9 @@ use crate::picture::{Undrawn, draw_run, draw_text};
 use crate::printer::print_text;
 use crate::runner::run_source;
 use crate::shown::{Unshown, show_text};
-use crate::tests::{Untested, test_text};
+use crate::test_command::{Untested, test_text};
 use clap::error::ErrorKind;
-use orc_cli::{Asked, Job, Options, Ranges, SurveyOptions, TestOptions, read_words};
+use orc_cli::{ArgumentTexts, Asked, Job, Options, SurveyOptions, TestOptions, read_words};
 use orc_explain_fault::Unread;
 use orc_output::WriteFault;
 use orc_report::{Document, Subject};
@@ -685,11 +685,11 @@ where
     ensures cut { result ≡ 4 → WasCut (W.contents out.old) (W.contents out.new) ⊎ TellsNotAll (W.contents out.old) (W.contents out.new) }
 {
     // `clap` borrows the numbers that options allow, so they are held here while the words are read.
-    let ranges = match Ranges::new(alloc) {
+    let texts = match ArgumentTexts::new(alloc) {
         Err(error) => return refuse(&clap::Error::from(error), out, err),
-        Ok(ranges) => ranges,
+        Ok(texts) => texts,
     };
-    match read_words(alloc, words, &ranges) {
+    match read_words(alloc, words, &texts) {
         Err(error) => refuse(&error, out, err),
         Ok(asked) => perform(rt, alloc, asked, files, out, err),
     }

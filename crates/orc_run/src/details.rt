@@ -14,7 +14,7 @@ use crate::counterexample::{schedule_text, trial_text, write_picture};
 use crate::failing_ways::failing_ways;
 use crate::scripts::{CaseScripts, script_at, unusual_lines};
 use crate::searched::Searcher;
-use crate::tests::{NO_MEMORY, NO_TEXT, Tester, Untested, run_fault};
+use crate::test_command::{NO_MEMORY, NO_TEXT, Tester, Untested, run_fault};
 use orc_cases::Ways;
 use orc_findings::{Seen, write_each};
 use orc_orders::{Run, state_at, try_again};

@@ -13,7 +13,7 @@ ghost use Rattle.orc_run.specs.Whole.{IsWay};
 use crate::faults::RunFault;
 use crate::searched::Way;
 use crate::shown::PLACES_A_STATE;
-use crate::tests::{NO_MEMORY, Untested};
+use crate::test_command::{NO_MEMORY, Untested};
 use crate::witness::{Sighting, witness};
 use orc_claims::Verdict;
 use orc_claims::claim::Claim;

@@ -7,7 +7,7 @@ use std::thread::Threads;
 
 /// So many ways are tried at once. Only the number of those in which the claim fails is known then: if it is neither none nor all, each is tried
 /// alone.
-const SOME: usize = 64;
+const BATCH: usize = 64;
 
 /// How a claim is judged on the ways of a case; `trials` has this one claim alone.
 #[derive(Drop)]
@@ -77,7 +77,7 @@ pub fn failing_ways<R: Threads + Sync>(
         workers,
     };
     let mut fails = Vec::new(alloc);
-    for some in scripts.chunks(SOME) {
+    for some in scripts.chunks(BATCH) {
         held.add(some, &mut fails)?;
     }
     Ok(fails)

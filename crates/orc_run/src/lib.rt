@@ -12,7 +12,7 @@
 //! - `orc run`: `runner`, `unordered`, `times`, `run_end`.
 //! - `orc outcomes`: `outcomes`; with `--show` `shown`.
 //! - `orc check`: `judge`; with `--claims` `claims`. `orc draw`: `picture`. `orc print`: `printer`.
-//! - `orc test`: `tests` over `scripts`, which has the ways, and `searched`, which searches all schedules. Below a failure: `details`,
+//! - `orc test`: `test_command` over `scripts`, which has the ways, and `searched`, which searches all schedules. Below a failure: `details`,
 //!   `counterexample`, `call`. The journal of a failure: `failing_run`, `witness`. Explanations alone: `failing_ways`, `asked`, `unanswered`.
 //!
 //! Files whose functions have no clauses (`asked`, `unanswered`, `failing_ways`, most of `explained`) make explanations, on which no promise rests.
@@ -39,7 +39,7 @@ mod runner;
 mod scripts;
 mod searched;
 mod shown;
-mod tests;
+mod test_command;
 mod times;
 mod unanswered;
 mod unordered;
@@ -64,4 +64,4 @@ pub use picture::{Undrawn, draw_run, draw_text};
 pub use printer::print_text;
 pub use runner::run_text;
 pub use shown::{Unshown, show_text};
-pub use tests::{Untested, test_text};
+pub use test_command::{Untested, test_text};

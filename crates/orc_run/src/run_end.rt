@@ -1,6 +1,6 @@
 //! How a run ended, explained by its journal.
 
-use orc_explain_end::{Ended, explain_end, explain_refusal};
+use orc_explain_end::{Ended, explain_end, explain_refused_memory};
 use orc_load::Loaded;
 use orc_outcome::{End, Played};
 use orc_report::Subject;
@@ -16,7 +16,7 @@ pub fn explain_run(
 ) -> Result<String, AllocError> {
     if played.summary.end == End::Memory {
         // What was refused is memory; of refused entries `orc_explain_refusal` has a function of this name.
-        return explain_refusal(alloc, played.summary);
+        return explain_refused_memory(alloc, played.summary);
     }
     let Some(journal) = &played.journal else {
         return Err(AllocError);

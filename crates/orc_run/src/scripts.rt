@@ -10,7 +10,7 @@ ghost use Rattle.orc_run.specs.Details.{unusual_lines};
 ghost use Rattle.orc_run.specs.Tested.{AreScripts, AreWays, IsOwnFault, IsScript};
 ghost use Rattle.orc_run.specs.TestFaults.{all_texts, IsAmong, IsNoMemory, IsNoText, IsUncounted};
 
-use crate::tests::{NO_MEMORY, NO_TEXT, Untested, unread};
+use crate::test_command::{NO_MEMORY, NO_TEXT, Untested, unread};
 use orc_cases::Ways;
 use orc_tally::Counterexample;
 use orc_ways::fault::TestFault;

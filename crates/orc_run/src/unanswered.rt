@@ -53,7 +53,7 @@ impl Calls<'_, '_> {
 
     // Whether no line of the case answers a call of a service, nor one of the script behind those of the test. A call without a line halts at once;
     // so does one whose line in that script says `halt`.
-    fn is_lost(&self, answers: &Answers, site: u32, name: &[u8], args: &Args) -> bool {
+    fn is_unanswered(&self, answers: &Answers, site: u32, name: &[u8], args: &Args) -> bool {
         self.is_service(name)
             && !self.is_taken(name, args.as_slice())
             && matches!(answers.find(site, args, 1), Found::After(Answer::Halt, 0))
@@ -98,7 +98,7 @@ impl Calls<'_, '_> {
         for at in 0..journal.len() {
             if let Some(Entry::Call(_, _, site, args)) = journal.get(at) {
                 let name = answers.name(site).unwrap_or(b"");
-                if self.is_lost(&answers, site, name, &args) {
+                if self.is_unanswered(&answers, site, name, &args) {
                     self.add(alloc, name, args.as_slice())?;
                 }
             }

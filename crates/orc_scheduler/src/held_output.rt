@@ -8,7 +8,7 @@ pub(crate) struct Holding {
     // The slot of the token that is held back on a value.
     last: Option<usize>,
     // Whether the run can't be used any more.
-    is_vain: bool,
+    is_unusable: bool,
 }
 
 impl Holding {
@@ -17,7 +17,7 @@ impl Holding {
         Holding {
             is_on: false,
             last: None,
-            is_vain: false,
+            is_unusable: false,
         }
     }
 
@@ -34,7 +34,7 @@ impl Holding {
 
     /// The token in this slot is held back: nothing can come of the run if another one is.
     pub(crate) fn keep(&mut self, slot: usize) {
-        self.is_vain = self.is_vain || self.last.is_some();
+        self.is_unusable = self.is_unusable || self.last.is_some();
         self.last = Some(slot);
     }
 
@@ -46,11 +46,11 @@ impl Holding {
     /// The run has made a call that isn't answered at once: nothing can come of it.
     #[inline(always)]
     pub(crate) fn give_up(&mut self) {
-        self.is_vain = true;
+        self.is_unusable = true;
     }
 
     /// Whether nothing can come of the run: it has made a call that wasn't answered at once, or come to two values where one is wanted.
-    pub(crate) fn is_vain(&self) -> bool {
-        self.is_vain
+    pub(crate) fn is_unusable(&self) -> bool {
+        self.is_unusable
     }
 }

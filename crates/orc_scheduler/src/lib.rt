@@ -26,4 +26,4 @@ mod wait_list;
 pub use fault::EngineFault;
 pub use ready::{Handle, Ready};
 pub use scheduler::{Scheduler, Stop};
-pub use sub_runs::{Came, SubRunJob};
+pub use sub_runs::{SubRunJob, SubRunResult};

@@ -114,7 +114,7 @@ impl Ready {
     }
 
     /// Whether a round has ended, and no turn of the next one has begun.
-    pub(crate) fn is_between(&self) -> bool {
+    pub(crate) fn is_round_over(&self) -> bool {
         self.turns % ROUND == 0
     }
 

@@ -256,7 +256,7 @@ impl<P: Run> Scheduler<P> {
         if self.ready.is_ordered() {
             return self.drawn_turn(inputs);
         }
-        if self.ready.is_between() {
+        if self.ready.is_round_over() {
             self.sweep();
             if self.answer_due()? {
                 return Ok(Turn::Went);

@@ -16,7 +16,7 @@ use std::mem;
 
 /// What came of a call's sub-run.
 #[derive(Drop)]
-pub enum Came<P: Run> {
+pub enum SubRunResult<P: Run> {
     /// Nothing: nobody has run it, it can't stand for the call, or memory was refused.
     Nothing,
     /// It has more entries than it may have.
@@ -32,7 +32,7 @@ pub struct SubRunJob<P: Run> {
     task: SubRunTask,
     // Whether others are in the same side, so that a value which comes first may make the rest vain.
     races: bool,
-    came: Came<P>,
+    came: SubRunResult<P>,
 }
 
 impl<P: Run> SubRunJob<P> {
@@ -42,7 +42,7 @@ impl<P: Run> SubRunJob<P> {
             handle,
             task,
             races,
-            came: Came::Nothing,
+            came: SubRunResult::Nothing,
         }
     }
 
@@ -52,7 +52,7 @@ impl<P: Run> SubRunJob<P> {
     }
 
     /// What came of its run.
-    pub fn came(&self) -> &Came<P> {
+    pub fn came(&self) -> &SubRunResult<P> {
         &self.came
     }
 
@@ -60,15 +60,15 @@ impl<P: Run> SubRunJob<P> {
     pub fn has_won(&self) -> bool {
         self.races
             && match &self.came {
-                Came::Over(part) => part.has_value(),
-                Came::Long => false,
-                Came::Nothing => true,
+                SubRunResult::Over(part) => part.has_value(),
+                SubRunResult::Long => false,
+                SubRunResult::Nothing => true,
             }
     }
 
     /// Takes what came of its run out of the job, which has Nothing then.
-    pub fn take(&mut self) -> Came<P> {
-        mem::replace(&mut self.came, Came::Nothing)
+    pub fn take(&mut self) -> SubRunResult<P> {
+        mem::replace(&mut self.came, SubRunResult::Nothing)
     }
 
     /// Runs it apart, with at most `limit` entries (1 to `MOST_ENTRIES`); `keeps` says whether its journal is kept, as that of the run is.
@@ -87,7 +87,7 @@ fn came_of<P: Run>(
     keeps: bool,
     task: SubRunTask,
     limit: usize,
-) -> Came<P>
+) -> SubRunResult<P>
     requires keeps { keeps ≡ P.keeps }
     requires limit { (1 ≤ limit) × (limit ≤ MOST_ENTRIES) }
 {
@@ -95,7 +95,7 @@ fn came_of<P: Run>(
         .graph
         .for_call(alloc, task.definition, task.args.as_slice())
     else {
-        return Came::Nothing;
+        return SubRunResult::Nothing;
     };
     run_apart::<Brand, P>(alloc, &own, inputs.answers, keeps, task, limit)
 }
@@ -108,7 +108,7 @@ fn run_apart<Q: Run, P: Run>(
     keeps: bool,
     task: SubRunTask,
     limit: usize,
-) -> Came<P>
+) -> SubRunResult<P>
     requires keeps { keeps ≡ P.keeps }
     requires limit { (1 ≤ limit) × (limit ≤ MOST_ENTRIES) }
     requires named { limit ≡ Q.limit }
@@ -120,7 +120,7 @@ fn run_apart<Q: Run, P: Run>(
     requires call { source Q.listing ≡ call_of task.definition task.args }
 {
     let Ok(ledger) = Ledger::<Q>::begin(alloc, keeps, limit, graph.root()) else {
-        return Came::Nothing;
+        return SubRunResult::Nothing;
     };
     let mut scheduler = Scheduler::new(alloc, ledger, keeps);
     // What an outermost call publishes, the program publishes. Of another one the value is wanted, so it is held back.
@@ -129,15 +129,15 @@ fn run_apart<Q: Run, P: Run>(
     }
     let inputs = Inputs::new(graph, answers);
     if run_until_cut(&mut scheduler, &inputs) {
-        return Came::Long;
+        return SubRunResult::Long;
     }
     let last = scheduler.holding.last();
     match scheduler
         .into_ledger()
         .into_sub_run::<P>(&inputs, task, last)
     {
-        Some(part) => Came::Over(part),
-        None => Came::Nothing,
+        Some(part) => SubRunResult::Over(part),
+        None => SubRunResult::Nothing,
     }
 }
 
@@ -149,7 +149,7 @@ fn run_until_cut<Q: Run>(scheduler: &mut Scheduler<Q>, inputs: &Inputs<'_, Q>) -
     loop {
         match scheduler.go_now(inputs) {
             // Each time round is nearer the end (`IsNearer`), so the loop ends.
-            Ok(true) if !scheduler.holding.is_vain() => {}
+            Ok(true) if !scheduler.holding.is_unusable() => {}
             Err(Stop::Refused(LedgerFault::Limit)) => return true,
             Ok(_) | Err(_) => return false,
         }

@@ -636,7 +636,7 @@ impl<'a> Reader<'a> {
     // `val x =` or `def f(a, b) =` is whole, as this frame, and waits for the expression behind its `=`.
     #[inline(always)]
     #[tactic(auto, using(crate::proofs::Views::stacks))]
-    fn await_whole(&mut self, frame: Frame<'a>) -> Result<Mode<'a>, StepError>
+    fn open_frame(&mut self, frame: Frame<'a>) -> Result<Mode<'a>, StepError>
         ensures { Leaves result self.new (Ok (machine.state machine.Want (context self.old) (nodes self.old) (frame_of frame.entry ∷ stack self.old))) }
     {
         self.frames.push(frame)?;
@@ -671,8 +671,8 @@ impl<'a> Reader<'a> {
                 _ => Err(StepError::Wanted(heading_wants(head))),
             },
             Kind::Assign => match head {
-                Heading::ValName(start, name) => self.await_whole(Frame::Bound(name, start)),
-                Heading::Closed(name) => self.await_whole(Frame::Body(name)),
+                Heading::ValName(start, name) => self.open_frame(Frame::Bound(name, start)),
+                Heading::Closed(name) => self.open_frame(Frame::Body(name)),
                 _ => Err(StepError::Wanted(heading_wants(head))),
             },
             _ => Err(StepError::Wanted(heading_wants(head))),

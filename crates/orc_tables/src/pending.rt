@@ -334,7 +334,7 @@ impl Pending {
     }
 
     /// Gives the next number to a call that doesn't pend, since it was answered at once. There has to be room (`reserve_number`).
-    pub fn pass_number(&mut self)
+    pub fn skip_number(&mut self)
         requires room { 1 ≤ self.old.room }
         ensures items { self.new.items ≡ self.old.items }
         ensures made { self.new.made ≡ self.old.made + 1 }
@@ -344,7 +344,7 @@ impl Pending {
     }
 
     /// Gives the next `count` numbers to calls that don't pend. The error is refused memory, and then nothing changes.
-    pub fn pass_numbers(&mut self, count: u64) -> Result<(), AllocError>
+    pub fn skip_numbers(&mut self, count: u64) -> Result<(), AllocError>
         ensures items { self.new.items ≡ self.old.items }
         ensures made { OnOk result (self.new.made ≡ self.old.made + count) }
         ensures refused { OnErr result (self.new.made ≡ self.old.made) }

@@ -42,7 +42,7 @@ fn is_try(entered: Frame) -> bool
 }
 
 // Whether it is the right side of this cell.
-fn is_aid(entered: Frame, cell: u64) -> bool
+fn is_right_side_of(entered: Frame, cell: u64) -> bool
     ensures { result ≡ aids cell entered }
 {
     match entered {
@@ -191,7 +191,7 @@ impl Steps {
                 Some(last) => last,
                 None => return false,
             };
-            if is_aid(last.entered, cell) {
+            if is_right_side_of(last.entered, cell) {
                 return true;
             }
             at = last.outer;

@@ -77,7 +77,7 @@ impl<P: Run + Naming, S: Sites, G: Gate> Context<'_, P, S, G> {
 
     /// Before a worker leaves the lock under which the run may have stopped: those that rest have to know. Others that read of the end without the
     /// lock wake nobody.
-    pub(crate) fn tell_end(&self, shared: &Shared<P, S::Call>) {
+    pub(crate) fn wake_at_end(&self, shared: &Shared<P, S::Call>) {
         if shared.is_over() {
             self.wakeups.notify_all();
         }
@@ -85,7 +85,7 @@ impl<P: Run + Naming, S: Sites, G: Gate> Context<'_, P, S, G> {
 
     /// Before a worker leaves the lock with this work: those that rest have to know of the end, and of what a worker leaves that goes outside.
     pub(crate) fn tell(&self, shared: &mut Shared<P, S::Call>, work: &OutsideWork<S::Call>) {
-        self.tell_end(shared);
+        self.wake_at_end(shared);
         match work {
             OutsideWork::Make(_) | OutsideWork::Ask(_, _, _) => self.leave_due(shared),
             _ => {}

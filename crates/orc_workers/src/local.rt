@@ -19,7 +19,7 @@ pub(crate) struct Local<P: Naming> {
     // The groups that it was the last to leave, and has to close.
     lasts: Vec<Last<P>>,
     // Whether something was lost, since memory for it was refused.
-    has_lost: bool,
+    was_refused_memory: bool,
 }
 
 // Written out, so that each exit of a function that has one drops it by one call.
@@ -31,7 +31,7 @@ impl<P: Naming> Drop for Local<P> {
             word: _,
             supply,
             lasts,
-            has_lost: _,
+            was_refused_memory: _,
         } = self;
         drop(out);
         drop(births);
@@ -49,14 +49,14 @@ impl<P: Naming> Local<P> {
             word: None,
             supply,
             lasts: Vec::new(alloc),
-            has_lost: false,
+            was_refused_memory: false,
         }
     }
 
     /// A token that is out with the worker from now on, and moves next.
     pub(crate) fn hold(&mut self, token: Token<P>) {
         if self.out.born.push(token).is_err() {
-            self.has_lost = true;
+            self.was_refused_memory = true;
         }
     }
 
@@ -68,7 +68,7 @@ impl<P: Naming> Local<P> {
     /// A pass that no record has any more, to be left.
     pub(crate) fn put(&mut self, pass: Pass<P>) {
         if self.out.leave.push(pass).is_err() {
-            self.has_lost = true;
+            self.was_refused_memory = true;
         }
     }
 
@@ -120,7 +120,7 @@ impl<P: Naming> Local<P> {
         if let Some(pass) = pass
             && let Err(refused) = self.births.same.push(pass)
         {
-            self.has_lost = true;
+            self.was_refused_memory = true;
             self.put(refused.value);
         }
     }
@@ -130,7 +130,7 @@ impl<P: Naming> Local<P> {
         if let Some(pass) = pass
             && let Err(refused) = self.births.idle.push(pass)
         {
-            self.has_lost = true;
+            self.was_refused_memory = true;
             self.put(refused.value);
         }
     }
@@ -165,7 +165,7 @@ impl<P: Naming> Local<P> {
         if let Some(last) = left.last
             && self.lasts.push(last).is_err()
         {
-            self.has_lost = true;
+            self.was_refused_memory = true;
         }
     }
 
@@ -185,7 +185,7 @@ impl<P: Naming> Local<P> {
     }
 
     /// Whether memory was refused for a token, for a pass, or for a group that is to be closed: such a group never ends.
-    pub(crate) fn has_lost(&self) -> bool {
-        self.has_lost
+    pub(crate) fn was_refused_memory(&self) -> bool {
+        self.was_refused_memory
     }
 }

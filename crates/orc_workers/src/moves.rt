@@ -46,8 +46,8 @@ impl<P: Run + Naming, C: Drop> Shared<P, C> {
             Action::Wait(_) => self.wait(setup, local, token),
             what => {
                 local.prepare(setup.groups, view.needs, &token.pass);
-                if local.has_lost() {
-                    self.run_short();
+                if local.was_refused_memory() {
+                    self.stop_for_memory();
                     return Step::On;
                 }
                 let step = self.move_on(setup, local, token);
@@ -133,14 +133,14 @@ impl<P: Run + Naming, C: Drop> Shared<P, C> {
         }
         let cancelled = self.cancelled.as_slice();
         if local.out.cancelled.extend_from_slice(cancelled).is_err() {
-            self.run_short();
+            self.stop_for_memory();
         }
     }
 
     /// The tokens that wait for a cell go on, with this worker.
     pub(crate) fn wake(&mut self, local: &mut Local<P>, cell: u64) {
         if self.book.wake(cell, &mut local.out.born).is_err() {
-            self.run_short();
+            self.stop_for_memory();
         }
     }
 

@@ -133,7 +133,7 @@ impl<P: Run + Naming, C: Drop> Shared<P, C> {
     }
 
     /// The run stops for want of memory.
-    pub(crate) fn run_short(&mut self) {
+    pub(crate) fn stop_for_memory(&mut self) {
         self.stop(Stop::Refused(LedgerFault::Memory));
     }
 
@@ -151,7 +151,7 @@ impl<P: Run + Naming, C: Drop> Shared<P, C> {
         event: CallEvent<C>,
         begins_round: bool,
     ) -> OutsideWork<C> {
-        self.hear(setup.inputs.answers, local, event);
+        self.take_call_event(setup.inputs.answers, local, event);
         self.close_groups(local);
         if begins_round
             && !self.is_over()
@@ -161,8 +161,8 @@ impl<P: Run + Naming, C: Drop> Shared<P, C> {
         }
         let moves = if self.is_alone() { MOVES_ALONE } else { MOVES };
         for _move in 0..moves {
-            if local.has_lost() {
-                self.run_short();
+            if local.was_refused_memory() {
+                self.stop_for_memory();
             }
             if self.is_over() {
                 return OutsideWork::Over;
@@ -180,7 +180,7 @@ impl<P: Run + Naming, C: Drop> Shared<P, C> {
     }
 
     // What came of a call.
-    fn hear(&mut self, answers: &Answers, local: &mut Local<P>, event: CallEvent<C>) {
+    fn take_call_event(&mut self, answers: &Answers, local: &mut Local<P>, event: CallEvent<C>) {
         if self.is_over() {
             return;
         }
@@ -194,7 +194,7 @@ impl<P: Run + Naming, C: Drop> Shared<P, C> {
                     self.stop(Stop::Site(number));
                 }
             }
-            CallEvent::Refused => self.run_short(),
+            CallEvent::Refused => self.stop_for_memory(),
         }
     }
 
@@ -210,7 +210,7 @@ impl<P: Run + Naming, C: Drop> Shared<P, C> {
             return;
         }
         if self.pending.insert(number, call).is_err() {
-            self.run_short();
+            self.stop_for_memory();
         }
     }
 

@@ -211,7 +211,7 @@ impl<'h, P: Run + Naming, R: Wait, S: Sites, G: Gate> Shift<'h, P, R, S, G> {
         }
         if let Some(token) = refused {
             self.local.hold(token);
-            self.run_short();
+            self.stop_for_memory();
         }
         self.queued = self.queued.saturating_add(count);
         self.offer(count);
@@ -237,13 +237,13 @@ impl<'h, P: Run + Naming, R: Wait, S: Sites, G: Gate> Shift<'h, P, R, S, G> {
 
     // The run stops where something was lost.
     fn tell_lost(&self) {
-        if self.local.has_lost() {
-            self.run_short();
+        if self.local.was_refused_memory() {
+            self.stop_for_memory();
         }
     }
 
     // Memory was refused.
-    fn run_short(&self) {
+    fn stop_for_memory(&self) {
         self.context
             .stop(self.rt, Stop::Refused(LedgerFault::Memory));
     }
@@ -271,7 +271,7 @@ impl<'h, P: Run + Naming, R: Wait, S: Sites, G: Gate> Shift<'h, P, R, S, G> {
             let context = self.context;
             let mut shared = context.shared.lock(self.rt);
             shared.close_groups(&mut self.local);
-            context.tell_end(&shared);
+            context.wake_at_end(&shared);
         }
     }
 

@@ -30,10 +30,10 @@ pub returns-in-Call-clause-done : goal.returns-in-Call-clause-done
 returns-in-Call-clause-done c = for_sites c.args.program.now c.args.answers.now _ _ c.args.self.now c.call.new.self c.call.result c.in-Call.is c.call.ensures.done
 
 pub returns-in-Return-clause-done : goal.returns-in-Return-clause-done
-returns-in-Return-clause-done c = for_code c.args.program.now c.args.answers.now _ _ c.args.self.now c.answered.new.self c.answered.result c.in-Return.is c.answered.ensures.done
+returns-in-Return-clause-done c = for_code c.args.program.now c.args.answers.now _ _ c.args.self.now c.return_value.new.self c.return_value.result c.in-Return.is c.return_value.ensures.done
 
 pub returns-in-ReturnHalt-clause-done : goal.returns-in-ReturnHalt-clause-done
-returns-in-ReturnHalt-clause-done c = for_code c.args.program.now c.args.answers.now _ _ c.args.self.now c.given_up.new.self c.given_up.result c.in-ReturnHalt.is c.given_up.ensures.done
+returns-in-ReturnHalt-clause-done c = for_code c.args.program.now c.args.answers.now _ _ c.args.self.now c.return_halt.new.self c.return_halt.result c.in-ReturnHalt.is c.return_halt.ensures.done
 
 pub returns-in-Bind-clause-done : goal.returns-in-Bind-clause-done
 returns-in-Bind-clause-done c = for_tables c.args.program.now c.args.answers.now _ _ c.args.self.now c.bind.new.self c.bind.result c.in-Bind.is c.bind.ensures.done
@@ -72,10 +72,10 @@ pub returns-in-Cancel-clause-reason : goal.returns-in-Cancel-clause-reason
 returns-in-Cancel-clause-reason c = let a = c.args in refused_so a.program.now a.answers.now _ _ a.self.now c.cancel.result c.in-Cancel.is (err_map c.cancel.result (λ why h presumed. h a.answers.now) c.cancel.ensures.reason)
 
 pub returns-in-Return-clause-reason : goal.returns-in-Return-clause-reason
-returns-in-Return-clause-reason c = let a = c.args in refused_so a.program.now a.answers.now _ _ a.self.now c.answered.result c.in-Return.is (err_map c.answered.result (λ why h presumed. h a.program.now) c.answered.ensures.reason)
+returns-in-Return-clause-reason c = let a = c.args in refused_so a.program.now a.answers.now _ _ a.self.now c.return_value.result c.in-Return.is (err_map c.return_value.result (λ why h presumed. h a.program.now) c.return_value.ensures.reason)
 
 pub returns-in-ReturnHalt-clause-reason : goal.returns-in-ReturnHalt-clause-reason
-returns-in-ReturnHalt-clause-reason c = let a = c.args in refused_so a.program.now a.answers.now _ _ a.self.now c.given_up.result c.in-ReturnHalt.is (err_map c.given_up.result (λ why h presumed. h a.program.now) c.given_up.ensures.reason)
+returns-in-ReturnHalt-clause-reason c = let a = c.args in refused_so a.program.now a.answers.now _ _ a.self.now c.return_halt.result c.in-ReturnHalt.is (err_map c.return_halt.result (λ why h presumed. h a.program.now) c.return_halt.ensures.reason)
 
 pub returns-in-Tick-clause-reason : goal.returns-in-Tick-clause-reason
 returns-in-Tick-clause-reason c = let a = c.args in refused_so a.program.now a.answers.now _ _ a.self.now c.tick.result c.in-Tick.is (err_map c.tick.result (λ why h presumed. h a.answers.now) c.tick.ensures.reason)

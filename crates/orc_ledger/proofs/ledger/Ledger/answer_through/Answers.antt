@@ -64,16 +64,16 @@ invariant_of-self-in-Value g c =
     let room : s.entries + 1 < s.limit = omega (arith, c.if-self-ge2.true) in
     let kept_between = called-kept l sites b.counts b.groups.sizes s K a.inputs.now.answers.now.sites c.args.inputs.now.its_sites m args a.token (live-in s.slots a.slot a.token held) asks (omega (arith, room)) k refl found (λ o. refl) s1 refl refl refl making c.write_answered.new.counts c.in_ok-write_answered-in-Value.ensures.counted in
     let u : Token = record { serial = s.next_mark; standing = On v; step = a.token.step } in
-    let s' : Records = record { limit = b.limit; journal = c.write_answered.new.journal.entries; entries = b.entries + 2; next_mark = b.next_mark + 1; now = b.time; made = c.pass_number.new.self.made; tokens = live c.replace.new.self.items; slots = c.replace.new.self.items; calls = c.pass_number.new.self.items; scopes = b.scopes.items; steps = b.steps.items; groups = b.groups.items; cells = b.cells.items } in
+    let s' : Records = record { limit = b.limit; journal = c.write_answered.new.journal.entries; entries = b.entries + 2; next_mark = b.next_mark + 1; now = b.time; made = c.skip_number.new.self.made; tokens = live c.replace.new.self.items; slots = c.replace.new.self.items; calls = c.skip_number.new.self.items; scopes = b.scopes.items; steps = b.steps.items; groups = b.groups.items; cells = b.cells.items } in
     let answering : Exchanges s1 s' [] (u ∷ []) (k ∷ []) [] 0 (Return (s.made + 1) s.next_mark v) = record {
       limit = refl;
       journal = ap (λ j. j.entries) c.in_ok-write_answered-in-Value.ensures.added ∙ ap (λ n. (s.journal ++ Call a.token.serial n m args ∷ []) ++ Return n s.next_mark v ∷ []) next.number;
       entries = omega arith;
       mark = refl;
       now = refl;
-      made_so = omega (arith, c.pass_number.ensures.made, c.in-Ok.ensures.made);
+      made_so = omega (arith, c.skip_number.ensures.made, c.in-Ok.ensures.made);
       tokens = λ w. omega (arith, ap (λ z. weight w (live z)) c.replace.ensures.items, replaced w s.slots a.slot a.token u held (from_one l sites s K.lawful), removed w s.slots a.slot a.token nobody held refl);
-      calls = λ w. omega (arith, ap (weight w) c.pass_number.ensures.items, ap (weight w) c.in-Ok.ensures.items);
+      calls = λ w. omega (arith, ap (weight w) c.skip_number.ensures.items, ap (weight w) c.in-Ok.ensures.items);
       groups = refl;
       scopes = refl;
       steps = refl;
@@ -107,16 +107,16 @@ invariant_of-self-in-Halt g c =
     let making = made-between s a.slot a.token m args Halt nth refl held in
     let room : s.entries + 1 < s.limit = omega (arith, c.if-self-ge2.true) in
     let kept_between = called-kept l sites b.counts b.groups.sizes s K a.inputs.now.answers.now.sites c.args.inputs.now.its_sites m args a.token (live-in s.slots a.slot a.token held) asks (omega (arith, room)) k refl found (λ o. refl) s1 refl refl refl making c.write_answered-in-Halt.new.counts c.in_ok-write_answered-in-Halt.ensures.counted in
-    let s' : Records = record { limit = b.limit; journal = c.write_answered-in-Halt.new.journal.entries; entries = b.entries + 2; next_mark = b.next_mark; now = b.time; made = c.pass_number-in-Halt.new.self.made; tokens = live c.remove.new.self.items; slots = c.remove.new.self.items; calls = c.pass_number-in-Halt.new.self.items; scopes = b.scopes.items; steps = b.steps.items; groups = c.leave.new.self.items; cells = b.cells.items } in
+    let s' : Records = record { limit = b.limit; journal = c.write_answered-in-Halt.new.journal.entries; entries = b.entries + 2; next_mark = b.next_mark; now = b.time; made = c.skip_number-in-Halt.new.self.made; tokens = live c.remove.new.self.items; slots = c.remove.new.self.items; calls = c.skip_number-in-Halt.new.self.items; scopes = b.scopes.items; steps = b.steps.items; groups = c.leave.new.self.items; cells = b.cells.items } in
     let answering : Exchanges s1 s' [] [] (k ∷ []) [] 0 (ReturnHalt (s.made + 1)) = record {
       limit = refl;
       journal = ap (λ j. j.entries) c.in_ok-write_answered-in-Halt.ensures.added ∙ ap (λ n. (s.journal ++ Call a.token.serial n m args ∷ []) ++ ReturnHalt n ∷ []) next.number;
       entries = omega arith;
       mark = omega arith;
       now = refl;
-      made_so = omega (arith, c.pass_number-in-Halt.ensures.made, c.in-Ok.ensures.made);
+      made_so = omega (arith, c.skip_number-in-Halt.ensures.made, c.in-Ok.ensures.made);
       tokens = λ w. omega (arith, ap (λ z. weight w (live z)) c.remove.ensures.items.2, removed w s.slots a.slot a.token c.remove.ensures.items.0 held c.remove.ensures.items.1, removed w s.slots a.slot a.token nobody held refl);
-      calls = λ w. omega (arith, ap (weight w) c.pass_number-in-Halt.ensures.items, ap (weight w) c.in-Ok.ensures.items);
+      calls = λ w. omega (arith, ap (weight w) c.skip_number-in-Halt.ensures.items, ap (weight w) c.in-Ok.ensures.items);
       groups = c.leave.ensures.items;
       scopes = refl;
       steps = refl;
@@ -150,16 +150,16 @@ returns-in_ok-write_answered-in-Value-clause-done g c =
     let s1 = between s a.slot a.token m args (Gives v) nth in
     let making = made-between s a.slot a.token m args (Gives v) nth refl held in
     let u : Token = record { serial = s.next_mark; standing = On v; step = a.token.step } in
-    let s' : Records = record { limit = b.limit; journal = c.write_answered.new.journal.entries; entries = b.entries + 2; next_mark = b.next_mark + 1; now = b.time; made = c.pass_number.new.self.made; tokens = live c.replace.new.self.items; slots = c.replace.new.self.items; calls = c.pass_number.new.self.items; scopes = b.scopes.items; steps = b.steps.items; groups = b.groups.items; cells = b.cells.items } in
+    let s' : Records = record { limit = b.limit; journal = c.write_answered.new.journal.entries; entries = b.entries + 2; next_mark = b.next_mark + 1; now = b.time; made = c.skip_number.new.self.made; tokens = live c.replace.new.self.items; slots = c.replace.new.self.items; calls = c.skip_number.new.self.items; scopes = b.scopes.items; steps = b.steps.items; groups = b.groups.items; cells = b.cells.items } in
     let answering : Exchanges s1 s' [] (u ∷ []) (k ∷ []) [] 0 (Return (s.made + 1) s.next_mark v) = record {
       limit = refl;
       journal = ap (λ j. j.entries) c.in_ok-write_answered-in-Value.ensures.added ∙ ap (λ n. (s.journal ++ Call a.token.serial n m args ∷ []) ++ Return n s.next_mark v ∷ []) next.number;
       entries = omega arith;
       mark = refl;
       now = refl;
-      made_so = omega (arith, c.pass_number.ensures.made, c.in-Ok.ensures.made);
+      made_so = omega (arith, c.skip_number.ensures.made, c.in-Ok.ensures.made);
       tokens = λ w. omega (arith, ap (λ z. weight w (live z)) c.replace.ensures.items, replaced w s.slots a.slot a.token u held (from_one l sites s K.lawful), removed w s.slots a.slot a.token nobody held refl);
-      calls = λ w. omega (arith, ap (weight w) c.pass_number.ensures.items, ap (weight w) c.in-Ok.ensures.items);
+      calls = λ w. omega (arith, ap (weight w) c.skip_number.ensures.items, ap (weight w) c.in-Ok.ensures.items);
       groups = refl;
       scopes = refl;
       steps = refl;
@@ -188,16 +188,16 @@ returns-in_ok-write_answered-in-Halt-clause-done g c =
     let k = made s a.slot a.token m args Halt nth in
     let s1 = between s a.slot a.token m args Halt nth in
     let making = made-between s a.slot a.token m args Halt nth refl held in
-    let s' : Records = record { limit = b.limit; journal = c.write_answered-in-Halt.new.journal.entries; entries = b.entries + 2; next_mark = b.next_mark; now = b.time; made = c.pass_number-in-Halt.new.self.made; tokens = live c.remove.new.self.items; slots = c.remove.new.self.items; calls = c.pass_number-in-Halt.new.self.items; scopes = b.scopes.items; steps = b.steps.items; groups = c.leave.new.self.items; cells = b.cells.items } in
+    let s' : Records = record { limit = b.limit; journal = c.write_answered-in-Halt.new.journal.entries; entries = b.entries + 2; next_mark = b.next_mark; now = b.time; made = c.skip_number-in-Halt.new.self.made; tokens = live c.remove.new.self.items; slots = c.remove.new.self.items; calls = c.skip_number-in-Halt.new.self.items; scopes = b.scopes.items; steps = b.steps.items; groups = c.leave.new.self.items; cells = b.cells.items } in
     let answering : Exchanges s1 s' [] [] (k ∷ []) [] 0 (ReturnHalt (s.made + 1)) = record {
       limit = refl;
       journal = ap (λ j. j.entries) c.in_ok-write_answered-in-Halt.ensures.added ∙ ap (λ n. (s.journal ++ Call a.token.serial n m args ∷ []) ++ ReturnHalt n ∷ []) next.number;
       entries = omega arith;
       mark = omega arith;
       now = refl;
-      made_so = omega (arith, c.pass_number-in-Halt.ensures.made, c.in-Ok.ensures.made);
+      made_so = omega (arith, c.skip_number-in-Halt.ensures.made, c.in-Ok.ensures.made);
       tokens = λ w. omega (arith, ap (λ z. weight w (live z)) c.remove.ensures.items.2, removed w s.slots a.slot a.token c.remove.ensures.items.0 held c.remove.ensures.items.1, removed w s.slots a.slot a.token nobody held refl);
-      calls = λ w. omega (arith, ap (weight w) c.pass_number-in-Halt.ensures.items, ap (weight w) c.in-Ok.ensures.items);
+      calls = λ w. omega (arith, ap (weight w) c.skip_number-in-Halt.ensures.items, ap (weight w) c.in-Ok.ensures.items);
       groups = c.leave.ensures.items;
       scopes = refl;
       steps = refl;
