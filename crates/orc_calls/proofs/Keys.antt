@@ -1,5 +1,5 @@
 -- The keys of calls, and the map that counts by them.
-use Rattle.std.proofs.Common.{◌≡◌, ◌≤◌, ℕ, suc, Bool, true, false, cond, nat_eq, List, [], ◌∷◌, ◌++◌, map, Option, Some, refl, sym, ap, subst, ◌∙◌, ℤ, pos, negsuc, eqb-true, arith}
+use Rattle.std.proofs.Common.{◌≡◌, ◌≤◌, ℕ, suc, Bool, true, false, cond, nat_eq, List, [], ◌∷◌, ◌++◌, length, map, Option, Some, refl, sym, ap, subst, ◌∙◌, ℤ, pos, negsuc, eqb-true, arith}
 use Rattle.std.specs.Prelude.{◌&&◌, bytes_eq, unwrap_or}
 use Rattle.std.specs.Bool.{one_answer}
 use Rattle.std.specs.Global.{Vec}
@@ -13,7 +13,7 @@ use Rattle.std.proofs.Math.Bool.{and_assoc}
 use Rattle.orc_rules.specs.declared.value.Value.{Value}
 use Rattle.orc_rules.specs.declared.value.Value.TheVariants.{Number, Truth, Signal}
 use Rattle.orc_rules.specs.Sites.{value_eq, values_eq}
-use Rattle.orc_calls.specs.Counting.{kind_of, amount_of, words_of, key, entry_of, nth_in, CountsOne}
+use Rattle.orc_calls.specs.Counting.{kind_of, amount_of, words_of, key, entry_of, nth_in, AreFromOne, CountsOne, HasNoBare}
 
 -- two words tell values apart
 abbrev told : Value → Value → Bool
@@ -92,15 +92,25 @@ puts k v m n u q = go (bytes_eq q k) refl
     go false e = rw e (sym (lookup-seen q n.entries) ∙ other_entries k m.entries n.entries u.3 q e ∙ lookup-seen q m.entries)
 
 -- each count is from 1 on
-abbrev pub AreFromOne : List (Vec ℕ × ℕ) → Type 0
-AreFromOne es = (q : List ℕ) → 1 ≤ unwrap_or (lookup (bytes_eq q) (map entry_of es)) 1
-
-pub from_one : (k : List ℕ) (v : ℕ) (es fs : List (Vec ℕ × ℕ)) → Puts k v es fs → 1 ≤ v → AreFromOne es → AreFromOne fs
+pub from_one : (k : List ℕ) (v : ℕ) (es fs : List (Vec ℕ × ℕ)) → Puts k v es fs → 1 ≤ v → AreFromOne (map entry_of es) → AreFromOne (map entry_of fs)
 from_one k v es fs put one ones q = subst (λ z. 1 ≤ unwrap_or z 1) (sym (put q)) (go (bytes_eq q k))
   where
     go : (b : Bool) → 1 ≤ unwrap_or (cond b (Some v) (lookup (bytes_eq q) (map entry_of es))) 1
     go true = one
     go false = ones q
+
+-- a key with arguments is none without
+not_bare : (m n : ℕ) (args : List Value) → 1 ≤ length args → bytes_eq (n ∷ []) (key m args) ≡ false
+not_bare m n [] some = absurd (omega (arith, some))
+not_bare m n (a ∷ args) some = and_false (nat_eq n m)
+  where
+    and_false : (b : Bool) → (b && false) ≡ false
+    and_false true = refl
+    and_false false = refl
+
+-- so a map has no call without arguments after a change there
+pub no_bare : (k : List ℕ) (m : ℕ) (args : List Value) (v : ℕ) (es fs : List (Vec ℕ × ℕ)) → Puts k v es fs → k ≡ key m args → 1 ≤ length args → HasNoBare (map entry_of es) → HasNoBare (map entry_of fs)
+no_bare k m args v es fs put is some none n = put (n ∷ []) ∙ ap (λ z. cond z (Some v) (lookup (bytes_eq (n ∷ [])) (map entry_of es))) (ap (λ z. bytes_eq (n ∷ []) z) is ∙ not_bare m n args some) ∙ none n
 
 -- a call is counted by its key
 pub counts_one : (m : ℕ) (args : List Value) (k : List ℕ) (v : ℕ) (es fs : List (Vec ℕ × ℕ)) → Puts k v es fs → k ≡ key m args → v ≡ suc (nth_in (map entry_of es) m args) → CountsOne m args (map entry_of es) (map entry_of fs)

@@ -1,3 +1,4 @@
+pub mod BareCalls
 pub mod Copies
 pub mod Keys
 pub mod Notes

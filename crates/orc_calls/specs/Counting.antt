@@ -1,5 +1,5 @@
 -- How many calls there were of each site with the same arguments, in a map whose keys are lists of numbers.
-use Rattle.std.specs.Prelude.{◌≡◌, ℕ, suc, pos, negsuc, List, [], ◌∷◌, cond, nat_eq, ◌&&◌, true, unsigned_abs, bytes_eq, unwrap_or}
+use Rattle.std.specs.Prelude.{◌≡◌, ◌≤◌, ℕ, suc, pos, negsuc, List, [], ◌∷◌, None, cond, nat_eq, ◌&&◌, true, unsigned_abs, bytes_eq, slice_index_or, unwrap_or}
 use Rattle.std.specs.Global.{Vec}
 use Rattle.std.specs.Map.{lookup}
 use Rattle.orc_rules.specs.declared.value.Value.{Value}
@@ -33,6 +33,23 @@ key m args = m ∷ words_of args
 -- an entry of the map: a key, and which call is the next one
 abbrev pub entry_of : Vec ℕ × ℕ → List ℕ × ℕ
 entry_of e = (e.0.items, e.1)
+
+-- the next calls without arguments of the sites from m on, one site after another, as a map would have them; 0 is none
+abbrev pub bare_entries : ℕ → List ℕ → List (List ℕ × ℕ)
+bare_entries m [] = []
+bare_entries m (n ∷ ns) = cond (nat_eq n 0) (bare_entries (suc m) ns) ((m ∷ [], n) ∷ bare_entries (suc m) ns)
+
+-- ns' are ns but for site m, whose next call is n
+abbrev pub IsSetAt : ℕ → ℕ → List ℕ → List ℕ → Type 0
+IsSetAt m n ns ns' = (i : ℕ) → slice_index_or ns' i 0 ≡ cond (nat_eq i m) n (slice_index_or ns i 0)
+
+-- each call that a map has is one from 1 on
+abbrev pub AreFromOne : List (List ℕ × ℕ) → Type 0
+AreFromOne es = (words : List ℕ) → 1 ≤ unwrap_or (lookup (bytes_eq words) es) 1
+
+-- a map has no call without arguments
+abbrev pub HasNoBare : List (List ℕ × ℕ) → Type 0
+HasNoBare es = (m : ℕ) → lookup (bytes_eq (m ∷ [])) es ≡ None
 
 -- which call of a site with these arguments the next one is, from 1
 abbrev pub nth_in : List (List ℕ × ℕ) → ℕ → List Value → ℕ

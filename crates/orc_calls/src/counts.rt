@@ -1,8 +1,9 @@
 //! How many calls there were of each site with the same arguments.
 
-ghost use Rattle.std.specs.Prelude.{◌≡◌, ◌≤◌, [], IfOk, OnOk, OnErr};
+ghost use Rattle.std.specs.Prelude.{◌≡◌, ◌≤◌, [], length, IfOk, OnOk, OnErr};
 ghost use Rattle.orc_calls.specs.Counting.{nth_in, CountsOne, CountsCall, NextFound, NextNth};
 
+use crate::bare::BareCounts;
 use crate::key::Key;
 use orc_rules::answers::Answers;
 use orc_rules::value::{Args, Found};
@@ -15,22 +16,23 @@ use std::marker::Model;
 /// answers depend on it (`AreCounted`).
 #[derive(Drop)]
 pub struct Counts {
-    // By the key of a site with its arguments: which such call is the next one, from 1. Without a key it is the first.
+    // The calls without arguments, for which nothing has to be hashed.
+    bare: BareCounts,
+    // The others, by the key of a site with its arguments: which such call is the next one, from 1. Without a key it is the first.
     next: HashMap<Vec<u64>, u64, BuildHasherDefault<FoldHasher>>,
     alloc: Global,
 }
 
 // Contracts see the keys, each with its next call; that is 1 or more, also for a key that isn't there.
 impl Model for Counts {
-    ghost use Rattle.std.specs.Prelude.{ℕ, ◌≤◌, List, map, bytes_eq, unwrap_or};
-    ghost use Rattle.std.specs.Map.{lookup};
-    ghost use Rattle.orc_calls.specs.Counting.{entry_of};
+    ghost use Rattle.std.specs.Prelude.{ℕ, ◌++◌, List, map};
+    ghost use Rattle.orc_calls.specs.Counting.{bare_entries, entry_of, AreFromOne, HasNoBare};
 
     ghost Value = { List (List ℕ × ℕ) };
 
-    ghost view = { λ c. map entry_of c.next.entries };
+    ghost view = { λ c. bare_entries 0 c.bare ++ map entry_of c.next.entries };
 
-    ghost invariant = { λ c. (words : List ℕ) → 1 ≤ unwrap_or (lookup (bytes_eq words) (map entry_of c.next.entries)) 1 };
+    ghost invariant = { λ c. AreFromOne (map entry_of c.next.entries) × HasNoBare (map entry_of c.next.entries) };
 }
 
 /// The next call of a site with some arguments.
@@ -48,6 +50,7 @@ impl Counts {
         ensures { result ≡ [] }
     {
         Counts {
+            bare: BareCounts::new(alloc),
             next: HashMap::new(alloc),
             alloc,
         }
@@ -57,17 +60,30 @@ impl Counts {
     pub fn copy(&self) -> Result<Counts, AllocError>
         ensures { IfOk result (λ c. c ≡ self.now) }
     {
+        let bare = self.bare.copy(self.alloc)?;
         let next = self.next.clone()?;
         Ok(Counts {
+            bare,
             next,
             alloc: self.alloc,
         })
     }
 
-    // Which call of a site with these arguments the next one is, from 1; 1 for a site whose calls aren't counted.
+    // Which call of a site without arguments the next one is, from 1.
+    #[inline(always)]
+    fn nth_bare(&self, site: u32) -> u64
+        ensures nth { result ≡ nth_in self.now site [] }
+        ensures from_1 { 1 ≤ result }
+    {
+        let next = self.bare.get(site);
+        if next == 0 { 1 } else { next }
+    }
+
+    // Which call of a site with these arguments, of which there are some, the next one is, from 1.
     // Not inlined: a caller would clear the key's 272 bytes at each call of a site, counted or not.
     #[inline(never)]
-    fn nth(&self, site: u32, args: &Args) -> u64
+    fn nth_by_key(&self, site: u32, args: &Args) -> u64
+        requires { 1 ≤ length args.now }
         ensures nth { result ≡ nth_in self.now site args.now }
         ensures from_1 { 1 ≤ result }
     {
@@ -79,8 +95,21 @@ impl Counts {
         }
     }
 
-    /// The next call of a site with these arguments: which one it is, and the table's answer to it. Nothing is counted yet (`add`). The counts are
-    /// looked up once if a script answers the site, and else not at all.
+    // Which call of a site with these arguments the next one is, from 1; 1 for a site whose calls aren't counted.
+    #[inline(always)]
+    fn nth(&self, site: u32, args: &Args) -> u64
+        ensures nth { result ≡ nth_in self.now site args.now }
+        ensures from_1 { 1 ≤ result }
+    {
+        if args.as_slice().is_empty() {
+            self.nth_bare(site)
+        } else {
+            self.nth_by_key(site, args)
+        }
+    }
+
+    /// The next call of a site with these arguments: which one it is and what the table of sites says of it. The counts are looked into once
+    /// where a script answers the site, and else not at all.
     #[inline(always)]
     pub fn next_call(&self, answers: &Answers, site: u32, args: &Args) -> NextCall
         ensures nth { NextNth answers.now.sites self.now site args.now result.nth }
@@ -110,9 +139,35 @@ impl Counts {
         Ok(())
     }
 
-    // Counts one more call of a site with these arguments. The error is refused memory, and then nothing changes.
-    #[inline(never)]
+    // One more call of a site with these arguments. Where memory is refused nothing changes.
     fn add_one(&mut self, site: u32, args: &Args) -> Result<(), AllocError>
+        ensures added { OnOk result (CountsOne site args.now self.old self.new) }
+        ensures refused { OnErr result (self.new ≡ self.old) }
+    {
+        if args.as_slice().is_empty() {
+            self.add_bare(site)
+        } else {
+            self.add_by_key(site, args)
+        }
+    }
+
+    // One more call of a site without arguments. Where memory is refused nothing changes.
+    fn add_bare(&mut self, site: u32) -> Result<(), AllocError>
+        ensures added { OnOk result (CountsOne site [] self.old self.new) }
+        ensures refused { OnErr result (self.new ≡ self.old) }
+    {
+        let Some(more) = self.nth_bare(site).checked_add(1) else {
+            // No memory holds 2^64 calls.
+            return Err(AllocError);
+        };
+        self.bare.set(site, more)?;
+        Ok(())
+    }
+
+    // One more call of a site with these arguments, of which there are some. Where memory is refused nothing changes.
+    #[inline(never)]
+    fn add_by_key(&mut self, site: u32, args: &Args) -> Result<(), AllocError>
+        requires { 1 ≤ length args.now }
         ensures added { OnOk result (CountsOne site args.now self.old self.new) }
         ensures refused { OnErr result (self.new ≡ self.old) }
     {

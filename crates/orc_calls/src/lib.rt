@@ -2,6 +2,7 @@
 //! due.
 #![tactic(auto)]
 
+mod bare;
 mod counts;
 mod due;
 mod key;

@@ -1,0 +1,78 @@
+//! How many calls without arguments there were of each site.
+
+ghost use Rattle.std.specs.Prelude.{◌≡◌, ◌<◌, [], ℕ, length, slice_index_or, IfOk, OnOk, OnErr};
+ghost use Rattle.orc_calls.specs.Counting.{IsSetAt};
+
+use std::alloc::{AllocError, Global};
+use std::marker::Model;
+
+/// By a site's number, which call without arguments the next one of the site is, from 1; 0 where there was none yet.
+#[derive(Drop)]
+pub(crate) struct BareCounts {
+    next: Vec<u64>,
+}
+
+impl Model for BareCounts {
+    ghost use Rattle.std.specs.Prelude.{ℕ, List};
+
+    ghost Value = { List ℕ };
+
+    ghost view = { λ b. b.next.items };
+}
+
+impl BareCounts {
+    /// No call is counted yet.
+    pub(crate) fn new(alloc: Global) -> BareCounts
+        ensures { result ≡ [] }
+    {
+        BareCounts {
+            next: Vec::new(alloc),
+        }
+    }
+
+    /// A copy. The error is refused memory.
+    pub(crate) fn copy(&self, alloc: Global) -> Result<BareCounts, AllocError>
+        ensures { IfOk result (λ b. b ≡ self.now) }
+    {
+        let next = Vec::from_slice(alloc, &self.next)?;
+        Ok(BareCounts { next })
+    }
+
+    /// The next call of a site; 0 where there was none yet.
+    #[inline(always)]
+    pub(crate) fn get(&self, site: u32) -> u64
+        ensures { result ≡ slice_index_or self.now site 0 }
+    {
+        match self.next.get(site as usize) {
+            Some(next) => *next,
+            None => 0,
+        }
+    }
+
+    // There is a place for this site. Where memory is refused nothing changes.
+    fn reach(&mut self, site: usize) -> Result<(), AllocError>
+        ensures same { (n : ℕ) → slice_index_or self.new n 0 ≡ slice_index_or self.old n 0 }
+        ensures there { OnOk result (site < length self.new) }
+        ensures refused { OnErr result (self.new ≡ self.old) }
+    {
+        let Some(len) = site.checked_add(1) else {
+            return Err(AllocError);
+        };
+        if len <= self.next.len() {
+            return Ok(());
+        }
+        self.next.resize(len, 0)
+    }
+
+    /// The next call of a site is this one. Where memory is refused nothing changes.
+    pub(crate) fn set(&mut self, site: u32, next: u64) -> Result<(), AllocError>
+        ensures set { OnOk result (IsSetAt site next self.old self.new) }
+        ensures refused { OnErr result (self.new ≡ self.old) }
+    {
+        self.reach(site as usize)?;
+        if let Some(there) = self.next.get_mut(site as usize) {
+            *there = next;
+        }
+        Ok(())
+    }
+}
