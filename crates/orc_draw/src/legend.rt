@@ -4,6 +4,7 @@ use crate::markup::Markup;
 use crate::picture::Picture;
 use crate::scale::PARTS;
 use crate::story::{End, Kind};
+use crate::svg::MOST_BANDS;
 use crate::text::say_small;
 use orc_report::Page;
 use std::alloc::Global;
@@ -162,8 +163,7 @@ impl Legend {
             "<circle class=\"pub\" cx=\"11\" r=\"5\"/>",
             "published",
         );
-        // With more times `svg.rt` draws no bands.
-        if picture.slots.instants.len() <= 40 {
+        if picture.slots.instants.len() <= MOST_BANDS {
             let sign = "<rect class=\"instant\" y=\"-7\" width=\"22\" height=\"14\"/>";
             self.add(page, sign, "one time, entries in order");
         }

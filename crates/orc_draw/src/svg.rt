@@ -25,7 +25,7 @@ const TOP: u64 = 98;
 const PUBLICATIONS: u64 = 68;
 
 // With more times than these, times have thin lines in place of bands.
-const MOST_BANDS: usize = 40;
+pub(crate) const MOST_BANDS: usize = 40;
 
 // With more publications than these, they have no lines down through the rows.
 const MOST_LINES: u64 = 12;
