@@ -1,4 +1,4 @@
-//! A call of a definition that is run apart by a ledger of its own, and taken in.
+//! Rows on sub-runs: a ledger of its own runs a call of a definition, and the ledger of the enclosing run merges what that wrote.
 
 ghost use Rattle.std.specs.Prelude.{◌≡◌, ◌≤◌, true, false};
 ghost use Rattle.orc_rules.specs.declared.limits.TheConstants.{MOST_ENTRIES};
@@ -14,11 +14,12 @@ use orc_rules::value::{Args, Value};
 use std::alloc::Global;
 use std::marker::Brand;
 
-// So many slots are looked at for tokens.
+// The slots in which tokens are looked for. No program here has more tokens at a time.
 const SLOTS: usize = 4;
 
-// What a call's own run comes to, in which each token moves in turn, if it is over within so many rounds, or comes to one value where the call's publications
-// are not the run's. Where entries aren't kept each is forgotten at once.
+// Runs a task (a call of a definition) by a ledger of its own, in which each token moves in turn. None where a move is refused, or the run isn't over
+// after `limit` rounds. Where the call isn't the outermost, its publications aren't those of the enclosing run: a token that would publish stays
+// where it is, and its value is the result. `keeps` says whether the journal is kept or only counted.
 fn run_apart<Q: Run, P: Run>(
     alloc: Global,
     graph: &Graph,
@@ -78,7 +79,7 @@ fn move_on<Q: Run>(
     }
 }
 
-// What comes of a task's own run, if it is over within a hundred entries.
+// The sub-run of a task, if it is over within a hundred entries. `Brand` is a fresh name for the ledger's type.
 fn part_of<P: Run>(
     alloc: Global,
     inputs: &Inputs<'_, P>,
@@ -94,7 +95,7 @@ fn part_of<P: Run>(
     run_apart::<Brand, P>(alloc, &own, inputs.answers, keeps, task, 100)
 }
 
-// The slot of the first token that stands at a call of a definition with values, once each token has moved as often as it takes.
+// The slot of the first token that is at a call of a definition with values. All tokens move until there is one, ten times at most.
 fn at_call<P: Run>(alloc: Global, ledger: &mut Ledger<P>, inputs: &Inputs<'_, P>) -> Option<usize> {
     for _round in 0..10_usize {
         for slot in 0..SLOTS {
@@ -112,7 +113,8 @@ fn at_call<P: Run>(alloc: Global, ledger: &mut Ledger<P>, inputs: &Inputs<'_, P>
     None
 }
 
-// A token stands at a call of a definition, which is run apart and taken in, where the limit has room for so many entries.
+// Runs a program up to a call of a definition, makes that call's sub-run, and merges it: the ledger then, or why the merge was refused, such as a
+// journal limit without room. None where one of the steps before fails.
 fn taken<P: Run>(
     alloc: Global,
     inputs: &Inputs<'_, P>,
@@ -137,7 +139,7 @@ fn taken<P: Run>(
     }
 }
 
-// The text of the journal then.
+// The text of the journal after the merge.
 fn text_named<P: Run>(
     alloc: Global,
     graph: &Graph,
@@ -162,14 +164,14 @@ fn text_named<P: Run>(
     }
 }
 
-// What a run has come to that doesn't keep its journal.
+// What is known of a run that doesn't keep its journal: its publications, and how many entries there were.
 #[derive(Drop)]
 struct Known {
     values: Vec<Value>,
     entries: usize,
 }
 
-// The same of a journal that isn't kept.
+// What is known after the merge of a run that doesn't keep its journal.
 fn known_named<P: Run>(
     alloc: Global,
     graph: &Graph,
@@ -209,7 +211,7 @@ fn known_of(alloc: Global, source: &[u8], limit: usize) -> Option<Known> {
     known_named::<Brand>(alloc, &graph, &loaded.answers, limit)
 }
 
-// Whether the journal is this one then.
+// Whether the journal after the merge is this one.
 fn has_text(alloc: Global, source: &[u8], limit: usize, journal: &[u8]) -> bool {
     match text_of(alloc, source, limit) {
         Some(Ok(text)) => text.as_slice() == journal,
@@ -222,7 +224,7 @@ const SOURCE: &[u8] = b"def f(n) = Add(n, 1)\nf(4)";
 // The rules allow these entries in this order alone.
 const JOURNAL: &[u8] = b"orc-journal 2\ndef 1 2\ncall 2 1 Add(4, 1)\nreturn 1 3 5\npublish 3 5\n";
 
-/// Whether what is run apart stands in its place, with as many entries as there is room for. What isn't over is no part.
+/// Whether the entries of a sub-run are in the place of its call, if the limit has room for them; and whether a run that isn't over is no sub-run.
 pub(crate) fn stands_in_its_place(alloc: Global) -> bool {
     has_text(alloc, SOURCE, 4, JOURNAL)
         && matches!(text_of(alloc, SOURCE, 3), Some(Err(LedgerFault::Limit)))
@@ -246,7 +248,7 @@ const PLACES: [(&[u8], &[u8]); 5] = [
         b"def f(n) = Add(n, 1)\nf(4) >x> Add(x, 10)",
         b"orc-journal 2\nseq 1 2\ndef 2 3\ncall 3 1 Add(4, 1)\nreturn 1 4 5\n",
     ),
-    // Two that come to nothing there.
+    // Two that yield nothing there.
     (
         b"def f() = stop\ny <y< f()",
         b"orc-journal 2\nopen 1 1 2 3\ndef 3 4\nend 4\n",
@@ -257,8 +259,8 @@ const PLACES: [(&[u8], &[u8]); 5] = [
     ),
 ];
 
-/// Whether a call opens cells, and comes to a value or to nothing, wherever it stands. One that comes to two values is no part where the run doesn't
-/// publish them.
+/// Whether a sub-run may open cells, and yield a value or nothing, wherever its call is. One that yields two values is no sub-run where the enclosing
+/// run doesn't publish them.
 pub(crate) fn stands_anywhere(alloc: Global) -> bool {
     for (source, journal) in PLACES.iter() {
         if !has_text(alloc, source, 100, journal) {
@@ -268,7 +270,7 @@ pub(crate) fn stands_anywhere(alloc: Global) -> bool {
     text_of(alloc, b"def f(n) = n | 1\nf(4) >x> x", 100).is_none()
 }
 
-/// Whether a part whose journal isn't kept counts and publishes, with as many entries as there is room for.
+/// Whether a sub-run whose journal isn't kept has the right publications and number of entries, if the limit has room for them.
 pub(crate) fn counts_and_publishes(alloc: Global) -> bool {
     match known_of(alloc, SOURCE, 4) {
         Some(known) => {

@@ -1,7 +1,7 @@
-//! Drives a ledger by its calls alone: what it writes, what comes next, and what it refuses.
+//! Drives a ledger (the state of a run, `orc_ledger`) by its calls alone: what it writes, what comes next, and what it refuses.
 //!
-//!     orc_replay                              tells of each family of rows whether the ledger does what they say
-//!     orc_replay PROGRAM SCRIPT JOURNAL       replays a journal of the second version, entry by entry, and tells whether that writes the same one
+//!     orc_replay                              writes of each family of rows whether the ledger does what they say
+//!     orc_replay PROGRAM SCRIPT JOURNAL       replays a journal of the second version, entry by entry, and writes whether the ledger's is the same
 #![tactic(auto)]
 
 mod apart;
@@ -16,7 +16,8 @@ use orc_rules::entry::State;
 use std::alloc::Global;
 use std::{env, fs, io};
 
-/// Replays a journal's text: how many entries it has, and what the ledger says of the place to which they lead.
+/// Replays a journal's text: how many entries it has, and the state (Halted, Quiet, Running) in which the ledger is then. A text that isn't read is a
+/// `Stop` at 0.
 pub(crate) fn replay_text(
     alloc: Global,
     source: &[u8],
@@ -42,7 +43,7 @@ fn tell<R: Print>(rt: &R, what: &str, holds: bool) -> io::Result<()> {
     println!(rt; "{word}: {what}")
 }
 
-// Tells what holds of a ledger.
+// Writes a line for each family of rows; `stdout` in this crate has the lines that the gate wants.
 fn tell_all<R: Print>(rt: &R, alloc: Global) -> io::Result<()> {
     let told = [
         (

@@ -18,7 +18,7 @@ const PROGRAMS: u64 = 300;
 /// The most entries of a run.
 const ENTRIES: u64 = 60;
 
-/// Numbers that look like random ones.
+/// Numbers that look like random ones (a linear congruential generator): the same ones each time.
 #[derive(Drop)]
 struct Dice {
     state: u64,
@@ -38,8 +38,8 @@ impl Dice {
     }
 }
 
-// Expressions of a level: `%` stands for an expression of the level below, `$` for the variable of the level, and `^` for an expression of the level below
-// that may use this variable too.
+// Expressions of a level: `%` stands for an expression of the level below, `$` for the variable of the level, and `^` for an expression of the level
+// below that may use this variable too.
 const EXPRESSIONS: [&[u8]; 7] = [
     b"(% | %)",
     b"(% >$> ^)",
@@ -65,7 +65,8 @@ const LEAVES: [&[u8]; 11] = [
     b"#",
 ];
 
-/// A sign that is still to be written, of an expression of so many levels, where the variables of these are bound: bit n stands for that of level n.
+/// A sign that is still to be written, of an expression of so many levels (4 at most). Bit n of `names` says that the variable of level n is bound
+/// there.
 #[derive(Clone, Copy)]
 struct Part {
     sign: u8,
@@ -75,6 +76,7 @@ struct Part {
 
 // Puts an expression before the parts that are still to be written.
 fn put(dice: &mut Dice, parts: &mut Vec<Part>, level: u32, names: u32) -> Result<(), AllocError> {
+    // The second `%` changes nothing: it shows the prover that the index is in range.
     let signs = if level == 0 {
         LEAVES[dice.pick(11) as usize % 11]
     } else {
@@ -113,7 +115,7 @@ fn value(dice: &mut Dice, names: u32) -> &'static [u8] {
     VALUES[dice.pick(4) as usize % 4]
 }
 
-// A program by its seed.
+// A program by its seed: signs are taken from a stack, and a sign that stands for an expression pushes one.
 fn program(alloc: Global, seed: u64) -> Result<Vec<u8>, AllocError> {
     let mut dice = Dice { state: seed };
     let mut text = Vec::from_slice(alloc, b"def f(v1, v2) = (v2 | B(v1) >> v1)\n")?;
@@ -175,7 +177,7 @@ fn ends(alloc: Global) -> Option<[u32; 3]> {
     Some(ends)
 }
 
-/// Whether all programs are replayed, and runs of each kind are among them.
+/// Whether all programs are replayed, and enough runs of each kind are among them. The seeds are fixed, so the counts are the same each time.
 pub(crate) fn are_replayed(alloc: Global) -> bool {
     let Some(counts) = ends(alloc) else {
         return false;

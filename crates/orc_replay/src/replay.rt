@@ -22,9 +22,10 @@ use std::marker::Brand;
 pub enum Odd {
     /// The ledger has no such token, call or side.
     Gone,
-    /// The token's word is another one.
+    /// The token does something else next than the entry says.
     Word,
-    /// Somebody is in the side that the entry leaves: by the rules he may do nothing but make moves of marks.
+    /// The side that the entry ends has a token. By the rules it may only make moves of marks (entries without a rule), and the ledger makes these
+    /// first.
     Live,
     /// The call has another answer, or is due at another time.
     Wrong,
@@ -37,7 +38,7 @@ pub enum Odd {
     Memory,
 }
 
-/// The entry that isn't replayed, from 1, and why.
+/// The entry that isn't replayed, from 1, and why; 0 where nothing was replayed.
 #[derive(Clone, Copy, Debug, PartialEq, Eq)]
 pub struct Stop {
     pub at: usize,
@@ -51,7 +52,7 @@ enum Side {
     Left(u64),
 }
 
-// An open group, the number of the one round it, and whether a publication has left it.
+// An open group (the members of a side), the number of the group outside it (0 for the program's own), and whether it has published.
 #[derive(Clone, Copy)]
 struct Open {
     number: u32,
@@ -63,7 +64,7 @@ struct Open {
 /// A run whose entries are told one after another.
 pub struct Replay<P: Run> {
     pub ledger: Ledger<P>,
-    // The slot of each token by its serial; there is no serial 0.
+    // The slot in which the ledger keeps each token, by the token's serial (its mark in the journal); there is no serial 0.
     slots: Vec<usize>,
     groups: Vec<Open>,
     // Lent to the ledger's calls.
@@ -97,13 +98,13 @@ impl From<LedgerFault> for Odd {
         match fault {
             LedgerFault::Full | LedgerFault::Limit => Odd::Limit,
             LedgerFault::Memory => Odd::Memory,
-            // A replay's claims are always got.
+            // `advance` has a claim that always succeeds, so this doesn't occur.
             LedgerFault::Unclaimed => Odd::Other,
         }
     }
 }
 
-// Whether a token's word is the entry.
+// Whether the entry is what the token does next.
 fn says(what: Action, entry: &Entry) -> bool {
     match (what, entry) {
         (Action::Halt, Entry::End(_)) => true,
@@ -186,7 +187,7 @@ impl<P: Run> Replay<P> {
         }
     }
 
-    // A token does what its word says, which is the entry.
+    // A token makes its next move, if that is the entry.
     fn advance(&mut self, inputs: &Inputs<'_, P>, serial: u64, entry: &Entry) -> Result<(), Odd> {
         let Some(slot) = self.slots.get(serial as usize).copied() else {
             return Err(Odd::Gone);
@@ -275,7 +276,7 @@ impl<P: Run> Replay<P> {
         self.groups.iter().position(|open| open.number == number)
     }
 
-    // A publication leaves the left sides from one group out to another.
+    // A publication passes the left sides from one group out to another. No more groups than `MOST_GROUPS` are nested, so the loop reaches that.
     fn leave(&mut self, from: u32, to: u32) -> Result<(), Odd> {
         let mut number = from;
         for _outwards in 0..MOST_GROUPS {
@@ -328,7 +329,7 @@ impl<P: Run> Replay<P> {
         }
     }
 
-    // Groups that a publication has left, and in which nobody is, go without an entry.
+    // Closes the groups that have published and have no members left: they end without an entry.
     fn close_left(&mut self) -> Result<(), Odd> {
         for _outwards in 0..MOST_GROUPS {
             let Some(place) = self
@@ -385,6 +386,7 @@ impl<P: Run> Replay<P> {
 
     fn tick(&mut self, inputs: &Inputs<'_, P>, wanted: u64) -> Result<(), Odd> {
         let next = self.ledger.next(inputs);
+        // Shows the prover the ledger's invariant, which `tick` needs; nothing runs.
         self.ledger.is_whole();
         match next {
             Next::Ticks(time) if time == wanted => {
@@ -395,7 +397,7 @@ impl<P: Run> Replay<P> {
         }
     }
 
-    /// Where the entries have led, as the ledger says it.
+    /// The state to which the entries have led, by the ledger.
     pub fn state(&mut self, inputs: &Inputs<'_, P>) -> State {
         if self.ledger.has_halted() {
             return State::Halted;

@@ -22,13 +22,13 @@ pub(crate) enum Step {
     Does(&'static str),
     /// The token with this mark waits.
     Waits(u64),
-    /// This comes next.
+    /// This is what `Ledger::next` answers.
     Next(Next),
     /// The call with the least number that is due now.
     Due(Option<u64>),
     /// This answer of a call is refused.
     Refuses(u64, Answer, ReturnFault),
-    /// The call with this number was made then, and is that one of its site with its arguments, from 1.
+    /// The call with this number was made at this time, and is the n-th of its site with its arguments, n from 1.
     Asked(u64, u64, u64),
     /// Whether the term has halted.
     Halted(bool),
@@ -44,7 +44,7 @@ pub(crate) struct Row {
 
 const SIGNAL: Answer = Answer::Value(Value::Signal);
 
-// What the token with this mark does next.
+// What the token with this mark does next. No row has a hundred tokens.
 fn word<P: Run>(ledger: &Ledger<P>, inputs: &Inputs<'_, P>, serial: u64) -> Option<Action> {
     for slot in 0..100_usize {
         if let Some(token) = ledger.held(slot)
@@ -282,7 +282,7 @@ pub(crate) const CALLS: [Row; 6] = [
     },
 ];
 
-// Where the first token and those after it in its slot have moved until one is refused: how many entries there are, and why.
+// Moves the token in slot 0 until the ledger refuses a move: how many entries the journal has then, and why.
 fn refused_at<P: Run>(
     alloc: Global,
     graph: &Graph,
@@ -316,7 +316,8 @@ fn refused(alloc: Global, source: &[u8], limit: usize) -> Option<(usize, LedgerF
     refused_at::<Brand>(alloc, &graph, &loaded.answers, limit)
 }
 
-// Programs, their limits, and how many entries there are when a token is refused, and why.
+// Programs, their limits, how many entries there are when a move is refused, and why: 4,096 left sides of a `>x>` take two entries each, and one more
+// `def` follows; so do 1,023 left sides of a `;`.
 const LIMITS: [(&[u8], usize, usize, LedgerFault); 3] = [
     (
         b"def f() = f() >> 1\nf()",
