@@ -1,4 +1,4 @@
-//! Runs that begin.
+//! How a run begins: with a table of words, a supply of passes, and one token.
 
 ghost use Rattle.std.specs.Prelude.{◌≡◌, ◌≤◌, true};
 ghost use Rattle.orc_rules.specs.declared.limits.TheConstants.{MOST_ENTRIES};
@@ -12,10 +12,11 @@ use orc_rules::limits::{MOST_ENTRIES, MOST_GROUPS};
 use orc_word::{Naming, Supply};
 use std::alloc::Global;
 
-/// The words of groups that a run has where nothing else is said: as many may be taken by killed ones as there may be open ones.
+/// How many words a run has where its row says nothing: as many for killed groups as for open ones, since a killed group's word stays taken until its
+/// last pass is left.
 pub(crate) const WORDS: u32 = 2 * MOST_GROUPS as u32;
 
-/// The passes then: more than the entries of a run take.
+/// How many passes a run has where its row says nothing: more than its entries take.
 pub(crate) const PASSES: u32 = 4 * MOST_ENTRIES as u32;
 
 /// A run whose first token is out, with these words, and passes out of this supply. None where memory is refused, or the supply is empty.

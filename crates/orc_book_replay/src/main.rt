@@ -1,7 +1,8 @@
-//! Drives a book by its calls alone, with no worker: what they write, what they give out, and what they refuse.
+//! Drives a book (a ledger whose tokens may be out with workers, `orc_book`) by its calls alone, with no worker: what they write, what they give out,
+//! and what they refuse.
 //!
-//!     orc_book_replay                                 tells of each row whether the book does what it says
-//!     orc_book_replay PROGRAM SCRIPT JOURNAL          replays a journal, entry by entry, and tells whether that writes the same one
+//!     orc_book_replay                                 writes of each row whether the book does what it says
+//!     orc_book_replay PROGRAM SCRIPT JOURNAL          replays a journal, entry by entry, and writes whether the book's is the same
 //!     orc_book_replay PROGRAM SCRIPT JOURNAL --read   only reads it, and compares it with itself
 #![tactic(auto)]
 
@@ -24,7 +25,7 @@ use crate::table::rows;
 use std::alloc::Global;
 use std::{env, fs, io};
 
-// Tells of each row whether a book does what it shows.
+// Writes of each row whether a book does what it shows; `stdout` in this crate has the lines that the gate wants.
 fn tell_rows<R: Print>(rt: &R, alloc: Global) -> io::Result<()> {
     for row in rows() {
         match show(alloc, &row) {

@@ -1,4 +1,4 @@
-//! Passes that no record has: for births, and to be left.
+//! Passes that no record has: for tokens to come, or to be left. A pass stands for one record in its group; an idle one names no group.
 
 ghost use Rattle.std.specs.Prelude.{◌≡◌, None, IfSome};
 ghost use Rattle.orc_word.specs.Views.{group_of};
@@ -10,7 +10,7 @@ use std::alloc::{AllocError, Global};
 pub(crate) struct Passes<P: Naming> {
     supply: Supply<P>,
     pub lasts: Vec<Last<P>>,
-    // Passes to the program's own group, for the next records there: they are entered and left no more. At most so many are kept.
+    // Passes to the program's own group, kept for the next records there: that saves the exchanges by which passes leave and enter. At most so many.
     warm: Vec<Pass<P>>,
     most_warm: usize,
 }
@@ -41,7 +41,7 @@ impl<P: Naming> Passes<P> {
         }
     }
 
-    /// From now on so many passes to the program's own group are kept at most, until `leave_warm`.
+    /// Keeps at most so many passes to the program's own group from here on, until `leave_warm`.
     pub(crate) fn keep_warm(&mut self, most: usize) {
         self.most_warm = most;
     }
@@ -77,7 +77,7 @@ impl<P: Naming> Passes<P> {
         }
     }
 
-    /// A pass is left, and goes back into the supply. Tells whether it was the last one that named its group, which is then to be closed.
+    /// Leaves a pass, which goes back into the supply. Answers whether it was the last one that named its group, which is then to be closed.
     pub(crate) fn leave(&mut self, groups: &Groups<P>, pass: Pass<P>) -> Result<bool, AllocError> {
         if pass.group().is_none() {
             self.supply.give(groups, pass);

@@ -1,4 +1,6 @@
-//! Journals replayed by calls of the book, entry by entry.
+//! Journals replayed by calls of the book, entry by entry. A token is out while the replay has it. The book keeps a token that waits.
+//!
+//! Loops that end by `break` go over `0..u64::MAX`, so that the prover sees an end.
 
 ghost use Rattle.std.specs.Prelude.{◌≡◌, ◌<◌, IfSome, vec_len};
 
@@ -14,8 +16,8 @@ use orc_word::{Last, Naming, Pass};
 use std::alloc::Global;
 use std::mem;
 
-/// With so many killed groups whose words are taken still, the passes of tokens that are gone are looked for: with more where more tokens are looked at,
-/// so that a bind pays for a few of them.
+/// A killed group's word stays taken until its last pass is left. If so many words are taken so, the replay looks through all tokens for passes of
+/// killed ones (`sweep`). It waits for more words where there are more slots, so that a bind pays for few looks.
 const FEW_DYING: usize = 64;
 
 const MOST_DYING: usize = 512;
@@ -25,7 +27,7 @@ const MOST_DYING: usize = 512;
 pub(crate) enum Odd {
     /// No such token is out, or no such call pends.
     Gone,
-    /// The side that the entry leaves was not left by its last pass: by the rules those inside may do nothing but make moves of marks.
+    /// The side that the entry ends still has a pass: by the rules the tokens inside may only make moves of marks, and the book makes these first.
     Live,
     /// The token does something else next, or the call has another answer, or is due at another time.
     Wrong,
@@ -452,7 +454,7 @@ impl<P: Run + Naming> Replay<P> {
         }
     }
 
-    // What stood inside the cell's right side is gone; those that wait for the cell go on.
+    // Binds a cell: what was inside its right side is gone, and the tokens that wait for the cell come out.
     fn bind(&mut self, setup: &Setup<'_, P>, token: Token<P>, cell: u64) -> Result<(), Odd> {
         let Some(inside) = token.pass.group() else {
             return Err(Odd::Other);
@@ -477,7 +479,7 @@ impl<P: Run + Naming> Replay<P> {
         self.sweep(setup)
     }
 
-    /// The book alone is told of a token that binds. The passes that are to be left are added to a list.
+    /// Has the book bind, and does nothing else for it. Adds the passes that are to be left to a list.
     pub(crate) fn bind_only(
         &mut self,
         setup: &Setup<'_, P>,
@@ -526,7 +528,7 @@ impl<P: Run + Naming> Replay<P> {
         Ok(())
     }
 
-    // The passes of tokens that went with a killed group are left.
+    // Leaves the passes of tokens that went with a killed group.
     fn sweep(&mut self, setup: &Setup<'_, P>) -> Result<(), Odd> {
         for slot in 0..self.out.len() {
             self.look_at(setup, slot)?;
@@ -534,7 +536,7 @@ impl<P: Run + Naming> Replay<P> {
         self.settle(setup)
     }
 
-    // The passes that are to be left are left, and groups that go without an entry are closed once nobody is in them.
+    // Leaves the passes that are to be left, and closes groups that end without an entry once their last pass was left.
     fn settle(&mut self, setup: &Setup<'_, P>) -> Result<(), Odd> {
         for _ in 0..u64::MAX {
             if self
@@ -556,7 +558,7 @@ impl<P: Run + Naming> Replay<P> {
         Ok(())
     }
 
-    // A group that was left last and goes without an entry.
+    // A group whose last pass was left and which ends without an entry.
     fn silent_last(&mut self) -> Option<Last<P>> {
         let sides = &self.sides;
         let place = self
@@ -567,7 +569,7 @@ impl<P: Run + Naming> Replay<P> {
         Some(self.passes.lasts.swap_remove(place))
     }
 
-    // The side of which this is the group, if it was left last.
+    // The group of this side, if its last pass was left.
     fn last_of(&mut self, side: Side) -> Option<Last<P>> {
         let sides = &self.sides;
         let place = self
@@ -599,7 +601,8 @@ impl<P: Run + Naming> Replay<P> {
         }
     }
 
-    // Time goes on. Where something else comes next, that may be a group which goes without an entry, once passes of tokens that are gone are left.
+    // Time goes on. If the book says that something else comes next, that may be a group which ends without an entry once the passes of tokens that
+    // are gone were left: so the second try is after a sweep.
     fn tick(&mut self, setup: &Setup<'_, P>, time: u64) -> Result<(), Odd> {
         self.keep_waiting(setup)?;
         if self.ticks(setup, time)? {

@@ -49,7 +49,7 @@ pub(crate) enum Step {
     HasEnded(bool),
 }
 
-/// What a row shows of a book.
+/// What a row shows of a book. `show_with` has the function that each stands for.
 #[derive(Clone, Copy)]
 pub(crate) enum Shows {
     Steps(&'static [Step]),
@@ -62,7 +62,8 @@ pub(crate) enum Shows {
     IsLive,
     RefusesOtherMoves,
     RefusesWordsThatAreNamed,
-    /// By moves of the token that has stood longest: so many entries, before one is refused for this, when so many passes to the program's group are left.
+    /// By moves of the token that has stood longest: so many entries, before one is refused for this, when so many passes to the program's group are
+    /// left.
     MakesMoves(usize, BookFault, usize),
     /// A single token moves until one of the engine's numbers is reached: so many entries.
     IsFullAfter(usize),
@@ -80,7 +81,7 @@ pub(crate) struct Row {
     pub shows: Shows,
 }
 
-/// Whether something is as it has to be.
+/// Lets `?` end a row where something isn't as it has to be.
 pub(crate) fn so(holds: bool) -> Option<()> {
     if holds { Some(()) } else { None }
 }
@@ -228,6 +229,7 @@ pub(crate) fn show(alloc: Global, row: &Row) -> Option<()> {
     let limit = row.limit;
     let count = row.words;
     let passes = row.passes;
+    // What `Unnamed::new` and the ledger ask of the numbers; each row meets it.
     if limit < 1 || limit > MOST_ENTRIES as usize || count < 2 || count > 65_536 {
         return None;
     }

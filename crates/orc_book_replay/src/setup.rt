@@ -1,10 +1,10 @@
-//! What a run goes by, and the words of its groups.
+//! What each call of a book is handed.
 
 use orc_ledger::Inputs;
 use orc_log::Run;
 use orc_word::{Groups, Naming};
 
-/// What a run goes by, and the words of its groups.
+/// The program and the table of sites of a run, and the words of its groups: a word counts the passes that name its group.
 #[derive(Drop)]
 pub(crate) struct Setup<'h, P: Run + Naming> {
     pub inputs: &'h Inputs<'h, P>,

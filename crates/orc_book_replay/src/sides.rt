@@ -1,4 +1,4 @@
-//! The sides that groups stand for, by their words.
+//! What the groups are, by the numbers of their words: the whole program, right sides of cells, left sides of otherwises.
 
 use orc_rules::limits::MOST_GROUPS;
 use std::alloc::{AllocError, Global};
@@ -14,7 +14,7 @@ pub(crate) enum Side {
     Left(u64),
 }
 
-/// A group, the word of the one round it, whether a publication has left it, and whether it was killed.
+/// A group, the word of the group outside it, whether it has published, and whether a bind has dropped it.
 #[derive(Clone, Copy)]
 struct Group {
     side: Side,
@@ -68,7 +68,8 @@ impl Sides {
         }
     }
 
-    /// A publication leaves the left sides from one group out to another. Tells whether no right side is between.
+    /// A publication passes the left sides from one group out to another. Answers whether no right side is between. Groups aren't nested deeper than
+    /// `MOST_GROUPS`, so the loop gets there.
     pub(crate) fn leave(&mut self, from: u32, to: u32) -> bool {
         let mut word = from;
         for _outwards in 0..MOST_GROUPS {
@@ -87,7 +88,7 @@ impl Sides {
         false
     }
 
-    /// The word of a cell's right side, where that is round this group or is this group.
+    /// The word of a cell's right side, where that is this group or encloses it.
     pub(crate) fn right_side(&self, from: u32, cell: u64) -> Option<u32> {
         let mut word = from;
         for _outwards in 0..MOST_GROUPS {
@@ -107,7 +108,7 @@ impl Sides {
         }
     }
 
-    /// Whether a group goes without an entry once it is left: a publication has left it, or it was killed, or one that is round it.
+    /// Whether a group ends without an entry: it has published, or it or an enclosing one was killed.
     pub(crate) fn goes_silently(&self, word: u32) -> bool {
         if self.group(word).is_left {
             return true;
