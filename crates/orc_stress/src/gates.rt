@@ -1,4 +1,4 @@
-//! Gates and sites round a run: they hold calls, sleep, or only say that they may.
+//! Gates and sites for runs: they hold calls, sleep, or only say that they may. A call passes the run's gate before it is made.
 
 use orc_rules::answers::Answers;
 use orc_site::{Gate, Request, Scripted, SiteCall, Sites};
@@ -7,10 +7,10 @@ use std::sync::atomic::{AtomicU64, Ordering};
 use std::thread;
 use std::time::{Clock, Duration};
 
-/// How often a gate looks before it gives up.
+/// How often a gate looks before it gives up: some seconds, so that a run with a lost call ends.
 const LOOKS: u64 = 2_000_000_000;
 
-/// Holds nobody, and doesn't say so: all workers are at work.
+/// Holds nobody, and doesn't say so: so `run_pool` asks the gate for each call, and all workers are at work.
 #[derive(Drop)]
 pub struct Slow;
 
@@ -22,7 +22,7 @@ impl Gate for Slow {
     }
 }
 
-/// Holds each call until so many were made.
+/// Holds each call until `wanted` calls are in the gate: so that many workers have to make a call at one time.
 #[derive(Drop)]
 pub struct Turnstile {
     wanted: u64,
@@ -39,6 +39,7 @@ impl Turnstile {
         }
     }
 
+    /// Whether no call gave up before the others came.
     pub fn held_all(&self) -> bool {
         self.ran_out.load(Ordering::SeqCst) == 0
     }

@@ -1,5 +1,5 @@
-//! Runs programs on many workers again and again, and tells how many of the runs were odd: ended otherwise than they have to, or left a journal
-//! that isn't accepted.
+//! Runs programs on many workers again and again, and writes how many of the runs were *odd*: ended otherwise than they have to, or left a journal
+//! that the check doesn't accept. `checks/storms` reads that.
 //!
 //!     orc_stress ROUNDS                       each program so often, on 2, 4 and 16 workers
 //!     orc_stress NAME WORKERS [ROUNDS]        one of them on so many workers, once where nothing is said; also `due`, `asks` and `nap`
@@ -119,7 +119,7 @@ fn run_all<R: Threads + Wait + Sync + Print>(rt: &R, alloc: Global, rounds: u32)
     Ok(())
 }
 
-// What a run has come to. A check that was refused memory is made again.
+// Writes how a run ended. A check that was refused memory is made again.
 fn tell<R: Print>(
     rt: &R,
     alloc: Global,
@@ -194,7 +194,7 @@ fn storm_named(name: &str) -> Option<Storm> {
     None
 }
 
-// The number that an argument says, else another one.
+// The number in an argument, or `otherwise` if there is none.
 fn number_of(words: &[String], place: usize, otherwise: u32) -> u32 {
     match words.get(place) {
         Some(word) => word.parse::<u32>().unwrap_or(otherwise),

@@ -1,4 +1,4 @@
-//! Programs, and what their runs have to come to.
+//! The storms: programs, and how their runs have to end.
 
 use orc_load::{LoadFault, Loaded};
 use orc_outcome::{End, Played};
@@ -19,7 +19,7 @@ pub struct Storm {
     pub source: &'static [u8],
     pub end: End,
     pub published: u64,
-    /// What may be published; anything, where nothing is said.
+    /// The numbers that may be published; any value, where the list is empty.
     pub values: &'static [i64],
 }
 
@@ -76,7 +76,7 @@ pub const STORMS: [Storm; 8] = [
         published: 1,
         values: &[1, 2],
     },
-    // More races one after another than there may be groups.
+    // More races one after another than there may be open groups: a killed group's word has to become free again.
     Storm {
         name: "kills",
         source: b"def loop(n) = Lt(n, 1100) >b> (Iff(b) >> n | Ift(b) >> (x <x< (n | Never() | Rwait(5))) >> Add(n, 1) >m> loop(m))\nloop(0)",
@@ -104,7 +104,7 @@ pub const ASKS: Storm = Storm {
     values: &[1],
 };
 
-/// One call, which nothing goes beside.
+/// One call, with nothing in parallel.
 pub const NAP: Storm = Storm {
     name: "nap",
     source: b"Ask()",
