@@ -21,11 +21,13 @@ use std::{io, thread};
 /// A hotel and a hostel are asked for a bed. Who answers first gets the guest.
 const WORKFLOW: &[u8] = b"val price = Hotel(2) | Hostel(2)\nprice";
 
-/// What they answer, and after how much logical time.
+/// The script: what they answer, and after how much logical time.
 const SERVICES: &[u8] = b"Hotel(_) = 70 after 3\nHostel(_) = 35 after 5\n";
 
+/// How many threads run the workflow.
 const WORKERS: usize = 2;
 
+/// The most entries of the run's journal.
 const LIMIT: u64 = 1000;
 
 // Runs the workflow, and then sends the clerk home.

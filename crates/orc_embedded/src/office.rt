@@ -15,7 +15,7 @@ use std::time::{Clock, Duration};
 /// What the clerk is handed: where to say that a call has been served. Nothing, where no more calls come.
 pub type Job = Option<Sender<(), Global>>;
 
-/// Serves calls until no more come, a millisecond each, and tells how many there were.
+/// Serves calls until no more come, a millisecond each, and answers how many there were.
 pub fn serve<R: Wait + Clock>(rt: &R, jobs: &Receiver<Job, Global>) -> u64 {
     let mut served = 0u64;
     for job in jobs.iter(rt) {
@@ -64,7 +64,7 @@ impl<'a, R: Wait> Sites for Office<'a, R> {
     }
 }
 
-/// A call that is out. Once it is due, who polls it waits until the clerk has served it.
+/// A call that was made and has no answer yet. Once it is due, whoever polls it waits until the clerk has served it.
 #[derive(Drop)]
 pub struct Errand<'a, R: Wait> {
     rt: &'a R,
