@@ -1,4 +1,4 @@
-//! Rows that are a journal.
+//! Rows that are a journal: what a check says of the whole, and of each prefix.
 
 use crate::trial::Trial;
 use std::io;
@@ -8,7 +8,8 @@ use std::thread::Threads;
 /// The fields that such a row may have.
 pub const FIELDS: &str = "source script journal check fronts";
 
-// What a check has to say of the first bytes of a journal, cut anywhere: that it is a journal at the end of a line, else that its last line is at fault.
+// What a check has to say of the first bytes of a journal, cut anywhere: that it is a journal at the end of a line, else that its last line is at
+// fault.
 fn said_of(front: &str) -> Option<u64> {
     if front.contains('\n') {
         Some(front.split('\n').count() as u64)
@@ -18,7 +19,7 @@ fn said_of(front: &str) -> Option<u64> {
 }
 
 impl<R: Threads + Wait + Sync> Trial<'_, R> {
-    // Checks each front of the row's journal.
+    // Checks each prefix of the row's journal.
     fn try_fronts(&mut self, whole: &str) -> io::Result<()> {
         for at in 0..whole.len() {
             let Some(front) = whole.get(..at) else {

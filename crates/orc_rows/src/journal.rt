@@ -1,8 +1,8 @@
-//! What the lines of a journal tell.
+//! What the lines of a journal say, read without the crates under test.
 
 use std::alloc::{AllocError, Global};
 
-/// What a journal tells: how many entries it has, how many of them aren't cancels, what it publishes, and its last time.
+/// What a journal says: how many entries it has, how many of them aren't cancels, what it publishes, and its last time.
 #[derive(Drop)]
 pub struct Told<'a> {
     pub entries: u64,
@@ -36,7 +36,7 @@ pub fn read_journal<'a>(alloc: Global, text: &'a str) -> Result<Told<'a>, AllocE
     Ok(told)
 }
 
-/// How often a line stands in a text.
+/// How often a text has a line.
 pub fn count_lines(text: &str, wanted: &str) -> u64 {
     let mut times = 0u64;
     for line in text.lines() {
@@ -77,7 +77,7 @@ fn has_returned(text: &str, number: &str) -> bool {
     false
 }
 
-/// Whether a journal has a call that is written so, and of none of them a return.
+/// Whether a journal has a call that is written so, and no return of any such call.
 pub fn is_lost(text: &str, wanted: &str) -> bool {
     let mut is_called = false;
     for line in text.lines() {

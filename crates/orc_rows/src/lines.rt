@@ -1,4 +1,4 @@
-//! Rows that are a command line.
+//! Rows that are a command line: its status, and what it writes.
 
 use crate::folder::Done;
 use crate::journal::count_lines;

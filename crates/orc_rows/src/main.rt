@@ -24,7 +24,7 @@ use std::{env, fs, io};
 use table::{Row, read_rows};
 use trial::Trial;
 
-// What came of a row.
+// Tries a row: a command line, a journal or a program, by its fields.
 fn try_row<R: Threads + Wait + Sync>(rt: &R, alloc: Global, row: &Row) -> io::Result<Report> {
     let mut trial = Trial::new(rt, alloc, row)?;
     let (line, has_journal) = (row.field("line"), row.has("journal"));
@@ -48,7 +48,7 @@ fn try_row<R: Threads + Wait + Sync>(rt: &R, alloc: Global, row: &Row) -> io::Re
     Ok(trial.report)
 }
 
-// What came of a table's rows.
+// Tries all rows of a table.
 fn try_table<R: Threads + Wait + Sync>(rt: &R, alloc: Global, table: &str) -> io::Result<Report> {
     let mut report = Report::new(alloc);
     for row in &read_rows(alloc, table)? {

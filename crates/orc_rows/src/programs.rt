@@ -1,4 +1,5 @@
-//! Rows that are a program, which is run on several numbers of workers.
+//! Rows that are a program: it is run on 1, 2, 4 and 16 workers, or on those that its row names, and with `--unordered`. Each run has to do what the row
+//! says.
 
 use crate::folder::Done;
 use crate::journal::{Told, count_lines, is_lost, line_with, read_journal};
@@ -20,7 +21,7 @@ const WORKERS: &str = "1 2 4 16";
 /// On how many workers a program is run that race each other.
 const RACERS: &str = "4";
 
-/// How many entries a journal may have whose end is explained: what is told of a long one takes long.
+/// How many entries a journal may have whose end is explained: the explanation of a long one takes long.
 const MOST_EXPLAINED: u64 = 10_000;
 
 // The words of a command line that runs the row's program.
@@ -254,7 +255,8 @@ impl<R: Threads + Wait + Sync> Trial<'_, R> {
         self.try_run_journal(words, done)
     }
 
-    // Runs the program on workers that race each other, and notes what its journal has otherwise than the row says. It is one run, since another may differ.
+    // Runs the program on workers that race each other, and notes what its journal has otherwise than the row says. It is one run, since another may
+    // differ.
     fn try_unordered(&mut self, more: &str) -> io::Result<()> {
         let mut words = words_of(self.alloc, RACERS, more)?;
         words.extend_from_slice(["--unordered", "--journal"].as_slice())?;

@@ -1,12 +1,12 @@
-//! How many command lines did what their rows say, and what is told of the others.
+//! How many command lines did what their rows say, and what is written of the others.
 
 use std::alloc::{AllocError, Global};
 use std::io;
 
-/// How many failures are told in full.
+/// How many failures are written in full; the others are only counted.
 const MOST_TOLD: u64 = 20;
 
-/// How many command lines did what their rows say, how many didn't, and what is told of these.
+/// How many command lines did what their rows say, how many didn't, and what is written of these.
 #[derive(Drop)]
 pub struct Report {
     pub passed: u64,
@@ -60,7 +60,7 @@ impl Report {
         self.told.push_str(other.told.as_str())
     }
 
-    /// Writes what is told of a table.
+    /// Writes the failures of a table, and its counts.
     pub fn print<R: Print>(&self, rt: &R, table: &str) -> io::Result<()> {
         if self.failed > 0 {
             let (failed, told) = (self.failed, self.told.as_str());

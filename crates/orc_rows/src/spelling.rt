@@ -5,7 +5,7 @@ use std::alloc::{AllocError, Global};
 /// Letters behind a `\`, and the bytes for which they stand.
 const LETTERS: [(char, u8); 3] = [('n', b'\n'), ('r', b'\r'), ('t', b'\t')];
 
-/// How many digits stand behind `\x`.
+/// How many hexadecimal digits follow `\x`.
 const DIGITS: usize = 2;
 
 // The byte that the front of a text spells, whose `\` has been taken, and what follows it.
@@ -42,7 +42,7 @@ fn unescape(alloc: Global, text: &str) -> Result<Vec<u8>, AllocError> {
     Ok(bytes)
 }
 
-// How often a text stands, the text, and what follows: the front of some bytes, whose `[` has been taken.
+// How often a text is repeated, the text, and what follows: the front of some bytes (`9 times TEXT]`), whose `[` has been taken.
 fn counted(bytes: &[u8]) -> Option<(u32, &[u8], &[u8])> {
     let end = bytes.iter().position(|byte| *byte == b']')?;
     let (inside, rest) = (
@@ -105,7 +105,7 @@ pub fn is_line(wanted: &str, got: &str) -> bool {
     }
 }
 
-/// Whether a text is one of those that ` or ` parts.
+/// Whether a text is one of those that ` or ` separates.
 pub fn is_one_of(list: &str, got: &str) -> bool {
     list.split(" or ").any(|text| text == got)
 }

@@ -54,7 +54,7 @@ impl<'a> Row<'a> {
     }
 }
 
-// A line of a table that no row can have.
+// The error of a line that no row can have.
 fn odd_line() -> io::Error {
     io::Error::from(ErrorKind::InvalidData)
 }
