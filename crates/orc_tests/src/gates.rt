@@ -1,4 +1,5 @@
-//! Gates and sites of one's own: they hold calls, answer otherwise than they should, and note what they are told.
+//! Gates and sites for the tests of `run_pool`: they hold calls, answer otherwise than they should, or note what the engine reports to them. A call
+//! passes the gate once, before a site makes it.
 
 use futures::Future;
 use futures::task::{Context, Poll, Source, Waker};
@@ -8,10 +9,10 @@ use orc_site::{Due, Gate, Request, Scripted, SiteCall, SiteFuture, Sites};
 use std::alloc::{AllocError, Global};
 use std::sync::atomic::{AtomicU64, Ordering};
 
-/// How often a gate looks before it gives up.
+/// How often a gate looks before it gives up: some seconds, so that a run with a lost call ends.
 pub(crate) const LOOKS: u64 = 2_000_000_000;
 
-/// Holds the numbers from the first to the last until so many were entered.
+/// Holds the calls with the numbers from `first` to `last` until `wanted` calls have come to the gate, or it has looked `looks` times.
 #[derive(Drop)]
 pub(crate) struct Turnstile {
     first: u64,
@@ -27,7 +28,7 @@ impl Turnstile {
         Turnstile::that_looks(first, last, wanted, LOOKS)
     }
 
-    /// One that gives up after so many looks.
+    /// A turnstile that gives up after so many looks.
     pub(crate) fn that_looks(first: u64, last: u64, wanted: u64, looks: u64) -> Turnstile {
         Turnstile {
             first,
@@ -39,6 +40,7 @@ impl Turnstile {
         }
     }
 
+    /// Whether no call gave up waiting.
     pub(crate) fn held_all(&self) -> bool {
         self.ran_out.load(Ordering::SeqCst) == 0
     }
@@ -63,7 +65,7 @@ impl Gate for Turnstile {
     }
 }
 
-/// Holds nobody, and doesn't say so.
+/// Holds nobody, and doesn't say so: so `run_pool` asks it for each call.
 #[derive(Drop)]
 pub(crate) struct Slow;
 
@@ -75,16 +77,16 @@ impl Gate for Slow {
     }
 }
 
-/// What sites do otherwise than the table's.
+/// What these sites do otherwise than those that go by the table.
 #[derive(Clone, Copy)]
 pub(crate) enum Twist<'a> {
     /// They hold each call at this gate.
     Held(&'a Turnstile),
     /// They answer a call without its arguments.
     Value,
-    /// They think that it was made at another time.
+    /// They take the call for one that was made two units later.
     Time,
-    /// They think that it was made too late for an answer.
+    /// They take the call for one that was made at the greatest time, so that a delay is never due.
     Never,
     /// They are refused memory for the call with this number.
     Refused(u64),
@@ -132,6 +134,7 @@ impl<'a> Sites for Twisted<'a> {
 pub(crate) enum Manner {
     /// 0, whatever the table says.
     Zero,
+    /// It stays pending.
     Nothing,
 }
 
@@ -278,7 +281,7 @@ impl Board {
     }
 }
 
-/// When the first call is held until it is cancelled.
+/// Where call 1 is held until its cancel is reported.
 #[derive(Clone, Copy, PartialEq, Eq)]
 pub(crate) enum Hold {
     Nowhere,
@@ -289,13 +292,13 @@ pub(crate) enum Hold {
     Poll,
 }
 
-/// Sites and a gate that note what they are told on a board.
+/// Sites and a gate that note on a board what the engine does with each call.
 #[derive(Drop)]
 pub(crate) struct Noting<'a> {
     pub(crate) answers: &'a Answers,
     pub(crate) board: &'a Board,
     pub(crate) hold: Hold,
-    /// Whether a call answers that was cancelled.
+    /// Whether a cancelled call still answers.
     pub(crate) answers_late: bool,
 }
 

@@ -1,4 +1,5 @@
-//! Sites that answer late, never or wrongly, that hold their calls, and that are refused memory, on several workers.
+//! Sites that answer late, never or wrongly, that hold their calls, and that are refused memory, on several workers. A wrong or missing answer ends
+//! the run with the fault `Site` of that call (E5).
 
 use crate::gates::{Board, Hold, Manner, Noting, Odd, Slow, Turnstile, Twist, Twisted};
 use crate::pools::{is_accepted, play};
@@ -104,7 +105,7 @@ fn calls_that_answer_zero_or_nothing_are_found(rt: HostRuntime) {
     }
 }
 
-// Whether each call of a journal passed the gate and was made once, and those that it cancels, and no others, were told cancelled once.
+// Whether each call of a journal passed the gate and was made once, and just those that it cancels were reported as cancelled, once each.
 fn are_told(board: &Board, journal: &Journal) -> bool {
     let (mut calls, mut cancels) = (0u64, 0u64);
     for at in 0..journal.len() {
@@ -127,7 +128,7 @@ fn are_told(board: &Board, journal: &Journal) -> bool {
     cancels == 0
 }
 
-// A run whose sites and gate note what they are told. The number of its calls is at most 99, or not looked at.
+// A run whose sites and gate note what the engine reports to them. None where it ends with a fault.
 fn noted<R: Threads + Wait + Sync>(
     rt: &R,
     alloc: Global,
@@ -151,7 +152,7 @@ fn noted<R: Threads + Wait + Sync>(
     .ok()
 }
 
-// Whether a run halts, its journal is accepted, and its sites are told of each call and cancel.
+// Whether a run halts, its journal is accepted, and its sites get each call and cancel.
 fn is_told<R: Threads + Wait + Sync>(
     rt: &R,
     alloc: Global,
@@ -198,7 +199,7 @@ fn halts_with(played: &Played, number: i64) -> bool {
         && played.published.as_slice() == [Value::Number(number)].as_slice()
 }
 
-// Whether a run halts that publishes 4, where the first call is held until it is told cancelled.
+// Whether a run halts that publishes 4, where call 1 is held until its cancel is reported.
 fn counts_no_more<R: Threads + Wait + Sync>(
     rt: &R,
     alloc: Global,
@@ -231,8 +232,8 @@ const HOLDS: [(Hold, bool); 6] = [
     (Hold::Poll, true),
 ];
 
-// The first call is held until it is told cancelled: before it passes the gate, while it is made, or while it is polled. Whether it answers then or
-// not, it is no more of the run.
+// Call 1 is held until its cancel is reported: before it passes the gate, while it is made, or while it is polled. Whether it answers then or not,
+// its answer has no effect on the run.
 #[test]
 fn a_call_that_was_cancelled_counts_no_more(rt: HostRuntime) -> Result<(), Fail> {
     for source in CANCELLED.iter() {
@@ -248,7 +249,8 @@ fn a_call_that_was_cancelled_counts_no_more(rt: HostRuntime) -> Result<(), Fail>
     Ok(())
 }
 
-// The first call stands in a side that is dropped at once, and is held while more races than there may be groups come and go.
+// Call 1 is in a side that is dropped at once, and is held while more races than there may be groups come and go: the dropped group's word must not
+// stay taken.
 fn takes_no_group<R: Threads + Wait + Sync>(rt: &R, alloc: Global, workers: usize) -> bool {
     let source =
         b"def loop(n) = Lt(n, 1100) >b> (Iff(b) >> n | Ift(b) >> (x <x< (n | Never() | Rwait(5))) >> Add(n, 1) >m> loop(m))
@@ -279,7 +281,8 @@ fn cancels(journal: &Journal, wanted: u64) -> bool {
     false
 }
 
-// A call that is refused memory ends the run; but one that another worker's bind has cancelled may be heard of too late. Tells whether it ends so.
+// Whether a run whose site is refused memory for a call ends with `Memory`. It may also halt, if another worker's bind has cancelled that call before
+// the refusal is reported.
 fn ends_refused<R: Threads + Wait + Sync>(
     rt: &R,
     alloc: Global,

@@ -1,4 +1,5 @@
-//! The parts of an engine with workers: words, cells, queues and calls under way.
+//! The parts of an engine with workers, each alone: words (counts of the passes to a group), cells that are bound once, queues of tasks, and calls of
+//! sites as futures.
 
 ghost use Rattle.std.specs.Prelude.{◌≡◌, ◌<◌, IsSome};
 ghost use Rattle.orc_word.specs.Views.{group_of};
@@ -19,6 +20,7 @@ use std::test::Fail;
 use std::thread;
 use std::thread::Threads;
 
+// How many tasks go through the queues.
 const TOKENS: u64 = 10_000;
 
 // Whether each of five calls of `take` gave a pass: a pass is given back before the fourth.
@@ -45,9 +47,11 @@ fn a_supply_of_two_gives_two(rt: HostRuntime) -> Result<(), Fail> {
     Ok(())
 }
 
-// A group's life: two passes name it, both mark it, one after the other leaves it, and it is opened anew. Whether each of these holds: no part of nine
-// passes is given out of eight; the first mark is won, and no other; both see it alone; the group isn't opened before its end; who leaves first isn't last,
-// and who leaves then is the last of group 1; the new group has no mark; and of two words the second one is named by one pass.
+// A group's life: two passes name it, both mark it, one after the other leaves it, and it is opened again. Whether each of these holds:
+// - a supply of eight passes gives no part of nine;
+// - the first mark is won, and no other; both passes see that mark alone;
+// - the group isn't opened before its end; who leaves first isn't last, and who leaves then is the last of group 1;
+// - the new group has no mark; and of two words the second one counts one pass.
 fn live<J: Naming>(made: Unnamed) -> Option<[bool; 8]>
     requires named { made.table.shared.table_id ≡ J.table }
     requires two { 1 < J.table.words }
@@ -296,7 +300,7 @@ fn grow_all(worker_queue: &mut WorkerQueue<&mut u64>) {
     }
 }
 
-// Four hands, the first of which has all the tasks: the others live by theft.
+// Four workers' queues, the first of which has all the tasks: the other workers have to steal.
 fn dealt_to_one<'t>(
     alloc: Global,
     tasks: &'t mut [u64],
@@ -362,7 +366,7 @@ fn a_cell_is_bound_once(rt: HostRuntime) -> Result<(), Fail> {
     Ok(())
 }
 
-// Who binds it has read it, and so has who comes too late.
+// Whoever binds a cell has read it, and so has whoever comes too late.
 #[test]
 fn a_bind_reads(rt: HostRuntime) -> Result<(), Fail> {
     let alloc = rt.alloc();

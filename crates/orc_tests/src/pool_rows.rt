@@ -1,5 +1,5 @@
-//! Worked programs on 1, 2, 4 and 16 workers, by a gate that may hold calls, so that all workers are at work, and by an open one: what they publish, how
-//! they end, after how many entries and when, and that a check takes their journals.
+//! Worked programs on 1, 2, 4 and 16 workers, by a gate that may hold calls, so that all workers are at work, and by an open one: what they publish,
+//! how they end, after how many entries and when, and that a check takes their journals.
 
 use crate::gates::Slow;
 use crate::pools::{play, state_of};
@@ -34,7 +34,7 @@ struct Worked {
     outs: Outs,
     /// How many entries its journal has, cancels counted, where that isn't free.
     entries: Option<u64>,
-    /// When it ends, where that isn't free.
+    /// The logical time at which it ends, where that isn't free.
     now: Option<u64>,
 }
 
@@ -67,7 +67,7 @@ fn publishes(alloc: Global, outs: Outs, played: &Played) -> Result<bool, AllocEr
     })
 }
 
-// Where a run that ends so leaves its program.
+// The state in which a run that ends so leaves its program.
 fn state_after(end: End) -> State {
     match end {
         End::Halted => State::Halted,
@@ -628,7 +628,7 @@ fn starves_nothing_on_any_number_of_workers(rt: HostRuntime) -> Result<(), Fail>
     Ok(())
 }
 
-// More races one after another than there may be groups, each with two calls that are dropped.
+// More races one after another than there may be groups at a time, each with two calls that are dropped: a dropped group's word becomes free again.
 const KILLS: [Worked; 1] = [Worked {
     source: b"def loop(n) = Lt(n, 1100) >b> (Iff(b) >> n | Ift(b) >> (x <x< (n | Never() | Rwait(5))) >> Add(n, 1) >m> loop(m))\nloop(0)",
     script: b"Never() = never\n",
@@ -645,7 +645,7 @@ fn works_a_storm_of_kills(rt: HostRuntime) -> Result<(), Fail> {
     Ok(())
 }
 
-// Nearly as many groups as there may be stand for good, and others come and go beside them.
+// Nearly as many groups as there may be stay open until the end, and others come and go beside them.
 const STANDING: [Worked; 1] = [Worked {
     source: b"def idle(n) = Lt(0, n) >b> Ift(b) >> ((x <x< Never()) | Sub(n, 1) >m> idle(m))\ndef loop(n) = Lt(n, 100) >b> (Iff(b) >> n | Ift(b) >> (x <x< (Add(n, 0) | Never())) >> Add(n, 1) >m> loop(m))\nidle(1020) | loop(0)",
     script: b"Never() = never\n",
@@ -662,7 +662,7 @@ fn works_beside_groups_that_stand(rt: HostRuntime) -> Result<(), Fail> {
     Ok(())
 }
 
-// Whether a loop without an end, which publishes a signal in each round, is cut by the limit, whatever its turns were.
+// Whether the limit cuts an endless loop that publishes a signal in each round, in whatever order the workers move.
 fn is_cut<R: Threads + Wait + Sync>(rt: &R, alloc: Global, workers: usize) -> bool {
     let source = b"def m() = signal | Rwait(1) >> m()\nm()";
     let Ok(loaded) = load(alloc, source, b"") else {

@@ -1,4 +1,4 @@
-//! Runs on several workers: what they publish and how they end, whatever gate and sites stand round them, and that they do what the reference does.
+//! Runs on several workers: what they publish and how they end, whatever their gate and sites are, and that they do what the reference engine does.
 
 use crate::gates::{Slow, Turnstile, Twist, Twisted};
 use orc_engine::run_alone;
@@ -39,7 +39,7 @@ pub(crate) fn play<R: Threads + Wait + Sync, G: Gate + Sync>(
     )
 }
 
-// How often a value stands among others.
+// How often a value is among others.
 fn times(value: &Value, values: &[Value]) -> u64 {
     let mut times = 0u64;
     for other in values {
@@ -60,7 +60,7 @@ fn are_same(some: &[Value], others: &[Value]) -> bool {
     some.len() == others.len()
 }
 
-/// Where a run's journal has brought the program, if the check accepts it.
+/// The state (Halted, Quiet, Running) in which a run's journal leaves the program, if the check accepts it.
 pub(crate) fn state_of(
     alloc: Global,
     source: &[u8],
@@ -105,7 +105,7 @@ fn end_of<R: Threads + Wait + Sync, G: Gate + Sync>(
     }
 }
 
-// Programs whose publications don't hang on the order of what is free, with their scripts.
+// Programs whose publications don't depend on the order that the rules leave free, with their scripts.
 const ORDERED: [(&[u8], &[u8]); 8] = [
     (b"1 | (2 | 3) >x> Add(x, 10)", b""),
     (
@@ -138,7 +138,7 @@ const ORDERED: [(&[u8], &[u8]); 8] = [
     ),
 ];
 
-// Whether the engine that moves tokens over a graph publishes on one worker what the reference does, and ends so, at the same time at last.
+// Whether `run_alone` publishes what the reference does, in any order, ends as it does, and at the same logical time.
 fn is_as_alone(alloc: Global, loaded: &Loaded, reference: &Played) -> bool {
     match run_alone(alloc, &loaded.program, &loaded.answers, None, false, 10_000) {
         Ok(played) => {
@@ -176,7 +176,7 @@ fn publishes_what_the_reference_does_on_any_number_of_workers(rt: HostRuntime) {
     }
 }
 
-// A program, the numbers that it publishes, a gate that holds the numbers from the first to the last until so many were entered, and the workers.
+// A program, the values that it publishes, the `first`, `last` and `wanted` of a `Turnstile`, and the number of workers.
 type HeldRow = (&'static [u8], &'static [Value], [u64; 3], usize);
 
 const TWO: &[Value] = &[Value::Number(2)];
@@ -280,8 +280,8 @@ fn each_worker_makes_calls_while_others_are_held(rt: HostRuntime) {
     }
 }
 
-// How many values a program publishes on so many workers, by sites of which each call is held until all are called. None where a call was held in
-// vain.
+// How many values a program publishes on so many workers, by sites that hold each call until as many calls are made as there are workers. None where
+// a call gave up waiting.
 fn published_when_held<R: Threads + Wait + Sync>(
     rt: &R,
     alloc: Global,
@@ -307,7 +307,7 @@ fn published_when_held<R: Threads + Wait + Sync>(
     }
 }
 
-// Programs that make as many calls as there are workers, the last one as many as there may be.
+// Programs, and how many calls each makes, which is also the number of workers; 16 is the most.
 const CALLS: [(&[u8], usize); 3] = [
     (b"Add(1, 2) | Add(3, 4)", 2),
     (b"Add(1, 2) | Add(3, 4) | (Add(5, 6) | Add(7, 8))", 4),
@@ -328,7 +328,7 @@ fn sites_may_hold_their_calls(rt: HostRuntime) {
     }
 }
 
-// One worker waits in vain for another call, and goes on when the gate gives up.
+// A single worker waits for a second call, which nobody else can make, and goes on when the gate gives up.
 #[test]
 fn one_worker_holds_one_call(rt: HostRuntime) {
     let gate = Turnstile::that_looks(1, 2, 2, 1000);

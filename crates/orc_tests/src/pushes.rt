@@ -1,4 +1,4 @@
-//! Entries that a journal is given without an `Entry` made of them, alone or with all those of a part.
+//! Entries that are pushed onto a journal without an `Entry` value, one by one or all those of a sub-run.
 
 use orc_journal::{Journal, Version};
 use orc_journal_text::write_journal;
@@ -35,7 +35,7 @@ fn keeps_what_is_pushed(rt: HostRuntime) -> Result<(), Fail> {
     Ok(())
 }
 
-// The text of a journal to which a part was appended, whose own marks come after this one.
+// The text of a journal to which a sub-run was appended, whose own marks come after this one.
 fn appended(alloc: Global, mark: u64) -> Result<Vec<u8>, AllocError> {
     let mut part = Journal::new(alloc, Version::Two);
     part.push_call(1, 1, 7, &[Value::Number(4), Value::Signal])?;
@@ -54,8 +54,8 @@ fn appended(alloc: Global, mark: u64) -> Result<Vec<u8>, AllocError> {
     text_of(alloc, &journal)
 }
 
-// The first mark of a part's own run is the token's; its other marks and its calls are numbered behind those of the journal. The second numbers have over
-// 32 bits.
+// The first mark of a sub-run is the token's; its other marks and its calls are numbered after those of the journal. The second numbers have over 32
+// bits.
 #[test]
 fn appends_a_part_under_its_numbers(rt: HostRuntime) -> Result<(), Fail> {
     let small = appended(rt.alloc(), 4)?;

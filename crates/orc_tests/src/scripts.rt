@@ -10,7 +10,7 @@ const SCRIPTS: usize = 60;
 
 const CALLS: usize = 200;
 
-// What stands at the places of a line, or of a call: numbers below 5. A 5 is a `_`.
+// The patterns of a line, or the arguments of a call: numbers below 5. A 5 is a `_`.
 type Places = [u64; 3];
 
 const ANYTHING: u64 = 5;
@@ -60,7 +60,7 @@ fn is_match(line: &Places, call: &Places) -> bool {
     true
 }
 
-// The place of the first line that matches, where each is looked at.
+// The place of the first line that matches, found by looking at each: what the table's hash has to find, too.
 fn first_match(lines: &[Places], call: &Places) -> Option<usize> {
     for (place, line) in lines.iter().enumerate() {
         if is_match(line, call) {
@@ -92,7 +92,7 @@ fn number(place: u64) -> Value {
     Value::Number(place.min(5) as i64)
 }
 
-// The place that a table's answer to a call is.
+// The table's answer to a call, which is the place of the line that answers.
 fn answer(answers: &Answers, call: &Places) -> Option<usize> {
     let site = answers.site_named(b"S")?;
     let mut args = Args::new();

@@ -1,4 +1,4 @@
-//! What any bytes at all are answered that should be a source.
+//! What `parse` answers to any bytes: a program, or a fault whose place is in the text.
 
 use orc_syntax::{SyntaxFault, parse};
 use std::alloc::{AllocError, Global};
@@ -12,7 +12,7 @@ fn joined(alloc: Global, f: &[u8], operator: &[u8], g: &[u8]) -> Result<Vec<u8>,
     Ok(text)
 }
 
-// Whether what is answered of a text is a program, or a fault whose place stands in the text or at its end.
+// Whether `parse` answers a text with a program, which is counted, or with a fault whose place is in the text or at its end.
 fn is_answered(alloc: Global, text: &[u8], programs: &mut u32) -> bool {
     let place = match parse(alloc, text) {
         Ok(_) => {
@@ -40,7 +40,7 @@ const OPERATORS: [&[u8]; 8] = [
     b"\n def f(x)=",
 ];
 
-// How many fronts of a text and texts with one byte changed are answered; None where one isn't.
+// How many prefixes of a text, and texts with one byte changed, `parse` answers so; None where one isn't.
 fn answered(alloc: Global, mut text: Vec<u8>, programs: &mut u32) -> Option<u32> {
     let mut answered = 0_u32;
     for at in 0..text.len() {
@@ -60,7 +60,7 @@ fn answered(alloc: Global, mut text: Vec<u8>, programs: &mut u32) -> Option<u32>
     Some(answered)
 }
 
-// Fronts of a few hundred sources, and the same with one byte changed.
+// Prefixes of a few hundred sources, and the same sources with one byte changed.
 #[test]
 fn answers_broken_sources(rt: HostRuntime) -> Result<(), Fail> {
     let mut programs = 0;
