@@ -1,4 +1,4 @@
-//! Worked cases of tests: their ways, and how failing ones are told.
+//! Worked cases of tests: their ways (scripts that take one alternative of each service), and how the ranges of failing ways are written.
 
 use orc_cases::Ways;
 use orc_rules::answers::Answers;
@@ -63,7 +63,7 @@ const WAYS: [(&[u8], &[u8]); 4] = [
         way\nA() = 1 after 1 then -2 after 6\n-\nA() = 1 after 1 then -2 after 6\n\
         way\nA() = halt\n-\nA() = halt\n",
     ),
-    // Lines of `given` stand behind those of the case, but for those that these replace; a call that only another case answers halts.
+    // Lines of `given` follow those of the case, except those that the case's own replace; a call that only another case answers halts.
     (
         b"given\nA(_) = 1\nB(_, 1) = 2\nB(_, _) = 3\ncase c\nB(_, 1) = signal\nC(-7) = false\ncase d\nD() = 1\nA(1) = 1\nE() = 4\nD(_) = 2\n",
         b"way\n-\nB(_, 1) = signal\nC(-7) = false\nA(_) = 1\nB(_, _) = 3\nD() = halt\nE() = halt\n",
@@ -113,7 +113,7 @@ fn is_among(scripts: &[&[u8]], wanted: &[u8]) -> bool {
     false
 }
 
-// What is told of the ranges in the ways with these scripts, as ways that fail. Nothing where there are no ways.
+// What is written of the ranges if the ways with these scripts fail. Nothing where there are no ways.
 fn ranges_told(alloc: Global, text: &[u8], failing: &[&[u8]]) -> Result<Vec<u8>, AllocError> {
     let Some(ways) = ways_of(alloc, text)? else {
         return Ok(Vec::new(alloc));
@@ -126,7 +126,7 @@ fn ranges_told(alloc: Global, text: &[u8], failing: &[&[u8]]) -> Result<Vec<u8>,
     ways.failing_ranges(alloc, 0, fails.as_slice())
 }
 
-// Tests, the scripts of ways that fail, and what is told of their ranges: numbers that touch are one interval.
+// Tests, the scripts of ways that fail, and what is written of their ranges: consecutive numbers are one interval.
 const FAILING: [(&[u8], &[&[u8]], &[u8]); 5] = [
     (b"case c\nA() = 1 after 3..9\n", &[], b"A() = 1 after \n"),
     (

@@ -60,7 +60,7 @@ const WAITS: [ClaimSite; 1] = [ClaimSite {
     arguments: 1,
 }];
 
-// Claims of the race, through how many states they are searched for, and what that comes to.
+// Claims about the race, how many states a search may look at, and what it answers.
 const CLAIMS: [(&[u8], usize, Wanted); 9] = [
     (
         b"always\nat most 1 Rwait(_) answered",
@@ -97,7 +97,7 @@ const CLAIMS: [(&[u8], usize, Wanted); 9] = [
     ),
 ];
 
-// What a search of its own for the claim of a text comes to. None where that is no test with a claim.
+// What a separate search for the claim of a text answers. None where the text is no test with a claim.
 fn searched(
     alloc: Global,
     race: &Loaded,

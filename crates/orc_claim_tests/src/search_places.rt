@@ -1,4 +1,4 @@
-//! Numbers by hashes.
+//! The hash table of a search, where hashes have equal lower halves: each number is found by its own hash.
 
 use orc_search::places::Places;
 use std::test::Fail;

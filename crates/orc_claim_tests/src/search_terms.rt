@@ -1,4 +1,5 @@
-//! Worked terms of a search through every schedule: what is made of them, by their numbers.
+//! Worked terms of a search through every schedule (`orc_search`). A term is a number there, and equal terms have equal numbers; so a test makes two
+//! terms that have to be the same, and compares numbers.
 
 use orc_rules::answers::Answers;
 use orc_rules::param::{Operand, Operands, Param};
@@ -22,7 +23,7 @@ enum Make {
     Gives(Param),
     // A call of site 7 with these two parameters.
     Asks(Param, Param),
-    // A call of site 7 that is out, and gives 1 after this time.
+    // A pending call of site 7, which gives 1 after this time.
     Awaits(u64),
     Pair(Joint, usize, usize),
     Changed(Change, usize),
@@ -43,7 +44,7 @@ fn pair(terms: &mut Terms, joint: Joint, f: usize, g: usize) -> Result<usize, Al
     terms.number_of(Node::Pair(joint, f, g))
 }
 
-// What the whole becomes where the part in this frame becomes that term and publishes 1. None where it publishes that on.
+// What the whole becomes if the part in this frame becomes that term and publishes 1. None where the whole publishes the 1, too.
 fn taken(
     terms: &mut Terms,
     alloc: Global,

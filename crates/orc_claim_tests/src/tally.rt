@@ -1,4 +1,4 @@
-//! What claims see of runs, and what is told of them where there are many runs.
+//! What claims see of runs, and what a tally (the counts over many runs) says of them.
 
 use orc_claims::claim::{Claim, Plain};
 use orc_claims::happening::{Happening, Occurrence, Phase};
@@ -20,7 +20,7 @@ const HOLDS: Judged = Judged {
     tested: false,
 };
 
-// What is told of one claim before the first trial.
+// What a tally says of one claim before the first trial.
 fn nothing(alloc: Global) -> Result<Vec<Told>, AllocError> {
     let ends = Claim {
         conditions: Vec::new(alloc),

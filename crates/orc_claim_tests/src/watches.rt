@@ -1,4 +1,4 @@
-//! What a search keeps of what happens, and how it holds a claim against an end.
+//! What a search keeps of what happens for a claim, and how it judges the claim at the end of a run.
 
 use orc_claims::claim::{Claim, Event, Plain};
 use orc_claims::happening::{Happening, Occurrence, Phase};
@@ -27,7 +27,8 @@ fn watch_of(alloc: Global, text: &[u8]) -> Result<Option<Watch>, AllocError> {
     }
 }
 
-// Claims, and the time behind which all times are one to them. No search watches for one about calls that are out at once, or with a cancel in a condition.
+// Claims, and the time after which all times are one to them. None where a search can't watch for the claim: it is about calls that pend at once, or
+// asks for a cancel.
 const LATEST: [(&[u8], Option<u64>); 7] = [
     (b"always\nat most 5 Rwait(_) at once", None),
     (
@@ -71,7 +72,7 @@ fn times_are_told_apart_up_to_the_one_behind_that_of_the_claim(
     Ok(())
 }
 
-// This becomes of a call of the only site that a claim names.
+// What is kept of a call of the only site that a claim names.
 fn call(phase: Phase) -> Occurrence {
     let mut args = Args::new();
     args.push(Value::Number(1));
