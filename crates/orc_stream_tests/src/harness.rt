@@ -118,7 +118,7 @@ impl ShortWriter {
     }
 }
 
-/// A writer that takes nothing, and says so in place of failing.
+/// A writer that takes no byte and doesn't fail either: each call answers 0.
 #[derive(Drop)]
 pub struct IdleWriter;
 

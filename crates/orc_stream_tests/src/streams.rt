@@ -27,7 +27,7 @@ const SEARCH: &[&str] = &[
 const PRINT: &[&str] = &["orc", "print", "a.orc"];
 
 // A writer that takes one byte a call and fails at the first call, the second and so on, until it takes all: what it has is always
-// a front of the text.
+// a prefix of the text.
 #[test]
 fn fails_at_each_call_of_a_writer(rt: HostRuntime) -> Result<(), Fail> {
     let alloc = rt.alloc();
@@ -95,7 +95,7 @@ fn fails_at_a_writer_that_takes_nothing(rt: HostRuntime) -> Result<(), Fail> {
     Ok(())
 }
 
-// A writer that takes 2 bytes and then fails has a front of the text, however many bytes it takes at once.
+// A writer that takes 2 bytes and then fails has a prefix of the text, however many bytes it takes at once.
 #[test]
 fn fails_at_a_short_writer(rt: HostRuntime) -> Result<(), Fail> {
     let alloc = rt.alloc();
@@ -164,7 +164,7 @@ fn blames_the_first_file_that_is_not_read(rt: HostRuntime) -> Result<(), Fail> {
     Ok(())
 }
 
-// However a journal comes, a byte at a time or many, the check says the same; where it can't be read to its end, that is told and nothing else.
+// The check says the same of a journal that comes a byte at a time or many. If the journal can't be read to its end, the check reports that alone.
 #[test]
 fn checks_a_journal_that_comes_in_pieces(rt: HostRuntime) -> Result<(), Fail> {
     let alloc = rt.alloc();
