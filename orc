@@ -17,7 +17,7 @@ clear=
 
 say() { printf '%sorc: %s\n' "$clear" "$*" >&2; }
 
-# below CRATE..: these crates and all that they stand on, the lowest first.
+# below CRATE..: these crates and all that they use, the lowest first.
 below() {
     awk -v wanted="$*" -F '[: ]+' '
         function visit(crate,    i, parts, count) {
@@ -54,7 +54,7 @@ number() {
     found=${found:-0}
 }
 
-# fail CRATE STATUS: the program can't be built any more. A file that goes tells it, since on a full disk none can come.
+# fail CRATE STATUS: the program can't be built any more. A file that is removed says so, since on a full disk none can be made.
 fail() {
     rm -f "$room/going"
     echo "$2" >"$room/$1.failed"
@@ -72,7 +72,7 @@ tell() {
         fail "$1" 1
         return 1
     fi
-    # On a terminal the line of progress tells it.
+    # On a terminal the line of progress says it.
     if [ -z "$clear" ]; then say "proved $1, $(count_proved) of $total crates ($((SECONDS - started)) s so far$(left))"; fi
 }
 
@@ -158,7 +158,7 @@ ways() {
         }' - "$top/crates.txt"
 }
 
-# left: ', about N min left', where that can be told.
+# left: ', about N min left', where that is known.
 left() {
     local seconds
     seconds=$(states | ways "$lane_count")
@@ -214,7 +214,7 @@ prove() {
     return "$status"
 }
 
-# Whether all that a crate stands on is proved: what it names, and so what that names. What the check of journals doesn't need waits for it.
+# Whether all that a crate uses is proved: what it names, and so what that names. What the check of journals doesn't need waits for it.
 is_ready() {
     local crate
     if [ -n "$early" ] && [[ " $early " != *" $1 "* ]] && [ ! -e "$room/orc_certify.proved" ]; then return 1; fi
@@ -381,7 +381,7 @@ plan_preview() {
         if [ "$value" = - ]; then
             reason="the command reads standard input"
         elif [ "${#words[@]}" = 0 ]; then
-            # A command, whatever stands in this folder.
+            # A command, whatever is in this folder.
             words+=("$word")
         elif [ -f "$value" ]; then
             name=$(basename -- "$value")
@@ -407,7 +407,7 @@ plan_preview() {
         fi
         if [ -n "$reason" ]; then return 1; fi
     done
-    # The values that are wanted stand in the journal.
+    # The journal has the values that are wanted.
     if [ "$form" = values ]; then words+=(--journal); fi
 }
 
@@ -465,7 +465,7 @@ preview() {
     exec {lock}<&-
     (cd "$own/crates/orc" && TMPDIR=$own/tmp exec rt try "${data[@]}" -- "${words[@]}") >"$own/out" 2>"$own/err" &
     tried=$!
-    # `rt` is told too, and ends what it has started.
+    # `rt` gets the signal too, and ends what it has started.
     trap 'wait "$tried"; exit 143' TERM
     wait "$tried" || true
     trap - TERM
@@ -582,7 +582,7 @@ first_start() {
         if [[ $each == [a-z]* ]]; then uses[${each%% *}]=$names; fi
     done <"$top/crates.txt"
     crates=$(ways <"$room/weights" | sort -rn | cut -d ' ' -f 2 | grep -v '^orc$')
-    # By the longest way to the check of journals, then to the program.
+    # By the longest chain to the check of journals, then to the program.
     if [ -n "$early" ]; then
         crates=$( (grep -wF "${early// /$'\n'}" "$room/weights" | ways | sort -rn | cut -d ' ' -f 2 && echo "$crates") | awk '!seen[$1]++')
     fi

@@ -18,7 +18,7 @@ unset ORC_EXPLAIN
 
 pass() { passed=$((passed + 1)); }
 
-# fail TEXT..: one more that is wrong. The first few are told.
+# fail TEXT..: one more that is wrong. The first few are written.
 fail() {
     failed=$((failed + 1))
     if [ "$failed" -le 20 ]; then printf '%s\n' "$@"; fi
@@ -30,7 +30,7 @@ is_so() {
 }
 
 # text_of NAME FILE: the variable of this name becomes the text of a file. No program is started for it, here or below: where many checks run side
-# by side one may fail for want of memory, and a right text would be told as a wrong one.
+# by side one may fail for want of memory, and a right text would be reported as a wrong one.
 text_of() { IFS= read -r -d '' "$1" <"$2"; }
 
 # Whether a line of a text ends with a blank.
