@@ -11,7 +11,7 @@ use orc_rules::value::{Answer, Value};
 use orc_word::{Bit, Naming, Pass};
 use std::alloc::Global;
 
-// A pass is left that isn't the last one to its group.
+// Leaves a pass that isn't the last one to its group.
 fn leave_one<P: Run + Naming>(
     setup: &Setup<'_, P>,
     replay: &mut Replay<P>,
@@ -20,7 +20,7 @@ fn leave_one<P: Run + Naming>(
     so(!replay.passes.leave(setup.groups, pass).ok()?)
 }
 
-/// A pass is left that is the last one to its group, and the book closes that. It has added no entry then. Tells what has become of the group.
+/// Leaves a pass that is the last one to its group, and has the book close the group, which adds no entry. Answers what has become of the group.
 pub(crate) fn leave_last<P: Run + Naming>(
     setup: &Setup<'_, P>,
     replay: &mut Replay<P>,
@@ -57,8 +57,8 @@ fn kill<P: Run + Naming>(
     }
 }
 
-/// The second pass that is left after a kill says that the group was left last: closing it adds no entry, and gives the pass to the group round it. When
-/// that is left, and the one of the token that publishes, the run has halted.
+/// The second pass that is left after a kill is the group's last one: closing the group adds no entry, and gives the pass to the group outside it.
+/// Once that pass is left, and that of the token that publishes, the run has halted.
 pub(crate) fn ends_after_a_kill<P: Run + Naming>(
     alloc: Global,
     setup: &Setup<'_, P>,
@@ -128,7 +128,8 @@ pub(crate) fn gives_a_lost_mark_back<P: Run + Naming>(
     has_written(alloc, setup, replay, "open 1 1 2 3\n")
 }
 
-/// With two words, one of which a killed group has: a pruning is Full until that group's last pass was left and the book has closed it.
+/// With two words, one of which a killed group has: the book refuses a pruning as Full until that group's last pass was left and the book has closed
+/// it.
 pub(crate) fn keeps_words_of_the_killed<P: Run + Naming>(
     alloc: Global,
     setup: &Setup<'_, P>,
@@ -180,7 +181,7 @@ fn is_full<P: Run + Naming>(
     }
 }
 
-/// A token that was out in a killed group is answered Gone, and comes back with its pass, whose group's word is taken until that is left.
+/// A token that was out in a killed group is refused as Gone, and comes back with its pass. The group's word stays taken until that pass is left.
 pub(crate) fn tells_killed_tokens<P: Run + Naming>(
     alloc: Global,
     setup: &Setup<'_, P>,

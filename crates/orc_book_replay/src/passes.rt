@@ -1,4 +1,6 @@
 //! Passes that no record has: for tokens to come, or to be left. A pass stands for one record in its group; an idle one names no group.
+//!
+//! Loops that end by `break` go over `0..u64::MAX`, so that the prover sees an end.
 
 ghost use Rattle.std.specs.Prelude.{◌≡◌, None, IfSome};
 ghost use Rattle.orc_word.specs.Views.{group_of};

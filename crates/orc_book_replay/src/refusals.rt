@@ -12,8 +12,8 @@ use orc_rules::value::Args;
 use orc_word::{Naming, Pass};
 use std::alloc::Global;
 
-// A token that is out leaves its group without a move, which is the program's own and has no other pass: the book doesn't close that. Gives the token,
-// with a pass that opens the group's word anew.
+// Leaves the only pass to the program's own group though its token is still there: so the word says that the group was left last. The book refuses to
+// close it as Live, since it has a token. Gives the token back, with a pass that opens the group's word again.
 fn leaves_early<P: Run + Naming>(
     setup: &Setup<'_, P>,
     replay: &mut Replay<P>,
@@ -38,8 +38,8 @@ fn leaves_early<P: Run + Naming>(
     Some(Token { serial, slot, pass })
 }
 
-/// The left side of an otherwise comes to nothing, since its cell is lost. The program's own group isn't closed while a token is in it, and is once the
-/// token has published.
+/// The left side of an otherwise yields nothing, since its cell is lost. The book doesn't close the program's own group while a token is in it, and
+/// does once the token has published.
 pub(crate) fn is_live<P: Run + Naming>(
     alloc: Global,
     setup: &Setup<'_, P>,
@@ -168,7 +168,7 @@ pub(crate) fn refuses_other_moves<P: Run + Naming>(
     has_written(alloc, setup, replay, "seq 1 2\n")
 }
 
-// A pruning whose word a stranger names is refused as Live. Gives the token.
+// The book refuses a pruning as Live if a pass that no record has names the word that it would take. Gives the token back.
 fn is_named<P: Run + Naming>(
     setup: &Setup<'_, P>,
     replay: &mut Replay<P>,
@@ -191,8 +191,8 @@ fn is_named<P: Run + Naming>(
     }
 }
 
-/// A pass that no record has names the next free word: a pruning is Live then, and done once that pass was left. That the word was left last is Gone,
-/// since it stands for no group.
+/// A pass that no record has names the next free word: a pruning is refused as Live then, and is done once that pass was left. `halt` of that word is
+/// refused as Gone, since the word stands for no group.
 pub(crate) fn refuses_words_that_are_named<P: Run + Naming>(
     alloc: Global,
     setup: &Setup<'_, P>,

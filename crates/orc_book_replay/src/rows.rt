@@ -62,8 +62,7 @@ pub(crate) enum Shows {
     IsLive,
     RefusesOtherMoves,
     RefusesWordsThatAreNamed,
-    /// By moves of the token that has stood longest: so many entries, before one is refused for this, when so many passes to the program's group are
-    /// left.
+    /// By moves of the token that has waited longest: so many entries before one is refused for this, and so many of the lent passes remain then.
     MakesMoves(usize, BookFault, usize),
     /// A single token moves until one of the engine's numbers is reached: so many entries.
     IsFullAfter(usize),

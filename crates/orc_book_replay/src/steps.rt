@@ -20,7 +20,7 @@ const MOVES: [&str; 5] = [
     "seq 1 2\nfork 2 3 4\nsend 3 5 1\nsend 4 6 2\n",
 ];
 
-// The token that has stood longest moves by `step`, as often as the book takes it. Tells why it takes no more.
+// The token that has waited longest moves by `step`, as often as the book accepts it. Answers why it accepts no more.
 fn move_in_line<P: Run + Naming>(
     setup: &Setup<'_, P>,
     replay: &mut Replay<P>,
@@ -86,8 +86,9 @@ fn needs_one<P: Run + Naming>(
     so(matches!(view.what, Action::Fork) && view.needs.same == 1 && view.needs.idle == 0)
 }
 
-/// The tokens of `(1 | 2) >x> Add(x, 10)` move in the order in which they came, with one pass lent for the fork and an idle one, which no publication needs
-/// here. The book takes so many moves and refuses the next for this reason; so many of the passes to the tokens' group are left then.
+/// The tokens of `(1 | 2) >x> Add(x, 10)` move in the order in which they came, with one pass lent for the fork and an idle one, which no publication
+/// needs here. The book accepts so many moves (`entries`) and refuses the next for this reason (`why`). So many of the lent passes remain then
+/// (`left`).
 pub(crate) fn makes_moves<P: Run + Naming>(
     alloc: Global,
     setup: &Setup<'_, P>,
