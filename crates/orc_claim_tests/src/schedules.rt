@@ -54,7 +54,7 @@ fn is_wanted(found: &ClaimSearched, wanted: Wanted) -> bool {
     }
 }
 
-// The site that the claims name, if they name one.
+// The site that the claims name, if they name one: `Rwait`, which is site 6, with one argument.
 const WAITS: [ClaimSite; 1] = [ClaimSite {
     site: 6,
     arguments: 1,

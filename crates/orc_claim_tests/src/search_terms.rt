@@ -16,7 +16,7 @@ use std::test::Fail;
 
 const ONE: Value = Value::Number(1);
 
-// A term, which may be made of those made before it, by their places.
+// How a term is made, perhaps of terms that were made before it, which are given by their places in the row. Site 7 is the first that isn't built in.
 #[derive(Clone, Copy)]
 enum Make {
     Nothing,

@@ -10,6 +10,7 @@ use orc_tally::{ClaimSite, Failure, Told, happenings_of, joined, noted, nothing_
 use std::alloc::{AllocError, Global};
 use std::test::Fail;
 
+// A claim that fails at happening 3 of a run, and one that holds and wasn't put to the test.
 const FAILS: Judged = Judged {
     verdict: Verdict::FailsAt(3),
     tested: true,
@@ -34,6 +35,7 @@ fn nothing(alloc: Global) -> Result<Vec<Told>, AllocError> {
 fn a_way_that_fails_twice_is_one_way(rt: HostRuntime) -> Result<(), Fail> {
     let alloc = rt.alloc();
     let nothing = nothing(alloc)?;
+    // Way 5 in the orders 0, 1 and 2: the claim holds in the first and fails in the others.
     let holds = noted(alloc, 5, 0, nothing.as_slice(), &[HOLDS])?;
     let fails = noted(alloc, 5, 1, holds.as_slice(), &[FAILS])?;
     let told = noted(alloc, 5, 2, fails.as_slice(), &[FAILS])?;
