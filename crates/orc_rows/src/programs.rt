@@ -1,5 +1,5 @@
-//! Rows that are a program: it is run on 1, 2, 4 and 16 workers, or on those that its row names, and with `--unordered`. Each run has to do what the row
-//! says.
+//! Rows that are a program: it is run on 1, 2, 4 and 16 workers, or on those that its row names, and with `--unordered`. Each run has to do what the
+//! row says.
 
 use crate::folder::Done;
 use crate::journal::{Told, count_lines, is_lost, line_with, read_journal};
