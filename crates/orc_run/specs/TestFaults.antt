@@ -87,6 +87,12 @@ IsToShow shown.Table n = ⊥
 IsToShow (shown.Script m) n = m ≡ n
 IsToShow (shown.Journal m) n = m ≡ n
 
+-- the journal of the failure with this number is to be shown
+abbrev pub IsJournalToShow : Shown → ℕ → Type 0
+IsJournalToShow shown.Table n = ⊥
+IsJournalToShow (shown.Script m) n = ⊥
+IsJournalToShow (shown.Journal m) n = m ≡ n
+
 -- why the test isn't one, where the source's text and the script have no fault; or its first case with too many ways
 abbrev pub IsTestCause : List ℕ → List ℕ → List ℕ → TestFault → Type 0
 IsTestCause source text script (unread.Ways line) = (t : DraftedTest) × IsKnown source text script t × IsFirstMany t line
@@ -113,7 +119,7 @@ IsOfSchedule rs n = (b : Broken) × (failure_at n rs ≡ Some (counterexample.Sc
 abbrev pub IsUntestedFor : List ℕ → List ℕ → List ℕ → TestOptions → Untested → Type 0
 IsUntestedFor source text script o (untested.Fault f) = IsTestFaultOf source text script o f
 IsUntestedFor source text script o (untested.NoFailure n) = IsToShow o.shown n × ((r : Report) × HasReport source text script o r × (failure_at n (rows r) ≡ None))
-IsUntestedFor source text script o (untested.NoJournal n) = IsToShow o.shown n × ((r : Report) × HasReport source text script o r × IsOfSchedule (rows r) n)
+IsUntestedFor source text script o (untested.NoJournal n) = IsJournalToShow o.shown n × ((r : Report) × HasReport source text script o r × IsOfSchedule (rows r) n)
 
 -- ---- what the steps say of it
 
@@ -191,7 +197,7 @@ AreUnshown source limit scripts _ = ⊥
 -- one of these causes; or the failure that is to be shown isn't among these rows, or is one that no order showed
 abbrev pub AreUnwritten : List ℕ → ℕ → List (List ℕ) → Shown → List Row → Untested → Type 0
 AreUnwritten source limit scripts s rs (untested.NoFailure n) = IsToShow s n × (failure_at n rs ≡ None)
-AreUnwritten source limit scripts s rs (untested.NoJournal n) = IsToShow s n × IsOfSchedule rs n
+AreUnwritten source limit scripts s rs (untested.NoJournal n) = IsJournalToShow s n × IsOfSchedule rs n
 AreUnwritten source limit scripts s rs f = AreUnshown source limit scripts f
 
 -- all ways of the cases were tried, and this is reported of them
@@ -205,5 +211,5 @@ pub record AreReported (t : Trials) (test : Test) (orders : ℕ) (cases : List C
 abbrev pub AreUntold : Trials → Test → TestOptions → List CaseScripts → Untested → Type 0
 AreUntold t test o cases (untested.Fault (fault.Write w)) = (r : Report) × AreReported t test o.orders cases r
 AreUntold t test o cases (untested.NoFailure n) = IsToShow o.shown n × ((r : Report) × AreReported t test o.orders cases r × (failure_at n (rows r) ≡ None))
-AreUntold t test o cases (untested.NoJournal n) = IsToShow o.shown n × ((r : Report) × AreReported t test o.orders cases r × IsOfSchedule (rows r) n)
+AreUntold t test o cases (untested.NoJournal n) = IsJournalToShow o.shown n × ((r : Report) × AreReported t test o.orders cases r × IsOfSchedule (rows r) n)
 AreUntold t test o cases f = AreUntried t.source.now o.workers o.limit (all_texts cases) f
