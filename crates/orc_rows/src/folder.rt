@@ -3,7 +3,7 @@
 use orc_run::{Files, ReadFault, Unread, command};
 use std::alloc::{AllocError, Global};
 use std::io;
-use std::io::ErrorKind;
+use std::io::{ErrorKind, Write};
 use std::sync::Wait;
 use std::thread::Threads;
 
@@ -49,11 +49,19 @@ impl Folder {
         }
         None
     }
+
+    /// The folder as a command line reads it.
+    pub fn reading(&self, alloc: Global) -> Reading<'_> {
+        Reading {
+            alloc,
+            folder: self,
+        }
+    }
 }
 
 /// A folder as a command line reads it.
 #[derive(Drop)]
-struct Reading<'a> {
+pub struct Reading<'a> {
     alloc: Global,
     folder: &'a Folder,
 }
@@ -97,6 +105,20 @@ fn text_of(bytes: Vec<u8>) -> io::Result<String> {
     }
 }
 
+/// Does one command line over the files of a folder and a standard output: the status, and what standard error has.
+pub fn orc_into<R: Threads + Wait + Sync, W: Write>(
+    rt: &R,
+    alloc: Global,
+    words: &[&str],
+    folder: &Folder,
+    out: &mut W,
+) -> io::Result<(u8, String)> {
+    let mut files = folder.reading(alloc);
+    let mut err = Vec::new(alloc);
+    let status = command(rt, alloc, words, &mut files, out, &mut err);
+    Ok((status, text_of(err)?))
+}
+
 /// Does one command line over the files of a folder.
 pub fn orc<R: Threads + Wait + Sync>(
     rt: &R,
@@ -104,12 +126,11 @@ pub fn orc<R: Threads + Wait + Sync>(
     words: &[&str],
     folder: &Folder,
 ) -> io::Result<Done> {
-    let mut files = Reading { alloc, folder };
-    let (mut out, mut err) = (Vec::new(alloc), Vec::new(alloc));
-    let status = command(rt, alloc, words, &mut files, &mut out, &mut err);
+    let mut out = Vec::new(alloc);
+    let (status, err) = orc_into(rt, alloc, words, folder, &mut out)?;
     Ok(Done {
         status,
         out: text_of(out)?,
-        err: text_of(err)?,
+        err,
     })
 }

@@ -2,16 +2,20 @@
 //! 1, 2, 4 and 16 workers, how and when it ends, what a check says of its journal, which texts are refused, and what each command line writes.
 //! `checks/rows` describes the tables, and does them with the built program; what needs a shell is left to it.
 //!
-//!     orc_rows FILE..                         these tables
+//! Behind them come command lines over files and streams that fail (`streams`).
+//!
+//!     orc_rows FILE..                         these tables, and the failing streams
 #![tactic(auto)]
 
 mod checks;
+mod failing;
 mod folder;
 mod journal;
 mod lines;
 mod programs;
 mod report;
 mod spelling;
+mod streams;
 mod table;
 mod trial;
 
@@ -21,6 +25,7 @@ use std::process::ExitCode;
 use std::sync::Wait;
 use std::thread::Threads;
 use std::{env, fs, io};
+use streams::try_streams;
 use table::{Row, read_rows};
 use trial::Trial;
 
@@ -65,9 +70,14 @@ fn main(rt: HostRuntime) -> io::Result<ExitCode> {
         let table = fs::read_to_string(&rt, name.as_str())?;
         let report = try_table(&rt, alloc, table.as_str())?;
         report.print(&rt, name.as_str())?;
-        if report.failed > 0 || report.passed == 0 {
+        if !report.is_right() {
             status = ExitCode::from(1);
         }
+    }
+    let report = try_streams(&rt, alloc)?;
+    report.print(&rt, "streams that fail")?;
+    if !report.is_right() {
+        status = ExitCode::from(1);
     }
     Ok(status)
 }

@@ -60,6 +60,11 @@ impl Report {
         self.told.push_str(other.told.as_str())
     }
 
+    /// Whether something was tried, and all did what it has to.
+    pub fn is_right(&self) -> bool {
+        self.failed == 0 && self.passed > 0
+    }
+
     /// Writes the failures of a table, and its counts.
     pub fn print<R: Print>(&self, rt: &R, table: &str) -> io::Result<()> {
         if self.failed > 0 {

@@ -1,37 +1,9 @@
-//! Files and streams in memory, and a command line over them.
+//! Files and streams that fail.
 
-use orc_run::{Files, ReadFault, Unread, command};
+use orc_run::{Files, ReadFault};
 use std::alloc::Global;
 use std::io;
 use std::io::{Empty, Read, Write};
-use std::sync::Wait;
-use std::test::Fail;
-use std::thread::Threads;
-
-/// Files in memory: each path with its bytes.
-#[derive(Drop)]
-pub struct MemoryFiles<'a> {
-    pub alloc: Global,
-    pub files: &'a [(&'a str, &'a [u8])],
-}
-
-impl<'a> Files for MemoryFiles<'a> {
-    type Reader = &'a [u8];
-
-    fn read(&mut self, path: &str) -> Result<Vec<u8>, ReadFault> {
-        let bytes = self.open(path)?;
-        Vec::from_slice(self.alloc, bytes).map_err(|_| ReadFault::Memory)
-    }
-
-    fn open(&mut self, path: &str) -> Result<&'a [u8], ReadFault> {
-        for (name, bytes) in self.files {
-            if *name == path {
-                return Ok(*bytes);
-            }
-        }
-        Err(ReadFault::Failed(Unread::Missing))
-    }
-}
 
 /// Files of which the first `good` that are asked for are empty, and the next one can't be read, for this reason.
 #[derive(Drop)]
@@ -84,7 +56,7 @@ impl Read for ShortReader<'_> {
     }
 }
 
-/// A writer that takes a number of bytes in all, so many of them at most in one call, and then fails.
+/// A writer that takes `room` bytes in all, so many of them at most in one call, and then fails.
 #[derive(Drop)]
 pub struct ShortWriter {
     pub taken: Vec<u8>,
@@ -130,41 +102,4 @@ impl Write for IdleWriter {
     fn flush(&mut self) -> io::Result<()> {
         Ok(())
     }
-}
-
-/// What a command line did.
-#[derive(Debug, Drop)]
-pub struct Done {
-    pub status: u8,
-    pub out: String,
-    pub err: String,
-}
-
-/// Does one command line over files in memory and a standard output: the status, and what standard error has.
-pub fn orc_into<R: Threads + Wait + Sync + AllocGlobal, W: Write>(
-    rt: &R,
-    words: &[&str],
-    files: &[(&str, &[u8])],
-    out: &mut W,
-) -> Result<(u8, String), Fail> {
-    let alloc = rt.alloc();
-    let mut files = MemoryFiles { alloc, files };
-    let mut err = Vec::new(alloc);
-    let status = command(rt, alloc, words, &mut files, out, &mut err);
-    Ok((status, String::from_utf8(err)?))
-}
-
-/// Does one command line over files in memory.
-pub fn orc<R: Threads + Wait + Sync + AllocGlobal>(
-    rt: &R,
-    words: &[&str],
-    files: &[(&str, &[u8])],
-) -> Result<Done, Fail> {
-    let mut out = Vec::new(rt.alloc());
-    let (status, err) = orc_into(rt, words, files, &mut out)?;
-    Ok(Done {
-        status,
-        out: String::from_utf8(out)?,
-        err,
-    })
 }
