@@ -86,8 +86,8 @@ fn settle(history: &mut History, program: &Program, answers: &Answers) -> Result
 }
 
 // Adds entries until nothing can come next or the journal has `limit` of them, cancels not counted: how the run ended, which is Memory where memory
-// was refused. The fault is Broken where the rules refuse an entry that `turns` says, and Memory where it was refused among the cancels of a bind, before
-// all of which the run can't end.
+// was refused. The fault is Broken where the rules refuse an entry that `turns` says, and Memory where it was refused among the cancels of a bind: the
+// run can't end before all of them are recorded.
 pub(crate) fn proceed<T: Turns>(
     history: &mut History,
     turns: &mut T,

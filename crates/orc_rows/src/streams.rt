@@ -119,7 +119,8 @@ impl<R: Threads + Wait + Sync> Streams<'_, R> {
         Ok(())
     }
 
-    // A writer that takes one byte a call and fails at the first call, the second and so on, until it takes all: what it has is always a front of the text.
+    // A writer that takes one byte a call and fails at the first call, the second and so on, until it takes all: what it has is always a front of the
+    // text.
     fn fails_at_each_call_of_a_writer(&mut self) -> io::Result<()> {
         for (words, text) in WHOLE.iter() {
             let whole = orc(self.rt, self.alloc, words, &self.folder)?;
@@ -231,7 +232,8 @@ impl<R: Threads + Wait + Sync> Streams<'_, R> {
         Ok(())
     }
 
-    // The check says the same of a journal that comes a byte at a time or many. If the journal can't be read to its end, the check reports that alone.
+    // The check says the same of a journal that comes a byte at a time or many. If the journal can't be read to its end, the check reports that
+    // alone.
     fn checks_a_journal_that_comes_in_pieces(&mut self) -> io::Result<()> {
         let bytes = JOURNAL.as_bytes();
         for at_once in [1, 2, 7, 1_000].iter() {
