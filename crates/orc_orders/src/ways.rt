@@ -82,7 +82,7 @@ fn places(alloc: Global, number: usize) -> Result<Vec<Tried>, AllocError>
     Ok(places)
 }
 
-// Ways whose numbers follow one another.
+// Ways whose numbers follow one another from `first` on, by their scripts.
 #[derive(Drop)]
 struct Batch<'t, 'a, 's> {
     alloc: Global,
@@ -92,7 +92,7 @@ struct Batch<'t, 'a, 's> {
 }
 
 impl Batch<'_, '_, '_> {
-    // Tries each on one of so many threads. The error is refused memory.
+    // Tries each way on one of so many threads, and answers what came of each in its place. The error is refused memory.
     fn run<R: Threads + Sync>(&self, rt: &R, threads: usize) -> Result<Vec<Tried>, AllocError>
         requires threads { 0 < threads }
         requires room { self.now.first + length self.now.scripts.now < 2 ^ 64 }
@@ -115,7 +115,8 @@ impl Batch<'_, '_, '_> {
         Ok(tried)
     }
 
-    // Tries them and adds what is told of them. Tells how many entries their runs have in a way on average.
+    // Tries the ways and adds the verdicts of each to `told`. Answers how many entries the runs of a way have in all, as the mean of these ways, and 0
+    // if there are none: by that `try_ways` decides whether the next batch is worth threads, and no contract speaks of it.
     #[tactic(auto, using(crate::proofs::Adding::none_added, crate::proofs::Adding::all_added))]
     fn tell<R: Threads + Sync>(
         &self,

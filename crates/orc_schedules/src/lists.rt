@@ -34,7 +34,7 @@ pub enum What {
     Nothing,
 }
 
-/// A list that isn't the empty one.
+/// A list that isn't the empty one: a shorter list with one thing behind it.
 #[derive(Clone, Copy, PartialEq, Eq)]
 pub struct Longer {
     /// The number of the list before.
@@ -135,7 +135,7 @@ impl Lists {
         longer_at(&self.longer, at - 1)
     }
 
-    // What was seen, as claims have it; None where only time passed.
+    // What was seen last, as claims have it; None where only time passed.
     fn occurrence(&self, what: What) -> Option<Occurrence>
         ensures { option_to_list result ≡ what_of self.now.calls what }
     {
@@ -156,7 +156,8 @@ impl Lists {
         }
     }
 
-    // Pushes what was seen last in this list, with its time, if it is something. The error is refused memory.
+    // Pushes what was seen last in this list, with its time, unless only time passed. In clauses `what_of` gives that as claims have it, in a list of one
+    // or none, and `all_at` gives it the time. The error is refused memory.
     fn push(&self, happened: &mut Vec<Happened>, longer: Longer) -> Result<(), AllocError>
         ensures { OnOk result (happened.new.items ≡ happened.old.items ++ all_at longer.now (what_of self.now.calls longer.what)) }
     {
@@ -187,7 +188,7 @@ impl Lists {
         Ok(happened)
     }
 
-    // Pushes the value that was seen last in this list, if that is a publication. The error is refused memory.
+    // Pushes the value that was seen last in this list, if that is a publication (`all_published`). The error is refused memory.
     fn push_value(&self, values: &mut Vec<Value>, longer: Longer) -> Result<(), AllocError>
         ensures { OnOk result (values.new.items ≡ values.old.items ++ all_published (all_at longer.now (what_of self.now.calls longer.what))) }
     {
