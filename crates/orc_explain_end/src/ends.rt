@@ -249,7 +249,7 @@ impl Scene<'_, '_> {
 
     // How far each of the engine's limits is used up, one of which has cut the run.
     fn room(&self, page: &mut Page, moves: &Moves) {
-        match self.replay.frames(self.alloc) {
+        match self.replay.frames(self.alloc, self.ended.program) {
             Ok(frames) => self.taken(page, moves, frames),
             Err(_) => page.refuse(),
         }

@@ -273,11 +273,26 @@ impl<'a> Replay<'a> {
         Ok(inside)
     }
 
-    /// The most left sides of `>x>` round one step, counted outwards up to the next right side of a pruning, as the limit `MOST_FRAMES` counts them.
-    /// Steps that are over count too. The error is refused memory.
-    pub(crate) fn frames(&self, alloc: Global) -> Result<u64, AllocError> {
-        let mut frames: Vec<u64> = Vec::new(alloc);
+    /// The most left sides of `>x>` round one of the tokens that there are, counted outwards up to the next right side of a pruning, as the limit
+    /// `MOST_FRAMES` counts them. It looks at each mark of the run. The error is refused memory.
+    pub(crate) fn frames(&self, alloc: Global, program: &Program) -> Result<u64, AllocError> {
+        let frames = self.step_frames(alloc)?;
         let mut most: u64 = 0;
+        for mark in 1..self.marked.new_mark() {
+            if let Some(token) = self.trail.token(mark) {
+                // One that was dropped with a side is there no longer.
+                if self.marked.next(program, mark).is_some() {
+                    most = most.max(frames.get(token.step).copied().unwrap_or(0));
+                }
+            }
+        }
+        Ok(most)
+    }
+
+    // For each step, from 0 on, how many such left sides are round a token in it. The error is refused memory.
+    fn step_frames(&self, alloc: Global) -> Result<Vec<u64>, AllocError> {
+        // A step comes behind the one round it, so one pass is enough.
+        let mut frames: Vec<u64> = Vec::new(alloc);
         frames.push(0)?;
         for step in self.trail.steps() {
             let outer = frames.get(step.outer).copied().unwrap_or(0);
@@ -286,9 +301,8 @@ impl<'a> Replay<'a> {
                 Way::SeqLeft(_) => outer.saturating_add(1),
                 Way::OtherwiseLeft(_) | Way::Then(_) => outer,
             };
-            most = most.max(here);
             frames.push(here)?;
         }
-        Ok(most)
+        Ok(frames)
     }
 }
