@@ -1,7 +1,6 @@
-//! Entries as lines of a journal, and the words of such a line.
+//! Entries as lines of a journal.
 
 use orc_journal_text::{has_line, write_entry};
-use orc_lex::token::Span;
 use orc_report::Page;
 use orc_rules::answers::Answers;
 use orc_rules::entry::Entry;
@@ -33,25 +32,5 @@ pub(crate) fn say_entry(page: &mut Page, alloc: Global, answers: &Answers, entry
             }
         }
         Err(_) => page.refuse(),
-    }
-}
-
-/// The bytes of the n-th word of a line, from 0; an empty span at the line's end where there are fewer words.
-pub(crate) fn field(line: &[u8], n: usize) -> Span {
-    let mut number: usize = 0;
-    let mut start: usize = 0;
-    for (at, byte) in line.iter().enumerate() {
-        if *byte == b' ' {
-            if number == n {
-                return Span { start, end: at };
-            }
-            number = number.saturating_add(1);
-            start = at.saturating_add(1);
-        }
-    }
-    let end = line.len();
-    Span {
-        start: if number == n { start } else { end },
-        end,
     }
 }

@@ -3,11 +3,11 @@
 //! Words of an entry's line are counted from 0: word 0 is its kind, word 1 what it names first.
 
 use crate::allowed::cancel_in;
-use crate::line::{field, say_entry};
+use crate::line::say_entry;
 use crate::replay::Replay;
 use orc_calls::due_time;
 use orc_lex::token::Span;
-use orc_report::{Fill, Page, left_out};
+use orc_report::{Fill, Page, left_out, part_at};
 use orc_rules::answers::Answers;
 use orc_rules::entry::{Entry, RuleFault};
 use orc_rules::limits::{MOST_ARGUMENTS, MOST_LEVELS};
@@ -35,7 +35,7 @@ impl Refused<'_> {
     // Shows the entry with carets under a word of its line, or under the whole line where that is None. What is said next stands behind the carets.
     fn show(&self, page: &mut Page, word: Option<usize>) {
         let part = match word {
-            Some(number) => field(self.line, number),
+            Some(number) => part_at(self.line, b' ', number),
             None => Span {
                 start: 0,
                 end: self.line.len(),

@@ -18,21 +18,27 @@ impl<'a> Document<'a> {
 
     /// The bytes of the line with this number, from 1, without its LF; an empty span at the text's end where there are fewer lines.
     pub fn line(&self, number: usize) -> Span {
-        let mut line: usize = 1;
-        let mut start: usize = 0;
-        for (at, byte) in self.text.iter().enumerate() {
-            if *byte == b'\n' {
-                if line == number {
-                    return Span { start, end: at };
-                }
-                line = line.saturating_add(1);
-                start = at.saturating_add(1);
+        part_at(self.text, b'\n', number.saturating_sub(1))
+    }
+}
+
+/// The bytes of the part with this number, from 0, of a text in which this divider stands between two parts, and in none; an empty span at the text's
+/// end where there are fewer parts.
+pub fn part_at(text: &[u8], divider: u8, number: usize) -> Span {
+    let mut part: usize = 0;
+    let mut start: usize = 0;
+    for (at, byte) in text.iter().enumerate() {
+        if *byte == divider {
+            if part == number {
+                return Span { start, end: at };
             }
+            part = part.saturating_add(1);
+            start = at.saturating_add(1);
         }
-        let end = self.text.len();
-        Span {
-            start: if line == number { start } else { end },
-            end,
-        }
+    }
+    let end = text.len();
+    Span {
+        start: if part == number { start } else { end },
+        end,
     }
 }

@@ -18,7 +18,7 @@ mod subject;
 mod suggest;
 mod window;
 
-pub use document::Document;
+pub use document::{Document, part_at};
 pub use frame::{digits, left_out};
 pub use page::Page;
 pub use place::{Place, begins_character, place_of};
