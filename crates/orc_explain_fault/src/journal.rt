@@ -156,9 +156,7 @@ fn near_word(page: &mut Page, alloc: Global, word: &[u8]) -> &'static [u8] {
             meant = *other;
         }
     }
-    if near.is_refused() {
-        page.refuse();
-    }
+    page.heed_search(&near);
     meant
 }
 

@@ -239,9 +239,7 @@ fn say_near(page: &mut Page, alloc: Global, ast: &Ast, bindings: &Bindings, name
     let variable = near_variable(&mut near, bindings);
     let definition = near_definition(&mut near, ast);
     let word = near_word(&mut near);
-    if near.is_refused() {
-        page.refuse();
-    }
+    page.heed_search(&near);
     match word.or(text_of(definition.or(variable))) {
         Some(other) => say_meant(page, other),
         None => say_perhaps_site(page, name),
@@ -395,9 +393,7 @@ fn say_near_site(
     let mut near = Near::new(alloc, name);
     let definition = near_definition(&mut near, ast);
     let site = near_site(&mut near, answers);
-    if near.is_refused() {
-        page.refuse();
-    }
+    page.heed_search(&near);
     match site.or(text_of(definition)) {
         Some(other) if calls(ast, other) => say_meant(page, other),
         Some(other) => say_perhaps_script(page, alloc, subject, other, name),

@@ -88,9 +88,7 @@ fn say_wanted(page: &mut Page, alloc: Global, line: &Line, walk: Walk) {
     page.say("\n");
     let mut near = Near::new(alloc, here.text);
     let word = walk.near_word(&mut near);
-    if near.is_refused() {
-        page.refuse();
-    }
+    page.heed_search(&near);
     if !word.is_empty() {
         page.note("help: ");
         page.say_word("did you mean `", word, "`?\n");

@@ -64,9 +64,7 @@ fn near_service<'a>(
             }
         }
     }
-    if near.is_refused() {
-        page.refuse();
-    }
+    page.heed_search(&near);
     meant
 }
 

@@ -2,6 +2,7 @@
 
 ghost use Rattle.std.specs.Prelude.{◌≤◌};
 
+use crate::page::Page;
 use std::alloc::{AllocError, Global};
 use std::marker::Model;
 use strsim::osa_distance;
@@ -70,13 +71,8 @@ impl<'n> Near<'n> {
         }
     }
 
-    /// Whether memory was refused to the search, which takes nothing more then.
-    pub fn is_refused(&self) -> bool {
-        self.is_refused
-    }
-
     /// Shows one more name to the search: whether it takes it, being near enough and nearer than those before. One that differs in capitals alone is
-    /// the nearest, and the last one taken. It takes nothing where memory is refused.
+    /// the nearest, and the last one taken. It takes nothing more once memory was refused to it.
     pub fn takes(&mut self, candidate: &[u8]) -> bool
         ensures { self.new ≤ self.old }
     {
@@ -109,6 +105,15 @@ impl<'n> Near<'n> {
                 self.is_refused = true;
                 false
             }
+        }
+    }
+}
+
+impl Page {
+    /// Counts memory that was refused to the search for a name as refused to this text, which is to say what was found.
+    pub fn heed_search(&mut self, near: &Near) {
+        if near.is_refused {
+            self.refuse();
         }
     }
 }
