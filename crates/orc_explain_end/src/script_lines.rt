@@ -3,10 +3,9 @@
 //! The table that answers the calls of a run knows no line numbers, so the script's text is read here once more, which a loaded program had read
 //! without a fault.
 
-use orc_explain_fault::Line;
+use orc_explain_fault::{Line, number_of};
 use orc_lex::token::Span;
 use orc_rules::builtin::is_same;
-use orc_rules::digits::digits_at;
 use orc_rules::value::Value;
 use std::alloc::{AllocError, Global};
 
@@ -28,20 +27,6 @@ pub(crate) struct ScriptLines<'a> {
     pub list: Vec<ScriptLine<'a>>,
     // Those of all lines, one line behind another: a value, or None for `_`.
     patterns: Vec<Option<Value>>,
-}
-
-// The number that a piece of a line spells; None where it has over 64 bits. The sign is put on before the range is looked at, for the least number.
-fn number_of(text: &[u8]) -> Option<i64> {
-    match text {
-        [b'-', digits @ ..] => {
-            let (number, _rest) = digits_at(digits)?;
-            0_i64.checked_sub_unsigned(number)
-        }
-        _ => {
-            let (number, _rest) = digits_at(text)?;
-            0_i64.checked_add_unsigned(number)
-        }
-    }
 }
 
 /// The patterns that are no numbers.

@@ -35,7 +35,7 @@ mod words;
 
 pub use built_in::{built_in_named, wanted_by, why_halted};
 pub use fault::{Fault, Unread, explain, explain_refused, explain_rows, explain_unread};
-pub use script::{Line, Piece};
+pub use script::{Line, Piece, number_of};
 pub use test::explain_test;
 pub use tokens::span_at;
 pub use words::said_of;

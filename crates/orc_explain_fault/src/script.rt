@@ -96,18 +96,24 @@ fn length(kind: Kind, rest: &[u8]) -> usize {
     }
 }
 
-/// Whether a number, a `-` and digits or digits alone, is in the range of values: -2^63 to 2^63 - 1.
-pub(crate) fn is_in_range(text: &[u8]) -> bool {
+/// The number that a piece of a line spells, digits with or without a `-` before them. None where it is out of the range of values, -2^63 to 2^63 - 1.
+pub fn number_of(text: &[u8]) -> Option<i64> {
     match text {
-        [b'-', digits @ ..] => match digits_at(digits) {
-            Some((number, _)) => number <= 1 << 63,
-            None => false,
-        },
-        _ => match digits_at(text) {
-            Some((number, _)) => number < 1 << 63,
-            None => false,
-        },
+        // The sign is put on before the range is looked at, for the least number.
+        [b'-', digits @ ..] => {
+            let (number, _rest) = digits_at(digits)?;
+            0_i64.checked_sub_unsigned(number)
+        }
+        _ => {
+            let (number, _rest) = digits_at(text)?;
+            0_i64.checked_add_unsigned(number)
+        }
     }
+}
+
+/// Whether the number that a piece of a line spells is in the range of values.
+pub(crate) fn is_in_range(text: &[u8]) -> bool {
+    number_of(text).is_some()
 }
 
 /// A line as its pieces, and the one that is looked at: at first the first one.
