@@ -4,8 +4,9 @@
 //! passes says at which place the walk goes on. If none does, the piece can't stand there, and the place says what could.
 
 use crate::script::{Kind, Line, Piece, is_in_range};
-use crate::words::{CONSTANTS, RESERVED, is_one_of};
+use crate::words::{CONSTANTS, is_one_of};
 use orc_report::Near;
+use orc_site::line::is_reserved_word;
 
 /// A place in a line, between two pieces. Most are named by what may stand there next (`Bracket`, `Pattern`), those on `End` by what has been read
 /// (`PatternEnd`: a pattern); `wanted` says in words what may follow at each.
@@ -429,7 +430,7 @@ fn is_variable(piece: Piece) -> bool {
 
 // Whether a piece is the name of a site that may be called.
 fn is_name(piece: Piece) -> bool {
-    piece.kind == Kind::Name && !is_one_of(piece.text, RESERVED.as_slice())
+    piece.kind == Kind::Name && !is_reserved_word(piece.text)
 }
 
 // Whether the piece that is looked at passes a test. A `(` behind a word makes it the name of a site.

@@ -1,8 +1,8 @@
 //! A hint: a line ` = help: ` on what may have been meant.
 
-use orc_report::{Document, Page, place_of};
+use orc_report::{Document, Page};
 
-/// A hint's words, with what fills them: `%` stands for a name, `@` for the line and the column of a byte of the text, and `#` for its line alone.
+/// A hint's words, with what fills them: `%` stands for a name, `@` for `line L, column C` of a byte of the text, and `#` for `line L` of it.
 #[derive(Clone, Copy)]
 pub(crate) struct Hint<'a> {
     words: &'static str,
@@ -37,16 +37,10 @@ fn say_form(page: &mut Page, document: &Document, hint: Hint) {
         match *byte {
             b'%' => page.word(hint.name),
             b'@' => page.place(document.text, hint.at),
-            b'#' => say_line(page, document, hint.at),
+            b'#' => page.line(document.text, hint.at),
             byte => page.byte(byte),
         }
     }
-}
-
-// Writes the number of the line of a byte of the text.
-fn say_line(page: &mut Page, document: &Document, at: usize) {
-    let place = place_of(document.text, at.min(document.text.len()));
-    page.number(place.line as u64);
 }
 
 /// Writes the line of a hint.

@@ -1,6 +1,6 @@
 //! Faults of a journal's text (J1 to J4).
 
-use crate::syntax::say_refused;
+use crate::syntax::{say_most, say_refused};
 use crate::words::said_of;
 use orc_journal_text::JournalFault;
 use orc_lex::token::Span;
@@ -86,12 +86,8 @@ fn say_header(page: &mut Page, document: &Document) {
 
 // J3: a journal of too many bytes or entries.
 fn say_long_journal(page: &mut Page, document: &Document) {
-    page.say(" --> ");
-    page.path(document.name);
-    page.say("\n");
-    page.note("expected: at most ");
-    page.number(LONGEST_JOURNAL as u64);
-    page.say_number(" bytes and ", MOST_ENTRIES, " entries\n");
+    say_most(page, document, LONGEST_JOURNAL as u64);
+    page.say_number(" and ", MOST_ENTRIES, " entries\n");
 }
 
 // J2: the line with this number, from 1, is no entry.

@@ -104,12 +104,12 @@ impl<'a> Outline<'a> {
         None
     }
 
-    /// The number of the first line of a service, or of a script's site, with this name.
-    pub(crate) fn service(&self, name: &[u8]) -> Option<usize> {
+    /// The number of the first line of a service, or of a script's site, with this name, and how many patterns it has. None where there is none.
+    pub(crate) fn service(&self, name: &[u8]) -> Option<(usize, usize)> {
         for line in self.lines.iter() {
-            if let Head::Service(other, _) = line.head {
+            if let Head::Service(other, count) = line.head {
                 if other == name {
-                    return Some(line.number);
+                    return Some((line.number, count));
                 }
             }
         }

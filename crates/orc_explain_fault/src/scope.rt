@@ -414,7 +414,7 @@ fn say_perhaps_script(
         return;
     };
     match script.service(meant) {
-        Some(line) => {
+        Some((line, _count)) => {
             page.note("help: ");
             page.say_number("line ", line as u64, " of the script has `");
             page.word(meant);

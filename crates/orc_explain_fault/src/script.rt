@@ -4,14 +4,14 @@
 //! first piece that can't stand where it does: there the carets go.
 
 use crate::signs::{NO_ORDER_MARK, ORDER_MARK};
-use crate::syntax::{say_long, say_refused};
-use crate::words::{CONSTANTS, RESERVED, is_one_of};
+use crate::syntax::{VALUES, say_long, say_refused};
+use crate::words::{CONSTANTS, is_one_of};
 use orc_lex::token::Span;
 use orc_report::{Document, Page, Subject};
-use orc_rules::builtin::Builtin;
 use orc_rules::digits::digits_at;
 use orc_rules::limits::{LONGEST_SOURCE, MOST_ANSWERS, MOST_ARGUMENTS};
 use orc_site::ScriptFault;
+use orc_site::line::{is_built_in_name, is_reserved_word};
 use std::alloc::{AllocError, Global};
 
 const FORM: &str = "a line is `NAME(pattern, ..) = ANSWER [after N] { then ANSWER [after N] }`";
@@ -19,6 +19,9 @@ const FORM: &str = "a line is `NAME(pattern, ..) = ANSWER [after N] { then ANSWE
 const PATTERN: &str = "a pattern is a number, `true`, `false`, `signal`, or `_` for any value";
 
 const ANSWER: &str = "an answer is a number, `true`, `false`, `signal`, `halt` or `never`";
+
+/// How a comment is written in a script and in a test.
+pub(crate) const COMMENT: &str = "a comment is `-- ..` to the end of the line";
 
 const TIME: &str = "digits alone, at most 9223372036854775807";
 
@@ -235,12 +238,10 @@ impl<'a> Line<'a> {
         if here.kind != Kind::Name {
             return Err(Wrong::Name);
         }
-        for built_in in Builtin::ALL.iter() {
-            if here.text == built_in.name() {
-                return Err(Wrong::BuiltIn);
-            }
+        if is_built_in_name(here.text) {
+            return Err(Wrong::BuiltIn);
         }
-        if is_one_of(here.text, RESERVED.as_slice()) {
+        if is_reserved_word(here.text) {
             return Err(Wrong::Reserved);
         }
         self.go();
@@ -408,7 +409,7 @@ fn say_advice(page: &mut Page, document: &Document, wrong: Wrong, line: &Line) {
         Wrong::Comma | Wrong::More if line.lengthens_number() => page.help(number_advice(here)),
         Wrong::Assign | Wrong::More => page.help(FORM),
         Wrong::Time => page.help(TIME),
-        Wrong::Range => page.expected("-9223372036854775808 to 9223372036854775807"),
+        Wrong::Range => page.expected(VALUES),
         Wrong::Reserved | Wrong::Comma | Wrong::NeverAfter | Wrong::Many => {}
     }
 }
@@ -416,7 +417,7 @@ fn say_advice(page: &mut Page, document: &Document, wrong: Wrong, line: &Line) {
 // What to do about a piece that stands where a site's name has to.
 fn name_advice(document: &Document, here: Piece) -> &'static str {
     match here.text {
-        b"#" | b"/" => "a comment is `-- ..` to the end of the line",
+        b"#" | b"/" => COMMENT,
         _ if here.span.start == 0 && document.text.starts_with(ORDER_MARK) => NO_ORDER_MARK,
         _ => FORM,
     }

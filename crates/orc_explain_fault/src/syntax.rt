@@ -10,6 +10,9 @@ use orc_rules::limits::LONGEST_SOURCE;
 use orc_syntax::SyntaxFault;
 use std::alloc::Global;
 
+/// Which numbers are values.
+pub(crate) const VALUES: &str = "-9223372036854775808 to 9223372036854775807";
+
 // What the parser expected. Of an operator's second sign the first one, two tokens before, says which it is.
 fn wanted(what: What, tokens: &Tokens) -> &'static str {
     match what {
@@ -54,11 +57,11 @@ fn say_encoding(page: &mut Page, document: &Document, at: usize) {
     page.help("save the file as UTF-8; outside comments only ASCII is allowed");
 }
 
-// S3: a number that is out of range.
-fn say_out_of_range(page: &mut Page, document: &Document, span: Span) {
+/// Points at a number that is out of range, and says so (S3).
+pub(crate) fn say_out_of_range(page: &mut Page, document: &Document, span: Span) {
     page.point(document, span);
     page.say("this number is out of range\n");
-    page.expected("-9223372036854775808 to 9223372036854775807");
+    page.expected(VALUES);
 }
 
 // S7: a `{-` that isn't closed.
@@ -112,14 +115,20 @@ fn say_deep(page: &mut Page, document: &Document, at: usize) {
     }
 }
 
-/// A text that is too long, and how many bytes it may have at most.
-pub(crate) fn say_long(page: &mut Page, document: &Document, most: u64) {
+/// The name of a file that is too long, and how many bytes it may have at most. The caller ends the line.
+pub(crate) fn say_most(page: &mut Page, document: &Document, most: u64) {
     page.say(" --> ");
     page.path(document.name);
     page.say("\n");
     page.note("expected: at most ");
     page.number(most);
-    page.say_number(" bytes, and these are ", document.text.len() as u64, "\n");
+    page.say(" bytes");
+}
+
+/// A text that is too long: how many bytes it may have at most, and how many it has.
+pub(crate) fn say_long(page: &mut Page, document: &Document, most: u64) {
+    say_most(page, document, most);
+    page.say_number(", and these are ", document.text.len() as u64, "\n");
 }
 
 /// That memory was refused while this was done: `the source was read as a program`.

@@ -1,14 +1,13 @@
 //! Lines of a test that have none of its forms (T1). `grammar.rt` finds where such a line goes wrong.
 
 use crate::grammar::{Place, Walk};
-use crate::script::{Kind, Line, Piece, is_in_range, number_advice};
+use crate::script::{COMMENT, Kind, Line, Piece, is_in_range, number_advice};
+use crate::syntax::say_out_of_range;
 use crate::words::said_of;
 use orc_lex::token::Span;
 use orc_report::{Document, Near, Page};
 use orc_rules::digits::digits_at;
 use std::alloc::Global;
-
-const COMMENT: &str = "a comment is `-- ..` to the end of the line";
 
 const RANGE: &str = "a range is `0..5`: two numbers with two dots between them";
 
@@ -65,12 +64,11 @@ pub(crate) fn say_line(page: &mut Page, alloc: Global, document: &Document, numb
 // A piece that can't stand where it does, at which the walk over the line has stopped.
 fn say_stop(page: &mut Page, alloc: Global, document: &Document, line: &Line, walk: Walk) {
     let here = line.here();
-    page.point(document, here.span);
     if here.kind == Kind::Number && !is_in_range(here.text) {
-        page.say("this number is out of range\n");
-        page.expected("-9223372036854775808 to 9223372036854775807");
+        say_out_of_range(page, document, here.span);
         return;
     }
+    page.point(document, here.span);
     match here.kind {
         Kind::End => page.say("the line ends here\n"),
         _ => page.say_word("`", here.text, "` can't stand here\n"),

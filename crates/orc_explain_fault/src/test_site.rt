@@ -70,18 +70,14 @@ fn near_service<'a>(
 
 // With how many arguments the first service of a name stands in the test, and in which line: whether there is one.
 fn say_other_arguments(page: &mut Page, outline: &Outline, name: &[u8]) -> bool {
-    for line in outline.lines.iter() {
-        if let Head::Service(other, count) = line.head {
-            if other == name {
-                page.note("");
-                page.say_word("`", name, "` has ");
-                page.count(count as u64, "argument");
-                page.say_number(" in line ", line.number as u64, "\n");
-                return true;
-            }
-        }
-    }
-    false
+    let Some((line, count)) = outline.service(name) else {
+        return false;
+    };
+    page.note("");
+    page.say_word("`", name, "` has ");
+    page.count(count as u64, "argument");
+    page.say_number(" in line ", line as u64, "\n");
+    true
 }
 
 // The rest of the line on a site that no service has, and what may have been meant.

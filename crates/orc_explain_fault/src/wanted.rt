@@ -5,8 +5,9 @@
 
 use crate::hint::Hint;
 use crate::tokens::Tokens;
-use crate::words::{RESERVED, is_one_of, said_of};
+use crate::words::{is_one_of, said_of};
 use orc_lex::token::{Joint, Kind, Plain, Token, What};
+use orc_site::line::is_reserved_word;
 
 /// What to write for a choice.
 pub(crate) const NO_IF: &str =
@@ -127,10 +128,6 @@ fn is_number(token: Option<Token>) -> bool {
         ) => true,
         _ => false,
     }
-}
-
-fn is_reserved(word: &[u8]) -> bool {
-    is_one_of(word, RESERVED.as_slice())
 }
 
 // Going back over tokens: how many closing brackets have been seen whose opening ones haven't, after this token, where there were `closed` before it.
@@ -355,7 +352,7 @@ impl<'a> Around<'_, 'a> {
         };
         let name = self.text_of(token);
         Hint::of_place(
-            "`%` in line # and the bracket after it were read as a call; put brackets around `%`",
+            "`%` in # and the bracket after it were read as a call; put brackets around `%`",
             name,
             token.span.start,
         )
@@ -365,14 +362,14 @@ impl<'a> Around<'_, 'a> {
     fn is_compared(&self) -> bool {
         match self.here() {
             b"(" | b"=" => true,
-            here => is_reserved(here) || is_number(self.tokens.here),
+            here => is_reserved_word(here) || is_number(self.tokens.here),
         }
     }
 
     // A hint where a name was expected.
     fn name(&self) -> Hint<'a> {
         let here = self.here();
-        if is_reserved(here) && !self.is_behind_arrow() {
+        if is_reserved_word(here) && !self.is_behind_arrow() {
             return Hint::of_name("`%` is a reserved word, so it can't be a name", here);
         }
         Hint::plain(self.name_words())
