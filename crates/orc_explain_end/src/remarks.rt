@@ -278,6 +278,27 @@ impl Remarks {
     }
 }
 
+/// Why calls halted of which something is to be said.
+#[derive(Clone, Copy)]
+enum Why {
+    /// Their built-in site doesn't take their arguments.
+    Wrong,
+    /// No line of the script answers them.
+    Unanswered,
+    /// A line of the script or a built-in site answered them with halt.
+    Halt,
+}
+
+// The end of a line on the first of so many calls or parts at one spot: how many more there are. `name` is what one of these is called.
+fn say_others(page: &mut Page, count: u64, name: &str) {
+    if count > 1 {
+        page.say("; so did ");
+        page.count(count.saturating_sub(1), name);
+        page.say(" there");
+    }
+    page.say("\n");
+}
+
 impl Scene<'_, '_> {
     /// The whole explanation of a run that has halted: its first line, and what looks like a mistake. Nothing at all where nothing does.
     pub(crate) fn halted(&self, page: &mut Page) {
@@ -291,7 +312,7 @@ impl Scene<'_, '_> {
         }
     }
 
-    // The explanation, from what was noted of the calls. `halted_calls` and `losses` come only where nothing was published.
+    // The explanation, from what was noted of the calls. Answers that were halt, and losses, are told only where nothing was published.
     fn remarks(&self, page: &mut Page, remarks: &Remarks, lines: &ScriptLines) {
         let is_silent = self.ended.summary.published == 0;
         if !is_silent && remarks.is_empty() && !self.hides_a_site() {
@@ -301,10 +322,10 @@ impl Scene<'_, '_> {
         if is_silent {
             page.note("nothing was published\n");
         }
-        self.wrong_calls(page, &remarks.wrong);
-        self.unanswered_calls(page, &remarks.unanswered, lines);
+        self.halted_calls(page, &remarks.wrong, lines, Why::Wrong);
+        self.halted_calls(page, &remarks.unanswered, lines, Why::Unanswered);
         if is_silent {
-            self.halted_calls(page, &remarks.halted, lines);
+            self.halted_calls(page, &remarks.halted, lines, Why::Halt);
             self.losses(page);
         }
         self.unused_lines(page, remarks, lines);
@@ -321,26 +342,18 @@ impl Scene<'_, '_> {
         page.say(", halted: ");
     }
 
-    // The end of such a line: how many more calls of the group there are.
-    fn others(&self, page: &mut Page, group: &Group) {
-        if group.count > 1 {
-            page.say("; so did ");
-            page.count(group.count.saturating_sub(1), "more call");
-            page.say(" there");
-        }
-        page.say("\n");
-    }
-
-    // Calls of built-in sites whose arguments don't fit.
-    fn wrong_calls(&self, page: &mut Page, groups: &Groups) {
-        let mut shown: u64 = 0;
+    // A line for the first call of each of the first groups, which halted for this reason, and how many more groups there are.
+    fn halted_calls(&self, page: &mut Page, groups: &Groups, lines: &ScriptLines, why: Why) {
         for group in groups.list.iter().take(SHOWN as usize) {
-            shown = shown.saturating_add(1);
             self.halted_call(page, group);
-            self.site_takes(page, group.first.entry);
-            self.others(page, group);
+            match why {
+                Why::Wrong => self.site_takes(page, group.first.entry),
+                Why::Unanswered => self.no_line(page, group.first.entry, lines),
+                Why::Halt => self.halting(page, group.first.entry, lines),
+            }
+            say_others(page, group.count, "more call");
         }
-        self.rest(page, groups.list.len() as u64, shown);
+        self.rest(page, groups.list.len() as u64, SHOWN);
     }
 
     // What a call's site takes.
@@ -352,39 +365,15 @@ impl Scene<'_, '_> {
         }
     }
 
-    // Calls of a script's sites that no line answers.
-    fn unanswered_calls(&self, page: &mut Page, groups: &Groups, lines: &ScriptLines) {
-        let mut shown: u64 = 0;
-        for group in groups.list.iter().take(SHOWN as usize) {
-            shown = shown.saturating_add(1);
-            self.halted_call(page, group);
-            page.say("no line of the script answers it");
-            self.nearest_line(page, group.first.entry, lines);
-            self.others(page, group);
-        }
-        self.rest(page, groups.list.len() as u64, shown);
-    }
-
-    // The line that is nearest to the call of an entry, and why it doesn't answer it.
-    fn nearest_line(&self, page: &mut Page, entry: usize, lines: &ScriptLines) {
+    // That no line answers the call of an entry; and the line that is nearest to it, and why that doesn't.
+    fn no_line(&self, page: &mut Page, entry: usize, lines: &ScriptLines) {
+        page.say("no line of the script answers it");
         if let Some(Entry::Call(_, _, site, args)) = self.journal.get(entry) {
             let name = name_of(self.ended.answers, site);
             if let Some(line) = nearest(lines, name, args.as_slice()) {
                 missed(page, lines, &line, args.as_slice());
             }
         }
-    }
-
-    // Calls that halted though a line or a built-in site answered them.
-    fn halted_calls(&self, page: &mut Page, groups: &Groups, lines: &ScriptLines) {
-        let mut shown: u64 = 0;
-        for group in groups.list.iter().take(SHOWN as usize) {
-            shown = shown.saturating_add(1);
-            self.halted_call(page, group);
-            self.halting(page, group.first.entry, lines);
-            self.others(page, group);
-        }
-        self.rest(page, groups.list.len() as u64, shown);
     }
 
     // Why a call halted that its site could answer: its line of the script says so, or the built-in site does.
@@ -405,11 +394,7 @@ impl Scene<'_, '_> {
         for loss in &self.replay.losses {
             self.loss(page, *loss);
         }
-        let others = self.replay.other_losses;
-        if others > 0 {
-            page.note("");
-            page.say_number("and ", others, " more\n");
-        }
+        self.rest(page, self.replay.other_losses, 0);
     }
 
     // The line of one spot: its text, and the value that was lost.
@@ -426,12 +411,7 @@ impl Scene<'_, '_> {
             }
             None => page.say("what stands for a parameter has ended without a value"),
         }
-        if loss.count > 1 {
-            page.say("; so did ");
-            page.count(loss.count.saturating_sub(1), "more part");
-            page.say(" there");
-        }
-        page.say("\n");
+        say_others(page, loss.count, "more part");
     }
 
     // Lines of the script that answered no call, each with a reason where one is found.
@@ -471,7 +451,7 @@ impl Scene<'_, '_> {
                 }
             }
         }
-        self.rest(page, all, all.min(SHOWN));
+        self.rest(page, all, SHOWN);
     }
 
     // The reason why a line answered no call: an earlier line hides it, or its site was never called. Nothing where neither is so.

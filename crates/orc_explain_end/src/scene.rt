@@ -9,7 +9,7 @@ use orc_explain_fault::span_at;
 use orc_journal::Journal;
 use orc_journal_text::{has_line, write_entry};
 use orc_outcome::{End, Summary};
-use orc_report::{Page, Subject, place_of};
+use orc_report::{Page, Subject};
 use orc_rules::answers::Answers;
 use orc_rules::entry::Entry;
 use orc_rules::param::Param;
@@ -90,9 +90,7 @@ impl Scene<'_, '_> {
     /// `line L` of a byte of the source.
     pub(crate) fn line(&self, page: &mut Page, at: usize) {
         let source = self.subject.source;
-        let text = source.text;
-        let place = place_of(text, at.min(text.len()));
-        page.say_number("line ", place.line as u64, "");
+        page.line(source.text, at);
     }
 
     /// A call that was made, as `NAME(a, b)`, by the place of its entry.
