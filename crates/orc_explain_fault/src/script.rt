@@ -7,7 +7,7 @@ use crate::signs::{NO_ORDER_MARK, ORDER_MARK};
 use crate::syntax::{VALUES, say_long, say_refused};
 use crate::words::{CONSTANTS, is_one_of};
 use orc_lex::token::Span;
-use orc_report::{Document, Page, Subject};
+use orc_report::{Document, Fill, Page, Subject};
 use orc_rules::digits::digits_at;
 use orc_rules::limits::{LONGEST_SOURCE, MOST_ANSWERS, MOST_ARGUMENTS};
 use orc_site::ScriptFault;
@@ -396,15 +396,13 @@ fn say_advice(page: &mut Page, document: &Document, wrong: Wrong, line: &Line) {
             page,
             PATTERN,
             here,
-            ": variables don't exist here, `",
-            "` would be `_`",
+            ": variables don't exist here, `%` would be `_`",
         ),
         Wrong::Answer => say_named(
             page,
             ANSWER,
             here,
             ": a site answers with one value, not with an expression",
-            "",
         ),
         Wrong::Comma | Wrong::More if line.lengthens_number() => page.help(number_advice(here)),
         Wrong::Assign | Wrong::More => page.help(FORM),
@@ -440,16 +438,12 @@ fn say_bare_site(page: &mut Page, site: Option<Piece>) {
     }
 }
 
-// A hint that goes on where a name stands in the place of a value: with `first`, the name and `second`; with `first` alone where `second` is empty.
-fn say_named(page: &mut Page, words: &str, here: Piece, first: &str, second: &str) {
+// A hint that goes on where a name stands in the place of a value: with a sentence in which `%` is that name.
+fn say_named(page: &mut Page, words: &str, here: Piece, sentence: &str) {
     page.note("help: ");
     page.say(words);
     if here.kind == Kind::Name {
-        if second.is_empty() {
-            page.say(first);
-        } else {
-            page.say_word(first, here.text, second);
-        }
+        page.tell(sentence, &[Fill::Word(here.text)]);
     }
     page.say("\n");
 }

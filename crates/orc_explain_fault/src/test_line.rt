@@ -13,6 +13,8 @@ const RANGE: &str = "a range is `0..5`: two numbers with two dots between them";
 
 const VARIABLE: &str = "a variable begins with a small letter";
 
+const ONCE: &str = "`at once` counts calls, so each event is `NAME(..)` alone";
+
 /// What is said of a word or a sign of another language, where it can't stand.
 const WORDS: [(&[u8], &str); 13] = [
     (b"#", COMMENT),
@@ -182,26 +184,10 @@ fn first_of<'a>(line: &Line<'a>, word: &[u8]) -> Option<Piece<'a>> {
 
 /// Two words that may not stand in one line, each of which may by itself; the carets go under the second, and the third text says why.
 const APART: [(&[u8], &[u8], &str); 6] = [
-    (
-        b"once",
-        b"answered",
-        "`at once` counts calls, so each event is `NAME(..)` alone",
-    ),
-    (
-        b"once",
-        b"halted",
-        "`at once` counts calls, so each event is `NAME(..)` alone",
-    ),
-    (
-        b"once",
-        b"cancelled",
-        "`at once` counts calls, so each event is `NAME(..)` alone",
-    ),
-    (
-        b"once",
-        b"published",
-        "`at once` counts calls, so each event is `NAME(..)` alone",
-    ),
+    (b"once", b"answered", ONCE),
+    (b"once", b"halted", ONCE),
+    (b"once", b"cancelled", ONCE),
+    (b"once", b"published", ONCE),
     (b"order", b"_", "in any order there are values alone"),
     (
         b"calls",
