@@ -4,7 +4,7 @@ use crate::fault::DrawFault;
 use crate::labels::Texts;
 use crate::rows::{Row, Rows};
 use crate::slots::Slots;
-use crate::story::{Event, Moment, Shown, Span, Story};
+use crate::story::{End, Event, Moment, Shown, Span, Story};
 use crate::{svg, text};
 use orc_journal::Journal;
 use orc_report::{Fill, Page, digits};
@@ -136,6 +136,19 @@ impl<'a> Picture<'a> {
     /// The span of a row.
     pub(crate) fn span(&self, row: &Row) -> Option<Span<'a>> {
         self.story.spans.get(row.span).copied()
+    }
+
+    /// Of the row of a pruning that was bound to a call's answer: the place of that call's row, its span, and when the pruning was bound. None for any
+    /// other row, and where the call has none.
+    pub(crate) fn winner(&self, row: &Row) -> Option<(usize, Span<'a>, Moment)> {
+        match self.span(row)?.end? {
+            (End::Bound(_, Some(call)), at) => {
+                let won = self.rows.row_of(call)?;
+                let span = self.story.spans.get(call).copied()?;
+                Some((won, span, at))
+            }
+            _ => None,
+        }
     }
 }
 

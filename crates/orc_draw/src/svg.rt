@@ -173,16 +173,10 @@ impl<'a> Sheet<'a> {
     // Notes of each row whose call won a pruning that has a row where that was bound.
     fn find_wins(&mut self) {
         for row in &self.picture.rows.rows {
-            if let Some((End::Bound(_, Some(call)), at)) = self
-                .picture
-                .span(row)
-                .and_then(|s| s.end)
-            {
+            if let Some((won, _call, at)) = self.picture.winner(row) {
                 let place = self.across(at);
-                if let Some(won) = self.picture.rows.row_of(call) {
-                    if let Some(win) = self.wins.get_mut(won) {
-                        *win = place;
-                    }
+                if let Some(win) = self.wins.get_mut(won) {
+                    *win = place;
                 }
             }
         }
@@ -556,9 +550,9 @@ impl<'a> Sheet<'a> {
 
     // Writes the sign at the end of a pruning or an otherwise, in parts at x and y, and opens the tag of the words behind it, whose class it finds.
     fn side_end(&self, page: &mut Page, i: usize, span: &Span, x: u64, y: u64) {
-        let q = self.reach();
-        let (left, right) = (x.saturating_sub(q), x.saturating_add(q));
-        let (up, down) = (y.saturating_sub(q), y.saturating_add(q));
+        let reach = self.reach();
+        let (left, right) = (x.saturating_sub(reach), x.saturating_add(reach));
+        let (up, down) = (y.saturating_sub(reach), y.saturating_add(reach));
         let class = match span.end {
             Some((End::Bound(value, _), at)) => {
                 page.form(
@@ -572,7 +566,7 @@ impl<'a> Sheet<'a> {
             Some((End::Lost, at)) => {
                 page.form(
                     "<circle class=\"lost\" cx=\"%\" cy=\"%\" r=\"%\"><title>entry @: lost at time @</title></circle>",
-                    &[x, y, q.saturating_sub(pixels(1)), at.entry, at.time],
+                    &[x, y, reach.saturating_sub(pixels(1)), at.entry, at.time],
                 );
                 "haltt"
             }
@@ -588,7 +582,7 @@ impl<'a> Sheet<'a> {
                     "<g><title>entry @: dropped at time @</title>",
                     &[at.entry, at.time],
                 );
-                self.cross(page, x, y, q / 5 * 4);
+                self.cross(page, x, y, reach / 5 * 4);
                 page.say("</g>");
                 "cutt"
             }
@@ -610,24 +604,16 @@ impl<'a> Sheet<'a> {
     // Writes the green line from each answer that won to the pruning whose value it became.
     fn winners(&self, page: &mut Page) {
         for (i, row) in self.picture.rows.rows.iter().enumerate() {
-            if let Some((End::Bound(_, Some(call)), at)) = self
-                .picture
-                .span(row)
-                .and_then(|s| s.end)
-            {
-                if let Some(won) = self.picture.rows.row_of(call) {
-                    if let Some(span) = self.picture.story.spans.get(call) {
-                        let (from, to) = (self.end(span), self.across(at));
-                        let (low, high) = (
-                            self.middle(won),
-                            self.middle(i).saturating_add(self.reach()),
-                        );
-                        page.form(
-                            "<path class=\"win\" d=\"M% %L% %L% %\"><title>entry @: the first value, at time @</title></path>\n",
-                            &[from, low, to, low, to, high, at.entry, at.time],
-                        );
-                    }
-                }
+            if let Some((won, call, at)) = self.picture.winner(row) {
+                let (from, to) = (self.end(&call), self.across(at));
+                let (low, high) = (
+                    self.middle(won),
+                    self.middle(i).saturating_add(self.reach()),
+                );
+                page.form(
+                    "<path class=\"win\" d=\"M% %L% %L% %\"><title>entry @: the first value, at time @</title></path>\n",
+                    &[from, low, to, low, to, high, at.entry, at.time],
+                );
             }
         }
     }
@@ -645,8 +631,8 @@ fn inner_rows(rows: &[Row], at: usize, depth: u64) -> u64 {
     count
 }
 
-/// The class of a call's bar, by how the call ended. That of the words behind it has one `t` more.
-pub(crate) fn class_of(span: &Span) -> &'static str {
+// The class of a call's bar, by how the call ended. That of the words behind it has one `t` more.
+fn class_of(span: &Span) -> &'static str {
     match span.end {
         Some((End::Answered(_), _)) => "ok",
         Some((End::Halted, _)) => "halt",
