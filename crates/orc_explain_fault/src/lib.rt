@@ -4,7 +4,7 @@
 //! line; `explain_test` does the same for a fault of a test. The line of the place is shown, 100 columns of it at most, with carets under the place.
 //! Where a hint says what may have been meant, the first one that fits is given. All of this is read from the texts and the fault alone, so an
 //! explanation changes nothing. It never recurs, and takes time in proportion to the texts, but for a look at each service of a test for each site of
-//! a line.
+//! a line, and for each service below `given`.
 //!
 //! In all files a function `say_..` writes what its comment names at the end of its `page`. Where it is refused memory it says so by `page.refuse()`,
 //! and the page isn't given out.

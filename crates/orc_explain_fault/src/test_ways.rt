@@ -5,7 +5,7 @@ use crate::test_place::span_of;
 use orc_report::{Document, Page};
 use orc_rules::answers::Answers;
 use orc_ways::read_test;
-use orc_ways::test::{Reply, Service, Test};
+use orc_ways::test::{Reply, Service, ServiceLine, Test};
 use std::alloc::Global;
 
 // How many answers, each with its time, a reply stands for: a range of delays is one for each of its numbers.
@@ -34,14 +34,31 @@ fn ways_of(service: &Service) -> u64 {
     ways
 }
 
-// The service of a case that has most ways, and how many. Services below `given` count too, also those that a line of the case replaces. None where
-// no service has more than one.
+// Whether a service is one of a case: a line of its own, or one below `given` whose name and patterns no line of its own has.
+fn is_of(test: &Test, case: Option<usize>, line: &ServiceLine) -> bool {
+    if line.case.is_some() {
+        return line.case == case;
+    }
+    for other in test.services.iter() {
+        if other.case.is_some() && other.case == case && is_same(&other.service, &line.service) {
+            return false;
+        }
+    }
+    true
+}
+
+// Whether two services have the same name and the same patterns.
+fn is_same(one: &Service, other: &Service) -> bool {
+    one.name == other.name && one.patterns.as_slice() == other.patterns.as_slice()
+}
+
+// The service of a case that has most ways by itself, and how many. None where no service has more than one.
 fn widest<'a>(test: &Test<'a>, case: Option<usize>) -> Option<(&'a [u8], u64)> {
     let mut found = None;
     let mut most: u64 = 1;
     for line in test.services.iter() {
         let ways = ways_of(&line.service);
-        if (line.case.is_none() || line.case == case) && ways > most {
+        if ways > most && is_of(test, case, line) {
             most = ways;
             found = Some((line.service.name, ways));
         }
