@@ -421,19 +421,19 @@ impl<'a> Sheet<'a> {
     }
 
     // Writes the row of a call, at this place: its label, its number, its bar, and how it ended.
-    fn call(&self, page: &mut Page, i: usize, row: &Row, span: &Span, called: Called) {
+    fn call(&self, page: &mut Page, place: usize, row: &Row, span: &Span, called: Called) {
         let class = class_of(span);
         page.say("<g><title>");
         say_tip(page, row, span, called);
         page.say("</title><text class=\"lab");
         page.say(if class == "cut" { " dim" } else { "" });
-        page.form("\" x=\"%\" y=\"%\">", &[self.indent(row), self.line(i)]);
+        page.form("\" x=\"%\" y=\"%\">", &[self.indent(row), self.line(place)]);
         page.escaped(row.label.as_str());
         page.form(
             "</text><text class=\"num\" x=\"%\" y=\"%\" text-anchor=\"end\">@</text><rect class=\"bar ",
             &[
                 self.gutter.saturating_sub(pixels(6)),
-                self.line(i),
+                self.line(place),
                 called.number,
             ],
         );
@@ -445,30 +445,30 @@ impl<'a> Sheet<'a> {
             "\" x=\"%\" y=\"%\" width=\"%\" height=\"%\" rx=\"2\"/>",
             &[
                 begin,
-                self.middle(i).saturating_sub(height / 2),
+                self.middle(place).saturating_sub(height / 2),
                 end.saturating_sub(begin).max(pixels(3)),
                 height,
             ],
         );
-        self.call_end(page, i, row, span, called);
+        self.call_end(page, place, row, span, called);
         page.say("</text></g>\n");
     }
 
     // Writes the sign at a call's end, and the words behind it. The caller closes their tag.
-    fn call_end(&self, page: &mut Page, i: usize, row: &Row, span: &Span, called: Called) {
+    fn call_end(&self, page: &mut Page, place: usize, row: &Row, span: &Span, called: Called) {
         let end = self.end(span);
         let class = class_of(span);
         let mut behind = end.saturating_add(pixels(6));
         match span.end {
             Some((End::Answered(_), _)) => {
-                let won = self.wins.get(i).copied().unwrap_or(0);
+                let won = self.wins.get(place).copied().unwrap_or(0);
                 behind = end.max(won).saturating_add(pixels(6));
             }
             Some((End::Halted, _)) => page.form(
                 "<rect class=\"stopmark\" x=\"%\" y=\"%\" width=\"3\" height=\"@\"/>",
                 &[
                     end.saturating_sub(pixels(2)),
-                    self.middle(i)
+                    self.middle(place)
                         .saturating_sub(pixels(self.size.bar) / 2)
                         .saturating_sub(pixels(1)),
                     self.size.bar.saturating_add(2),
@@ -478,7 +478,7 @@ impl<'a> Sheet<'a> {
                 self.cross(
                     page,
                     end,
-                    self.middle(i),
+                    self.middle(place),
                     self.size.bar.saturating_mul(420_000),
                 );
                 behind = end.saturating_add(pixels(8));
@@ -487,7 +487,7 @@ impl<'a> Sheet<'a> {
         }
         page.say("<text class=\"end ");
         page.say(class);
-        page.form("t\" x=\"%\" y=\"%\">", &[behind, self.line(i)]);
+        page.form("t\" x=\"%\" y=\"%\">", &[behind, self.line(place)]);
         // In a picture of many rows the label is far from the bar, so it is written behind that too.
         let is_crowded = self.picture.rows.rows.len() > 60;
         if is_crowded && self.begin(span) > self.gutter.saturating_add(pixels(400)) {
@@ -517,11 +517,11 @@ impl<'a> Sheet<'a> {
     }
 
     // Writes the row of a pruning or an otherwise, at this place: its label, its line, and how it ended.
-    fn side(&self, page: &mut Page, i: usize, row: &Row, span: &Span) {
-        let (begin, end, middle) = (self.begin(span), self.end(span), self.middle(i));
+    fn side(&self, page: &mut Page, place: usize, row: &Row, span: &Span) {
+        let (begin, end, middle) = (self.begin(span), self.end(span), self.middle(place));
         page.form(
             "<text class=\"lab scope\" x=\"%\" y=\"%\">",
-            &[self.indent(row), self.line(i)],
+            &[self.indent(row), self.line(place)],
         );
         page.escaped(row.label.as_str());
         page.say("</text><g>");
@@ -543,13 +543,13 @@ impl<'a> Sheet<'a> {
                 middle.saturating_add(pixels(4)),
             ],
         );
-        self.side_end(page, i, span, end, middle);
+        self.side_end(page, place, span, end, middle);
         say_end(page, span);
         page.say("</text>\n");
     }
 
     // Writes the sign at the end of a pruning or an otherwise, in parts at x and y, and opens the tag of the words behind it, whose class it finds.
-    fn side_end(&self, page: &mut Page, i: usize, span: &Span, x: u64, y: u64) {
+    fn side_end(&self, page: &mut Page, place: usize, span: &Span, x: u64, y: u64) {
         let reach = self.reach();
         let (left, right) = (x.saturating_sub(reach), x.saturating_add(reach));
         let (up, down) = (y.saturating_sub(reach), y.saturating_add(reach));
@@ -597,7 +597,7 @@ impl<'a> Sheet<'a> {
         page.say(class);
         page.form(
             "\" x=\"%\" y=\"%\">",
-            &[x.saturating_add(pixels(gap)), self.line(i)],
+            &[x.saturating_add(pixels(gap)), self.line(place)],
         );
     }
 

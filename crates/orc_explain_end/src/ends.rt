@@ -227,6 +227,7 @@ impl Scene<'_, '_> {
         page.say("\n");
     }
 
+    // When a pending call, by its number from 1, is due.
     fn due(&self, page: &mut Page, call: u64) {
         match self.replay.marked.due(call) {
             Some((_answer, time)) => page.say_number(", due at ", time, ""),
@@ -250,13 +251,13 @@ impl Scene<'_, '_> {
     // How far each of the engine's limits is used up, one of which has cut the run.
     fn room(&self, page: &mut Page, moves: &Moves) {
         match self.replay.frames(self.alloc, self.ended.program) {
-            Ok(frames) => self.taken(page, moves, frames),
+            Ok(frames) => self.limits(page, moves, frames),
             Err(_) => page.refuse(),
         }
     }
 
-    // The lines of that, with the most left sides of `>x>` round one token.
-    fn taken(&self, page: &mut Page, moves: &Moves, frames: u64) {
+    // The lines of that. `frames` is how many left sides of `>x>` are round one token at most.
+    fn limits(&self, page: &mut Page, moves: &Moves, frames: u64) {
         page.note("the engine can hold no more; by the rules it could go on\n");
         page.note("");
         let calls = count_out(&self.replay.calls);
