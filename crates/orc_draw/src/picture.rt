@@ -29,7 +29,7 @@ pub enum Theme {
 pub enum Form {
     /// As SVG, in these colours.
     Svg(Theme),
-    /// As rows of text of about so many columns.
+    /// As rows of text of about so many columns. However few they are, the plot has one of them at least, so that lines may become longer.
     Text(u64),
 }
 

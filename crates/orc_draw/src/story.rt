@@ -25,7 +25,7 @@ pub(crate) struct Moment {
 /// A call that is shown.
 #[derive(Clone, Copy)]
 pub(crate) struct Called {
-    /// Its number in the journal.
+    /// Its number in the journal, from 1.
     pub number: u64,
     /// The place of its entry in the journal, from 0.
     pub at: usize,

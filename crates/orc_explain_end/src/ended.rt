@@ -11,6 +11,7 @@ pub struct Ended<'a> {
     pub program: &'a Program,
     /// The table that answered its calls.
     pub answers: &'a Answers,
+    /// How and when it ended, and how many entries and publications it had.
     pub summary: Summary,
     pub journal: &'a Journal,
 }

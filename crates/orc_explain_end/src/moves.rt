@@ -14,7 +14,7 @@ const KEPT: usize = 4;
 #[derive(Clone, Copy)]
 pub(crate) struct Wait {
     pub cell: u64,
-    /// How many tokens wait for it, and the mark of the first of them, which is the least.
+    /// How many tokens wait for it, and the mark of the first of them, which is the least; 0 where none does.
     pub tokens: u64,
     pub first: u64,
     // The mark of the one that was counted last: a call may wait for one cell in several arguments, and counts once.
@@ -125,6 +125,7 @@ impl Moves {
         Ok(())
     }
 
+    // Counts a token among those that wait for a cell, from 1, unless it was counted already.
     fn wait_for(&mut self, cell: u64, token: u64) {
         let at = (cell as usize).saturating_sub(1);
         if let Some(wait) = self.waits.get_mut(at) {

@@ -23,7 +23,7 @@ pub enum Fault {
     Script(ScriptFault),
     /// Of the journal's text.
     Journal(JournalFault),
-    /// The limit of a run is out of range.
+    /// The limit of a run is out of its range, 1 to `MOST_ENTRIES`.
     Range,
     /// Memory was refused before the run began.
     Begin,

@@ -455,6 +455,7 @@ fn takes(test: Test, line: &Line) -> bool {
 /// A walk over a line, up to the first piece that can't stand where it stands.
 #[derive(Clone, Copy)]
 pub(crate) struct Walk {
+    /// Where it is, and has stopped in the end.
     pub place: Place,
     /// The place before it, if the walk went on from there without a piece (`Test::Else`): what may follow there may follow here too.
     pub before: Option<Place>,

@@ -122,6 +122,7 @@ pub(crate) fn is_in_range(text: &[u8]) -> bool {
 /// A line as its pieces, and the one that is looked at: at first the first one.
 #[derive(Drop)]
 pub struct Line<'a> {
+    /// From left to right, without blanks and the comment.
     pub pieces: Vec<Piece<'a>>,
     // The place of the piece that is looked at.
     at: usize,

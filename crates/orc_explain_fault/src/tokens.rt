@@ -71,7 +71,7 @@ pub(crate) fn say_token(page: &mut Page, document: &Document, token: &Token) {
     page.say_word(before, document.part(token.span), "`");
 }
 
-/// The bytes of the token that begins at a place; the one byte there where none does.
+/// The bytes of the token that begins at a place of a text, from 0; the one byte there where none does, also at the text's end, where there is none.
 pub fn span_at(text: &[u8], at: usize) -> Span {
     if at < text.len() {
         if let Piece::Token(token) = piece_at(text, at) {

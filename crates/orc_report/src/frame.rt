@@ -67,7 +67,7 @@ impl Page {
         self.fill(' ', self.gutter);
     }
 
-    /// Makes room at the left for numbers as wide as this one. It is to be the greatest that is shown.
+    /// Makes room at the left for numbers as wide as this one, which is to be the greatest that is shown. Without it there is room for one digit.
     pub fn widen(&mut self, number: u64) {
         self.gutter = digits(number);
     }
@@ -115,8 +115,8 @@ impl Page {
         }
     }
 
-    /// Writes a line with its number: at most 100 of its columns, behind the `first` ones, which are left out. The byte of the line at `place` is a
-    /// column of its own, even where no character begins.
+    /// Writes a line with its number, from 1: at most 100 of its columns, behind the `first` ones, which are left out. The byte of the line at
+    /// `place`, from 0, is a column of its own, even where no character begins.
     pub fn row(&mut self, number: u64, line: &[u8], first: u64, place: usize) {
         self.fill(' ', self.gutter.saturating_sub(digits(number)));
         self.number(number);

@@ -12,11 +12,13 @@ pub enum Fill<'a> {
     Word(&'a [u8]),
     /// The name of a file.
     Path(&'a str),
+    /// A number in decimal.
     Number(u64),
     /// A number below a million, with a comma behind its thousands.
     Grouped(u64),
     /// A number of things: their name takes an `s` but for one of them.
     Count(u64, &'a str),
+    /// A value as programs write it.
     Value(Value),
     /// A call's values in their brackets.
     Values(&'a [Value]),
@@ -27,8 +29,7 @@ pub enum Fill<'a> {
 }
 
 impl Page {
-    /// Writes a sentence in ASCII, with the next fill in place of each `%`. A `%` without a fill is left out, and so is a fill
-    /// without a `%`.
+    /// Writes a sentence in ASCII, with the next fill in place of each `%`. A `%` without a fill is left out, and so is a fill without a `%`.
     pub fn tell(&mut self, sentence: &str, fills: &[Fill]) {
         let mut next: usize = 0;
         for byte in sentence.as_bytes() {

@@ -95,7 +95,7 @@ impl Trail {
         self.others.contains_key(&mark)
     }
 
-    /// The step of this number. None for the whole.
+    /// The step with this number, from 1. None for 0, which is the whole term, and where there is no such step.
     pub fn step(&self, number: usize) -> Option<Step> {
         self.steps.get(number.checked_sub(1)?).copied()
     }
