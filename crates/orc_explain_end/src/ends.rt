@@ -85,7 +85,7 @@ impl Scene<'_, '_> {
 
     // The line of the script that says never. No built-in site does.
     fn never(&self, page: &mut Page, call: Made, lines: &ScriptLines) {
-        if let Some(Entry::Call(_, _, site, args)) = self.journal.get(call.entry) {
+        if let Some(Entry::Call(_, _, site, args)) = self.ended.journal.get(call.entry) {
             let name = name_of(self.ended.answers, site);
             if let Some(place) = lines.first(name, args.as_slice()) {
                 page.say_number(": line ", lines.number(place), " of the script says never");
@@ -329,7 +329,7 @@ fn end_of(
     ast: &Ast,
     sketch: &Sketch,
 ) -> Result<String, AllocError> {
-    let mut replay = Replay::new(alloc, ended, sketch, ended.journal)?;
+    let mut replay = Replay::new(alloc, ended, sketch)?;
     let moves = Moves::new(alloc, ended.program, &mut replay)?;
     let scene = Scene {
         alloc,
@@ -337,7 +337,6 @@ fn end_of(
         ended,
         sketch,
         definitions: ast.definitions.as_slice(),
-        journal: ended.journal,
         replay: &replay,
     };
     let mut page = Page::new(alloc);

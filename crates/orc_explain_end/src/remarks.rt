@@ -218,7 +218,7 @@ impl Remarks {
         made: Made,
         number: u64,
     ) -> Result<(), AllocError> {
-        let Some(Entry::Call(_, _, site, args)) = scene.journal.get(made.entry) else {
+        let Some(Entry::Call(_, _, site, args)) = scene.ended.journal.get(made.entry) else {
             return Ok(());
         };
         let name = name_of(scene.ended.answers, site);
@@ -358,7 +358,7 @@ impl Scene<'_, '_> {
 
     // What a call's site takes.
     fn site_takes(&self, page: &mut Page, entry: usize) {
-        if let Some(Entry::Call(_, _, site, args)) = self.journal.get(entry) {
+        if let Some(Entry::Call(_, _, site, args)) = self.ended.journal.get(entry) {
             let name = name_of(self.ended.answers, site);
             page.say_word("`", name, "` takes ");
             page.say(wanted(name, args.as_slice()).unwrap_or("other values"));
@@ -368,7 +368,7 @@ impl Scene<'_, '_> {
     // That no line answers the call of an entry; and the line that is nearest to it, and why that doesn't.
     fn no_line(&self, page: &mut Page, entry: usize, lines: &ScriptLines) {
         page.say("no line of the script answers it");
-        if let Some(Entry::Call(_, _, site, args)) = self.journal.get(entry) {
+        if let Some(Entry::Call(_, _, site, args)) = self.ended.journal.get(entry) {
             let name = name_of(self.ended.answers, site);
             if let Some(line) = nearest(lines, name, args.as_slice()) {
                 missed(page, lines, &line, args.as_slice());
@@ -378,7 +378,7 @@ impl Scene<'_, '_> {
 
     // Why a call halted that its site could answer: its line of the script says so, or the built-in site does.
     fn halting(&self, page: &mut Page, entry: usize, lines: &ScriptLines) {
-        if let Some(Entry::Call(_, _, site, args)) = self.journal.get(entry) {
+        if let Some(Entry::Call(_, _, site, args)) = self.ended.journal.get(entry) {
             let name = name_of(self.ended.answers, site);
             match lines.first(name, args.as_slice()) {
                 Some(place) => {
@@ -475,7 +475,7 @@ impl Scene<'_, '_> {
     // Whether the run called a site of this name.
     fn is_called(&self, name: &[u8]) -> bool {
         for made in &self.replay.calls {
-            if let Some(Entry::Call(_, _, site, _)) = self.journal.get(made.entry) {
+            if let Some(Entry::Call(_, _, site, _)) = self.ended.journal.get(made.entry) {
                 if name_of(self.ended.answers, site) == name {
                     return true;
                 }

@@ -5,7 +5,6 @@
 use crate::ended::Ended;
 use orc_checker::Marked;
 use orc_env::{Bound, meaning};
-use orc_journal::Journal;
 use orc_rules::entry::Entry;
 use orc_rules::param::{Operand, Param};
 use orc_rules::program::{Program, TermNode};
@@ -87,12 +86,11 @@ const NO_TOKEN: Token = Token {
 };
 
 impl<'a> Replay<'a> {
-    /// The run of a journal. The error is refused memory, or an entry that the rules refuse, which no run's journal has.
+    /// Follows a run by its journal to its end. The error is refused memory, or an entry that the rules refuse, which no run's journal has.
     pub(crate) fn new(
         alloc: Global,
         ended: &Ended,
         sketch: &Sketch<'a>,
-        journal: &Journal,
     ) -> Result<Replay<'a>, AllocError> {
         let mut replay = Replay {
             // An engine records the cancels of a bind.
@@ -104,19 +102,14 @@ impl<'a> Replay<'a> {
             other_losses: 0,
             definitions: 0,
         };
-        replay.read(ended, sketch, journal)?;
+        replay.read(ended, sketch)?;
         Ok(replay)
     }
 
     // Follows all entries. What an entry says of its token is noted before the trail takes the token away.
-    fn read(
-        &mut self,
-        ended: &Ended,
-        sketch: &Sketch<'a>,
-        journal: &Journal,
-    ) -> Result<(), AllocError> {
-        for at in 0..journal.len() {
-            let Some(entry) = journal.get(at) else {
+    fn read(&mut self, ended: &Ended, sketch: &Sketch<'a>) -> Result<(), AllocError> {
+        for at in 0..ended.journal.len() {
+            let Some(entry) = ended.journal.get(at) else {
                 return Ok(());
             };
             // Before the step, which takes the token from the term.

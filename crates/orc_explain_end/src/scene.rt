@@ -6,7 +6,6 @@
 use crate::ended::Ended;
 use crate::replay::Replay;
 use orc_explain_fault::span_at;
-use orc_journal::Journal;
 use orc_journal_text::{has_line, write_entry};
 use orc_outcome::{End, Summary};
 use orc_report::{Page, Subject};
@@ -21,7 +20,7 @@ use std::alloc::Global;
 /// How many columns of a part of the source are shown.
 const TERM: usize = 28;
 
-/// A run that has ended, replayed, with all that an explanation reads. `journal` is that of `ended`.
+/// A run that has ended, replayed, with all that an explanation reads.
 #[derive(Clone, Copy)]
 pub(crate) struct Scene<'s, 'a> {
     pub alloc: Global,
@@ -29,7 +28,6 @@ pub(crate) struct Scene<'s, 'a> {
     pub ended: &'s Ended<'s>,
     pub sketch: &'s Sketch<'a>,
     pub definitions: &'s [Definition<'a>],
-    pub journal: &'s Journal,
     pub replay: &'s Replay<'a>,
 }
 
@@ -95,7 +93,7 @@ impl Scene<'_, '_> {
 
     /// A call that was made, as `NAME(a, b)`, by the place of its entry.
     pub(crate) fn call(&self, page: &mut Page, entry: usize) {
-        if let Some(Entry::Call(_, _, site, args)) = self.journal.get(entry) {
+        if let Some(Entry::Call(_, _, site, args)) = self.ended.journal.get(entry) {
             page.word(name_of(self.ended.answers, site));
             page.values(args.as_slice());
         }
