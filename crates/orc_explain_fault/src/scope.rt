@@ -110,7 +110,7 @@ fn has_wide_call(expression: &Expr) -> bool {
 }
 
 // Whether a call or a definition has too many arguments or parameters.
-fn has_many(ast: &Ast) -> bool {
+fn has_too_many(ast: &Ast) -> bool {
     for definition in &ast.definitions {
         if definition.parameters.len() > MOST_ARGUMENTS || has_wide_call(&definition.body) {
             return true;
@@ -208,7 +208,7 @@ fn say_name(page: &mut Page, alloc: Global, subject: &Subject, ast: &Ast, fault:
         FaultKind::CallOfVariable => say_call_of_variable(page, alloc, document, ast, name, at),
         FaultKind::NoSite => say_no_site(page, alloc, subject, ast, name, at),
         // `say_scope` took refused memory.
-        FaultKind::TooMany | FaultKind::Memory => say_too_many(page, has_many(ast)),
+        FaultKind::TooMany | FaultKind::Memory => say_too_many(page, has_too_many(ast)),
     }
 }
 
