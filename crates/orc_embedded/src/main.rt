@@ -11,7 +11,7 @@ use orc_load::{Loaded, load};
 use orc_outcome::Played;
 use orc_rules::value::Value;
 use orc_site::Open;
-use orc_workers::{EngineFault, run_pool};
+use orc_workers::{EngineFault, RunOptions, run_pool};
 use std::alloc::Global;
 use std::sync::Wait;
 use std::sync::atomic::{AtomicU64, Ordering};
@@ -37,6 +37,11 @@ fn run<R: Threads + Wait + Sync>(
     loaded: &Loaded,
     office: &Office<'_, R>,
 ) -> Result<Played, EngineFault> {
+    let options = RunOptions {
+        workers: WORKERS,
+        keeps: true,
+        limit: LIMIT,
+    };
     let played = run_pool(
         rt,
         alloc,
@@ -44,9 +49,7 @@ fn run<R: Threads + Wait + Sync>(
         &loaded.answers,
         office,
         &Open,
-        WORKERS,
-        true,
-        LIMIT,
+        options,
     );
     let _ = office.jobs.send(rt, None);
     played

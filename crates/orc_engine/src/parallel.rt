@@ -57,6 +57,17 @@ const TIMES_MEAN: usize = 8;
 /// The most entries of any run that is made apart.
 const MOST_RUN_ENTRIES: usize = 1_000_000;
 
+/// The threads that make a run.
+#[derive(Drop)]
+pub(crate) struct WorkerThreads<'c, R> {
+    /// The runtime starts them.
+    rt: &'c R,
+    /// They take memory from this allocator.
+    alloc: Global,
+    /// How many run calls of definitions, at least 1. The calling thread is one of them where it has nothing to take in.
+    workers: usize,
+}
+
 /// What calls of definitions came to that were run side by side.
 #[derive(Clone, Copy)]
 enum Trial {
@@ -122,30 +133,20 @@ pub fn run_parallel<R: Threads + Sync>(
     let Ok(graph) = Graph::build(alloc, program) else {
         return Err(EngineFault::Memory);
     };
-    run_graph(
-        rt,
-        alloc,
-        program,
-        &graph,
-        answers,
-        workers,
-        keeps,
-        limit as usize,
-    )
+    let threads = WorkerThreads { rt, alloc, workers };
+    run_graph(&threads, program, &graph, answers, keeps, limit as usize)
 }
 
 /// Runs a program whose graph is built, as [`run_parallel`] does, with a limit and workers in range.
 pub(crate) fn run_graph<R: Threads + Sync>(
-    rt: &R,
-    alloc: Global,
+    threads: &WorkerThreads<'_, R>,
     program: &Program,
     graph: &Graph,
     answers: &Answers,
-    workers: usize,
     keeps: bool,
     limit: usize,
 ) -> Result<Played, EngineFault>
-    requires workers { 1 ≤ workers }
+    requires workers { 1 ≤ threads.now.workers }
     requires limit { (1 ≤ limit) × (limit ≤ MOST_ENTRIES) }
     requires graph { graph.now ≡ program.now }
     ensures played { IfOk result (λ p. IsPlayed program.now answers.now limit p.summary p.published.items p.journal) }
@@ -154,14 +155,14 @@ pub(crate) fn run_graph<R: Threads + Sync>(
     ensures sound { IfErr result (λ fault. IsOwn fault → IsProgram (definitions program.now) (source program.now) → ⊥) }
 {
     if !keeps {
-        match run_named::<Brand, R>(rt, alloc, program, graph, answers, workers, false, limit) {
+        match run_named::<Brand, R>(threads, program, graph, answers, false, limit) {
             Ok(Some(played)) => return Ok(played),
             Ok(None) => {}
             Err(fault) => return Err(fault),
         }
     }
     // How the run ends can't be told without its journal, or the journal is wanted.
-    match run_named::<Brand, R>(rt, alloc, program, graph, answers, workers, true, limit) {
+    match run_named::<Brand, R>(threads, program, graph, answers, true, limit) {
         Ok(Some(played)) => Ok(played),
         // By the clause *kept* a run that keeps its journal is always told of.
         Ok(None) => unreachable!(),
@@ -172,19 +173,17 @@ pub(crate) fn run_graph<R: Threads + Sync>(
 // Runs a program whose graph is built, with its journal or only its number of entries. None where that isn't enough to tell how the run ends. P names
 // the run, whose program and sites the caller picks.
 fn run_named<P, R>(
-    rt: &R,
-    alloc: Global,
+    threads: &WorkerThreads<'_, R>,
     program: &Program,
     graph: &Graph,
     answers: &Answers,
-    workers: usize,
     keeps: bool,
     limit: usize,
 ) -> Result<Option<Played>, EngineFault>
 where
     P: Run + Send + Sync,
     R: Threads + Sync,
-    requires workers { 1 ≤ workers }
+    requires workers { 1 ≤ threads.now.workers }
     requires limit { (1 ≤ limit) × (limit ≤ MOST_ENTRIES) }
     requires named { limit ≡ P.limit }
     requires program { program.now ≡ P.listing }
@@ -196,19 +195,20 @@ where
     ensures range { IfErr result (λ fault. fault ≡ EngineFault.Range → ⊥) }
     ensures sound { IfErr result (λ fault. IsOwn fault → IsProgram (definitions program.now) (source program.now) → ⊥) }
 {
+    let WorkerThreads { rt, alloc, workers } = *threads;
     let Ok(ledger) = Ledger::<P>::begin(alloc, keeps, limit, graph.root()) else {
         return Err(EngineFault::Memory);
     };
     let mut scheduler = Scheduler::new(alloc, ledger, keeps);
     let inputs = Inputs::new(graph, answers);
-    let crew = ParallelRun::<P, R> {
+    let run = ParallelRun::<P, R> {
         rt,
         alloc,
         inputs: &inputs,
         workers,
         keeps,
     };
-    let stop = crew.play(&mut scheduler);
+    let stop = run.play(&mut scheduler);
     scheduler.finish(program, &inputs, stop)
 }
 

@@ -12,7 +12,7 @@ use orc_outcome::Played;
 use orc_rules::answers::Answers;
 use orc_rules::program::Program;
 use orc_site::{Gate, Scripted};
-use orc_workers::run_pool;
+use orc_workers::{RunOptions, run_pool};
 use std::alloc::Global;
 use std::sync::Wait;
 use std::thread::Threads;
@@ -50,9 +50,12 @@ pub(crate) fn run_unordered<R: Threads + Wait + Sync>(
     ensures sound { IfErr result (λ fault. IsOwn fault → IsProgram (definitions program.now) (source program.now) → ⊥) }
 {
     let sites = Scripted::new(answers);
-    match run_pool(
-        rt, alloc, program, answers, &sites, &Unheld, workers, keeps, limit,
-    ) {
+    let options = RunOptions {
+        workers,
+        keeps,
+        limit,
+    };
+    match run_pool(rt, alloc, program, answers, &sites, &Unheld, options) {
         Ok(played) => Ok(played),
         Err(EngineFault::Broken | EngineFault::Site(_)) => {
             run_alone(alloc, program, answers, None, keeps, limit)

@@ -5,7 +5,7 @@ use orc_outcome::{End, Played};
 use orc_rules::value::Value;
 use orc_site::{Gate, Sites};
 use orc_verdict::check_journal;
-use orc_workers::{EngineFault, run_pool};
+use orc_workers::{EngineFault, RunOptions, run_pool};
 use std::alloc::Global;
 use std::sync::Wait;
 use std::thread::Threads;
@@ -173,7 +173,10 @@ where
     G: Gate + Sync,
 {
     let (program, answers) = (&loaded.program, &loaded.answers);
-    run_pool(
-        rt, alloc, program, answers, sites, gate, workers, true, 100_000,
-    )
+    let options = RunOptions {
+        workers,
+        keeps: true,
+        limit: 100_000,
+    };
+    run_pool(rt, alloc, program, answers, sites, gate, options)
 }

@@ -2,7 +2,7 @@
 //! the run with the fault `Site` of that call (E5).
 
 use crate::gates::{Board, Hold, Manner, Noting, Odd, Slow, Turnstile, Twist, Twisted};
-use crate::pools::{is_accepted, play};
+use crate::pools::{is_accepted, keeping, play};
 use orc_journal::Journal;
 use orc_load::load;
 use orc_outcome::{End, Played};
@@ -32,9 +32,8 @@ fn by_twisted<R: Threads + Wait + Sync, G: Gate + Sync>(
         twist,
     };
     let (program, answers) = (&loaded.program, &loaded.answers);
-    Some(run_pool(
-        rt, alloc, program, answers, &sites, gate, workers, true, 1000,
-    ))
+    let options = keeping(workers, 1000);
+    Some(run_pool(rt, alloc, program, answers, &sites, gate, options))
 }
 
 // Programs, and how the answer to their call is one to another call.
@@ -72,9 +71,8 @@ fn by_odd<R: Threads + Wait + Sync>(
         manner,
     };
     let (program, answers) = (&loaded.program, &loaded.answers);
-    Some(run_pool(
-        rt, alloc, program, answers, &sites, &Open, workers, true, 100,
-    ))
+    let options = keeping(workers, 100);
+    Some(run_pool(rt, alloc, program, answers, &sites, &Open, options))
 }
 
 const SILENT: [(&[u8], Manner); 6] = [
@@ -146,10 +144,8 @@ fn noted<R: Threads + Wait + Sync>(
         answers_late,
     };
     let (program, answers) = (&loaded.program, &loaded.answers);
-    run_pool(
-        rt, alloc, program, answers, &sites, &sites, workers, true, 100_000,
-    )
-    .ok()
+    let options = keeping(workers, 100_000);
+    run_pool(rt, alloc, program, answers, &sites, &sites, options).ok()
 }
 
 // Whether a run halts, its journal is accepted, and its sites get each call and cancel.

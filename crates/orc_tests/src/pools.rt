@@ -10,11 +10,20 @@ use orc_rules::entry::State;
 use orc_rules::value::Value;
 use orc_site::{Gate, Open, Scripted};
 use orc_verdict::check_journal;
-use orc_workers::{EngineFault, run_pool};
+use orc_workers::{EngineFault, RunOptions, run_pool};
 use std::alloc::Global;
 use std::sync::Wait;
 use std::test::Fail;
 use std::thread::Threads;
+
+/// How a run is made that keeps its journal.
+pub(crate) fn keeping(workers: usize, limit: u64) -> RunOptions {
+    RunOptions {
+        workers,
+        keeps: true,
+        limit,
+    }
+}
 
 /// A run by sites that the table answers.
 pub(crate) fn play<R: Threads + Wait + Sync, G: Gate + Sync>(
@@ -33,9 +42,7 @@ pub(crate) fn play<R: Threads + Wait + Sync, G: Gate + Sync>(
         &loaded.answers,
         &sites,
         gate,
-        workers,
-        true,
-        limit,
+        keeping(workers, limit),
     )
 }
 
@@ -296,10 +303,12 @@ fn published_when_held<R: Threads + Wait + Sync>(
         twist: Twist::Held(&gate),
     };
     let (program, answers) = (&loaded.program, &loaded.answers);
-    let played = run_pool(
-        rt, alloc, program, answers, &sites, &Open, workers, false, 1000,
-    )
-    .ok()?;
+    let options = RunOptions {
+        workers,
+        keeps: false,
+        limit: 1000,
+    };
+    let played = run_pool(rt, alloc, program, answers, &sites, &Open, options).ok()?;
     if gate.held_all() && played.summary.end == End::Halted {
         Some(played.summary.published)
     } else {

@@ -20,4 +20,4 @@ mod stopper;
 mod worker;
 
 pub use orc_scheduler::EngineFault;
-pub use pool::run_pool;
+pub use pool::{RunOptions, run_pool};

@@ -41,11 +41,22 @@ const WORDS: u32 = 2 * MOST_GROUPS as u32;
 /// The passes of each worker: more than the entries of a run take. With those of 16 workers they are fewer than 2^31, as `Unnamed::new` asks.
 const PASSES: u32 = 4 * MOST_ENTRIES as u32;
 
-/// Runs a program on the calling thread and `workers - 1` more, which hold its tokens; one that can't be started is left out. What is run and what it
-/// answers is as of [`run_alone`](orc_engine::run_alone), whatever the workers do when.
+/// How a run is made.
+#[derive(Clone, Copy)]
+pub struct RunOptions {
+    /// How many threads hold the run's tokens, 1 to `MOST_WORKERS`. The calling thread is one of them.
+    pub workers: usize,
+    /// Whether the caller wants the run's journal.
+    pub keeps: bool,
+    /// The most entries that the journal may have, 1 to `MOST_ENTRIES`, cancels not counted.
+    pub limit: u64,
+}
+
+/// Runs a program on the calling thread and `options.workers - 1` more, which hold its tokens; one that can't be started is left out. What is run and
+/// what it answers is as of [`run_alone`](orc_engine::run_alone), whatever the workers do when.
 ///
 /// Each call goes through `gate`, is made by `sites` and polled outside every lock; and `sites` is told which ones are cancelled. The journal is kept
-/// then, whatever `keeps` says. Where the sites go by the table and the gate is open, nobody is asked, and it is a run of
+/// then, whatever `options.keeps` says. Where the sites go by the table and the gate is open, nobody is asked, and it is a run of
 /// [`run_parallel`](orc_engine::run_parallel).
 ///
 /// The fault is Range where there are no workers or over `MOST_WORKERS`, or the limit is 0 or over `MOST_ENTRIES`, and then alone; Site where the
@@ -58,20 +69,23 @@ pub fn run_pool<R, S, G>(
     answers: &Answers,
     sites: &S,
     gate: &G,
-    workers: usize,
-    keeps: bool,
-    limit: u64,
+    options: RunOptions,
 ) -> Result<Played, EngineFault>
 where
     R: Threads + Wait + Sync,
     S: Sites + Sync,
     S::Call: Send,
     G: Gate + Sync,
-    ensures played { IfOk result (λ p. IsPlayed program.now answers.now limit p.summary p.published.items p.journal) }
-    ensures kept { IfOk result (λ p. keeps ≡ true → is_some p.journal ≡ true) }
-    ensures range { result ≡ Err EngineFault.Range ↔ (IsInRange workers limit → ⊥) }
+    ensures played { IfOk result (λ p. IsPlayed program.now answers.now options.limit p.summary p.published.items p.journal) }
+    ensures kept { IfOk result (λ p. options.keeps ≡ true → is_some p.journal ≡ true) }
+    ensures range { result ≡ Err EngineFault.Range ↔ (IsInRange options.workers options.limit → ⊥) }
     ensures sound { S.by_table sites.now → G.holds_nobody gate.now → IfErr result (λ fault. IsOwn fault → IsProgram (definitions program.now) (source program.now) → ⊥) }
 {
+    let RunOptions {
+        workers,
+        keeps,
+        limit,
+    } = options;
     if workers < 1 || workers > MOST_WORKERS || limit < 1 || limit > MOST_ENTRIES {
         return Err(EngineFault::Range);
     }
