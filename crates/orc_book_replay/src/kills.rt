@@ -2,6 +2,7 @@
 
 ghost use Rattle.std.specs.Prelude.{◌≡◌, ◌≤◌, true};
 
+use crate::refusals::prunes_not;
 use crate::replay::Replay;
 use crate::rows::{enter_all, has_written, so};
 use crate::setup::Setup;
@@ -11,8 +12,8 @@ use orc_rules::value::{Answer, Value};
 use orc_word::{Bit, Naming, Pass};
 use std::alloc::Global;
 
-// Leaves a pass that isn't the last one to its group.
-fn leave_one<P: Run + Naming>(
+/// Leaves a pass that isn't the last one to its group.
+pub(crate) fn leave_one<P: Run + Naming>(
     setup: &Setup<'_, P>,
     replay: &mut Replay<P>,
     pass: Pass<P>,
@@ -144,7 +145,7 @@ pub(crate) fn keeps_words_of_the_killed<P: Run + Naming>(
     replay.wake(1).ok()?;
     enter_all(setup, &mut replay, "send 3 5 1\n")?;
     let token = replay.take_token(5)?;
-    let token = is_full(setup, &mut replay, token)?;
+    let token = prunes_not(setup, &mut replay, token, BookFault::Full)?;
     so(replay.book.dying() == 1 && leave.len() == 1)?;
     let pass = leave.pop()?;
     match leave_last(setup, &mut replay, pass, &mut leave)? {
@@ -156,29 +157,6 @@ pub(crate) fn keeps_words_of_the_killed<P: Run + Naming>(
     enter_all(setup, &mut replay, "open 5 2 6 7\n")?;
     let lines = "seq 1 2\nopen 2 1 3 4\nbind 4 1 1\nsend 3 5 1\nopen 5 2 6 7\n";
     has_written(alloc, setup, replay, lines)
-}
-
-// A token's pruning is refused as Full. Gives the token.
-fn is_full<P: Run + Naming>(
-    setup: &Setup<'_, P>,
-    replay: &mut Replay<P>,
-    token: Token<P>,
-) -> Option<Token<P>> {
-    let same = replay.passes.same(setup.groups, &token.pass)?;
-    let idle = replay.passes.idle(setup.groups)?;
-    match replay
-        .book
-        .prune(setup.groups, setup.inputs, token, same, idle)
-    {
-        Ok(_) => None,
-        Err(refused) => {
-            let (token, same, idle) = refused.back;
-            so(refused.why == BookFault::Full)?;
-            leave_one(setup, replay, same)?;
-            leave_one(setup, replay, idle)?;
-            Some(token)
-        }
-    }
 }
 
 /// A token that was out in a killed group is refused as Gone, and comes back with its pass. The group's word stays taken until that pass is left.

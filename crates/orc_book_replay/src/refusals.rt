@@ -2,7 +2,7 @@
 
 ghost use Rattle.std.specs.Prelude.{◌≡◌, ◌≤◌, true};
 
-use crate::kills::leave_last;
+use crate::kills::{leave_last, leave_one};
 use crate::replay::Replay;
 use crate::rows::{enter_all, has_written, so};
 use crate::setup::Setup;
@@ -140,7 +140,7 @@ fn forks_not<P: Run + Naming>(
         Ok(_) => None,
         Err(refused) => {
             let (token, same) = refused.back;
-            so(!replay.passes.leave(setup.groups, same).ok()?)?;
+            leave_one(setup, replay, same)?;
             wrong(refused.why, token)
         }
     }
@@ -168,11 +168,12 @@ pub(crate) fn refuses_other_moves<P: Run + Naming>(
     has_written(alloc, setup, replay, "seq 1 2\n")
 }
 
-// The book refuses a pruning as Live if a pass that no record has names the word that it would take. Gives the token back.
-fn is_named<P: Run + Naming>(
+/// The book refuses a token's pruning for this reason, and gives back all that it was lent. Gives the token back.
+pub(crate) fn prunes_not<P: Run + Naming>(
     setup: &Setup<'_, P>,
     replay: &mut Replay<P>,
     token: Token<P>,
+    why: BookFault,
 ) -> Option<Token<P>> {
     let same = replay.passes.same(setup.groups, &token.pass)?;
     let idle = replay.passes.idle(setup.groups)?;
@@ -183,9 +184,9 @@ fn is_named<P: Run + Naming>(
         Ok(_) => None,
         Err(refused) => {
             let (token, same, idle) = refused.back;
-            so(refused.why == BookFault::Live && idle.group().is_none())?;
-            so(!replay.passes.leave(setup.groups, same).ok()?)?;
-            so(!replay.passes.leave(setup.groups, idle).ok()?)?;
+            so(refused.why == why && idle.group().is_none())?;
+            leave_one(setup, replay, same)?;
+            leave_one(setup, replay, idle)?;
             Some(token)
         }
     }
@@ -204,7 +205,7 @@ pub(crate) fn refuses_words_that_are_named<P: Run + Naming>(
     let idle = replay.passes.idle(setup.groups)?;
     let stranger = setup.groups.open(idle, 1).ok()?;
     let token = replay.take_token(1)?;
-    let token = is_named(setup, &mut replay, token)?;
+    let token = prunes_not(setup, &mut replay, token, BookFault::Live)?;
     so(replay.book.entries() == 0)?;
     so(replay.passes.leave(setup.groups, stranger).ok()?)?;
     let mut leave = Vec::new(alloc);
