@@ -10,12 +10,12 @@ use Rattle.orc_rules.specs.Nodes.{Listing, Routine}
 abbrev pub with_call : Listing → ℕ → List Value → Listing
 with_call l e args = record { nodes = l.nodes ++ Call e (length l.lists) ∷ []; lists = l.lists ++ map Is args ∷ []; routines = l.routines; root = length l.nodes }
 
--- the list that a node names is one of so many
+-- a call's list of operands is one of the n lists; another node names no list
 abbrev pub HasList : ℕ → TermNode → Type 0
 HasList n (Site m l) = l < n
 HasList n (Call e l) = l < n
 HasList n _ = Unit {0}
 
--- the body of a definition is one of so many nodes
+-- the body of a definition is one of the n nodes
 abbrev pub HasBody : ℕ → Routine → Type 0
 HasBody n r = r.body < n

@@ -1,4 +1,4 @@
--- The node of a program that a graph's node is.
+-- Which node of a program a graph's node means.
 use Rattle.orc_rules.specs.declared.param.Operand.TheVariants as operand
 use Rattle.orc_rules.specs.declared.program.TermNode.{TermNode}
 use Rattle.orc_rules.specs.declared.program.TermNode.TheVariants as term

@@ -9,7 +9,7 @@ use Rattle.orc_graph.specs.declared.numbers.Range.{Range}
 abbrev pub cut : {X : Type 0} → List X → Range → List X
 cut xs r = slice_range xs r.start r.end
 
--- each range ends within so many items, and has no more of them than a call has arguments
+-- each range lies within the first n items, and has at most as many items as a call has arguments
 abbrev pub AreWithin : ℕ → List Range → Type 0
 AreWithin n [] = Unit {0}
 AreWithin n (r ∷ rs) = (r.start ≤ r.end) × (r.end ≤ n) × (r.end ≤ r.start + MOST_ARGUMENTS) × AreWithin n rs

@@ -1,4 +1,4 @@
-//! The definitions of a graph. The parameters of all of them are in one list, one definition's behind another's.
+//! The definitions of a graph. One list holds the parameters of all definitions, one after another; each definition notes its range in that list.
 
 ghost use Rattle.std.specs.Prelude.{◌≡◌, ◌++◌, ◌∷◌, [], length, map, slice_get, option_map, true, MatchOption, IfOk, OnOk};
 ghost use Rattle.std.specs.List.{AllByRecursion};
@@ -9,7 +9,7 @@ use crate::numbers::{GraphFault, Range, copied, part, place, put, short};
 use std::alloc::Global;
 use std::marker::Model;
 
-/// A definition: where its parameters are among those of all, and the node of its body.
+/// A definition: the range of its parameters in `Definitions::names`, and the node of its body.
 #[derive(Clone, Copy)]
 pub(crate) struct Body {
     pub(crate) params: Range,
@@ -36,7 +36,7 @@ impl Model for Definitions {
     ghost invariant = { λ d. AreInside (length d.names.items) d.bodies.items };
 }
 
-// The definition of that number.
+// The definition with this number, if there is one.
 fn body_at(bodies: &Vec<Body>, number: usize) -> Option<Body>
     ensures { result ≡ slice_get bodies.now.items number }
 {

@@ -57,7 +57,7 @@ impl Drop for Graph {
     }
 }
 
-// A node of a program with its numbers in 32 bits. `Memory` where one takes more.
+// Converts a node of a program to a graph's node, whose numbers have 32 bits. `Memory` if a number takes more.
 fn short_node(node: TermNode) -> Result<Node, GraphFault>
     ensures { IfOk result (λ short. term_node short ≡ node) }
 {
@@ -117,7 +117,7 @@ fn operands_of(values: &[Value]) -> Operands
     operands
 }
 
-// Whether the list that a node names is one of so many.
+// Whether a call's list of operands is there, if the graph has `lists` lists. True for a node that is no call.
 fn has_list(node: Node, lists: usize) -> bool
     ensures { result ≡ true → HasList lists (term_node node) }
 {
@@ -135,7 +135,7 @@ impl Graph {
         ensures why { IfErr result (λ fault. fault ≡ GraphFault.Memory) }
     {
         let root = short(program.source())?;
-        // A law of programs, for the prover; nothing runs. The graph's invariant says the same.
+        // For the prover alone, nothing runs: each node of a program stands behind its parts. The graph's invariant says the same.
         program.are_parts_first();
         let nodes = short_nodes(alloc, program)?;
         let lists = lists_of(alloc, program)?;
@@ -161,9 +161,9 @@ impl Graph {
         true
     }
 
-    /// A copy of the graph whose main term is the call of that definition with these values: one node and one list more, behind the others.
-    /// `Memory` is the only fault: memory was refused, or a number would take more than 32 bits. It also stands for a graph in which a node names a
-    /// list that isn't there, or a definition a body that isn't, since what is added could be taken for those; no checked program has such a graph.
+    /// A copy of the graph whose main term is the call of that definition with these values: one node and one list more, behind the others. `Memory`
+    /// is the only fault: memory was refused, or a number would take more than 32 bits. `Memory` is also the answer for a graph in which a node
+    /// names a missing list, or a definition a missing body, since the new list or node would take that number. No checked program has such a graph.
     pub fn for_call(
         &self,
         alloc: Global,
@@ -219,7 +219,7 @@ impl Graph {
         let _nodes = &self.nodes;
     }
 
-    /// The node of that number, `stop` where there is none: its term is made of those of its parts.
+    /// The node with this number, or `stop` if there is none. `term` says that the node's term consists of the terms of its parts.
     pub fn node(&self, id: usize) -> Node
         ensures node { term_node result ≡ node_of self.now.nodes id }
         ensures term { code self.now id ≡ unfold_node (code self.now) self.now.lists (term_node result) }

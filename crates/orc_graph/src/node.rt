@@ -2,9 +2,10 @@
 
 use orc_rules::value::Value;
 
-/// A node of a program's terms. Its parts are nodes, named by their numbers from 0; its operands, if it is a call, are a list, named by its number.
+/// A node of a program's terms. It names its parts by the numbers of their nodes, from 0, and a call's operands by the number of their list.
 #[derive(Clone, Copy, Debug, PartialEq, Eq)]
 pub enum Node {
+    /// `stop`.
     Stop,
     /// A variable, by the number of its name.
     Name(u32),

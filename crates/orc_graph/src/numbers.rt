@@ -1,4 +1,4 @@
-//! The numbers of a graph, of 32 bits each, ranges of a list, and lists that grow.
+//! Helpers for the lists of a graph: numbers of 32 bits, ranges, and lists that grow or are copied.
 
 ghost use Rattle.orc_graph.specs.Ranges.{cut};
 ghost use Rattle.std.specs.Prelude.{◌≡◌, ◌++◌, ◌∷◌, ◌+◌, ◌≤◌, [], length, IfOk, OnOk, if◌then◌else◌, is_ok};
@@ -12,7 +12,7 @@ pub enum GraphFault {
     Memory,
 }
 
-/// Where a list is in a longer one: from place `start`, from 0, up to place `end`, which isn't in it.
+/// A range of a list: from place `start`, counted from 0, up to but without place `end`.
 #[derive(Clone, Copy)]
 pub(crate) struct Range {
     pub(crate) start: u32,

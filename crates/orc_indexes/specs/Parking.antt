@@ -8,7 +8,7 @@ pub record Parked : Type 0 where
   pub flags : List Bool
   pub notes : List (List Note)
 
--- the token in this slot is known to wait; a slot without a flag holds none
+-- the token in this slot is known to wait; false for a slot without a flag
 abbrev pub is_set : List Bool → ℕ → Bool
 is_set flags slot = slice_index_or flags slot false
 
@@ -16,7 +16,7 @@ is_set flags slot = slice_index_or flags slot false
 abbrev pub notes_at : List (List Note) → ℕ → List Note
 notes_at notes cell = slice_index_or notes cell []
 
--- how many flags are set
+-- 1 for a set flag, else 0: `weight one flags` is how many flags are set
 abbrev pub one : Bool → ℕ
 one b = cond b 1 0
 

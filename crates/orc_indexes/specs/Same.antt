@@ -10,11 +10,11 @@ weight w (x ∷ xs) = w x + weight w xs
 abbrev pub Same : {X : Type 0} → List X → List X → Type 0
 Same {X} xs ys = (w : X → ℕ) → weight w xs ≡ weight w ys
 
--- a weight of those that pass a test alone
+-- the weight w, but 0 for items that don't pass the test p
 abbrev pub only : {X : Type 0} → (X → Bool) → (X → ℕ) → X → ℕ
 only p w x = cond (p x) (w x) 0
 
--- a weight of those that don't pass it alone
+-- the weight w, but 0 for items that pass the test p
 abbrev pub but : {X : Type 0} → (X → Bool) → (X → ℕ) → X → ℕ
 but p w x = cond (p x) 0 (w x)
 

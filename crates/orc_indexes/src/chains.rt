@@ -1,5 +1,5 @@
-//! Who is in each group. A *chain* links the places of one group's members in a table, each with the one before and after it, so that a place is put
-//! in and taken out at once. Nothing is proved of chains but that a listing names no place twice: they are hints, and a wrong one costs time alone.
+//! Which places of a table hold the members of a group. A *chain* is a doubly linked list of these places, so that a place is added and removed in
+//! constant time. It is proved only that a listing names no place twice. Otherwise chains are hints: a wrong one costs time, nothing else.
 
 ghost use Rattle.std.specs.Prelude.{◌≡◌, ◌≤◌, ℕ, slice_get};
 ghost use Rattle.orc_indexes.specs.Same.{weight};
@@ -9,13 +9,13 @@ use crate::memory::{push_within, reserve};
 use orc_rules::limits::MOST_GROUPS;
 use std::alloc::{AllocError, Global};
 
-// A place in the chain of a group, with its neighbours. Members of group 0, the program's own, aren't chained: it is never dropped as a whole.
+// A place's neighbours in the chain of its group. The members of group 0, the program's own, aren't chained, since that group is never dropped.
 #[derive(Clone, Copy)]
 struct Link {
     group: u32,
     before: usize,
     after: usize,
-    // The later it was put in, the greater.
+    // Greater for a place that was put in later: ranks fall along a chain.
     rank: u64,
 }
 
@@ -30,18 +30,18 @@ const ALONE: Link = Link {
     rank: 0,
 };
 
-/// The places of each group's members in a table, the latest first. They are hints: who goes by them looks at each member, and counts them.
+/// The places of each group's members in a table, the latest first. They are hints: a caller tests each member that they name, and counts them.
 #[derive(Drop)]
 pub struct Chains {
-    // By group: where its chain begins. It grows as far as a member of a group comes.
+    // By the number of a group: the first place of its chain. It grows when a group with a greater number gets a member.
     firsts: Vec<usize>,
-    // By place.
+    // By place: its link; `ALONE` if no member of a chained group is there.
     links: Vec<Link>,
     // The greatest rank that was given out.
     rank: u64,
 }
 
-// Writes `after` where this link's place was named: in the link before it, or as the first of its group.
+// Writes `after` into the link before this one, or, if this link is the first, as the first place of its group.
 fn set_after(firsts: &mut Vec<usize>, links: &mut Vec<Link>, link: Link, after: usize) {
     match links.get_mut(link.before) {
         Some(before) => before.after = after,
@@ -81,7 +81,7 @@ fn link_at(links: &Vec<Link>, place: usize) -> Link {
     }
 }
 
-// Where the chain of a group begins, `NOWHERE` if it is empty. None for group 0, for a number that is over any group's, and where memory is refused.
+// The first place of a group's chain, or `NOWHERE` if the chain is empty. None for group 0, for `MOST_GROUPS` and more, and if memory is refused.
 #[inline(always)]
 fn reach_first(firsts: &mut Vec<usize>, group: u32) -> Option<usize> {
     if group == 0 {
@@ -93,7 +93,7 @@ fn reach_first(firsts: &mut Vec<usize>, group: u32) -> Option<usize> {
     firsts.get(group as usize).copied()
 }
 
-// Gives each group up to this one an empty chain, unless the number is over any group's; not all where memory is refused.
+// Gives each group up to this one that has no chain yet an empty one, if the number is below `MOST_GROUPS`. Stops early if memory is refused.
 // Not inlined, since a number is seldom met for the first time.
 #[cold]
 #[inline(never)]
@@ -127,8 +127,7 @@ impl Chains {
         reserve(&mut self.links)
     }
 
-    /// Notes that a member of this group is at this place, and nobody else. A new place is the one right behind the others, and needs room
-    /// (`reserve`).
+    /// Notes that this place holds a member of this group. A new place has to be the next one behind the others, and needs room (`reserve`).
     #[inline(always)]
     pub fn put(&mut self, place: usize, group: u32) {
         // Most often a token is replaced by one of the same group.
@@ -140,7 +139,7 @@ impl Chains {
         self.move_to(place, group);
     }
 
-    // A place goes from the chain that it is in, if any, to the front of this group's.
+    // Moves a place from the chain that it is in, if any, to the front of this group's chain.
     #[inline(never)]
     fn move_to(&mut self, place: usize, group: u32) {
         // A new place, for which `reserve` has made room.
@@ -163,7 +162,7 @@ impl Chains {
         set_link(&mut self.links, place, link);
     }
 
-    /// Notes that nobody is at this place.
+    /// Notes that no member is at this place.
     pub fn take(&mut self, place: usize) {
         let link = link_at(&self.links, place);
         if link.group == 0 {
@@ -174,12 +173,11 @@ impl Chains {
         set_link(&mut self.links, place, ALONE);
     }
 
-    /// Notes that who was at place `last` is at this one, and nobody at `last`: as after `Vec::swap_remove`. Whoever was here is gone; `last` may be
-    /// this place.
+    /// Follows a `Vec::swap_remove`: the member at `place` is gone, and the one at `last` has moved to `place`. `last` may be `place` itself.
     pub fn swap_take(&mut self, place: usize, last: usize) {
         self.take(place);
         let link = link_at(&self.links, last);
-        // So it is, too, if `last` is the place that was just emptied.
+        // This is also so if `last` is `place`, which was just emptied.
         if link.group == 0 {
             return;
         }

@@ -1,4 +1,4 @@
-//! When calls are due: notes of times with numbers of calls.
+//! When calls are due: notes of due times with the numbers of the calls.
 
 ghost use Rattle.std.specs.Prelude.{◌≡◌, ◌<◌, ℕ, [], List, length, true, false, OnOk, MatchOption};
 ghost use Rattle.orc_indexes.specs.Dues.{IsNoted, IsBefore, IsEarliest, IsLeastFrom, KeepsBut};
@@ -7,8 +7,7 @@ use std::alloc::{AllocError, Global};
 use std::collections::BTreeSet;
 use std::marker::Model;
 
-/// Notes, each of a due time in logical time and the number of a call, the earliest first. A note may stay when its call is gone: who uses it tests
-/// it.
+/// Notes of when a call is due (in logical time) with the call's number, the earliest first. A note may outlive its call, so a caller tests each.
 #[derive(Drop)]
 pub struct Dues {
     // The earliest note is kept beside the tree of the others: if one call pends at a time, the tree stays empty and costs nothing.
@@ -47,7 +46,7 @@ impl Dues {
         }
     }
 
-    /// Notes when a call is due; once, however often it is told. The error is refused memory, and then nothing changes.
+    /// Notes when a call is due. To repeat a note changes nothing. The error is refused memory, and then nothing changes.
     pub fn note(&mut self, time: u64, number: u64) -> Result<(), AllocError>
         ensures noted { OnOk result (IsNoted self.new time number) }
         ensures kept { (t k : ℕ) → IsNoted self.old t k → IsNoted self.new t k }
@@ -74,7 +73,7 @@ impl Dues {
         self.first
     }
 
-    /// The least number from this one on that is noted with this time. None if there is none.
+    /// The least number, `from` or more, that is noted with this time. None if there is none.
     pub fn first_at(&self, time: u64, from: u64) -> Option<u64>
         ensures { MatchOption result ((k : ℕ) → IsNoted self.now time k → k < from) (IsLeastFrom self.now time from) }
     {

@@ -1,11 +1,11 @@
-//! Room in a list, and items that are added where there is room. So a call can ask for all its memory before it changes anything.
+//! Reserves room in a list, and adds items where there is room. So a function can ask for all its memory before it changes anything.
 
 ghost use Rattle.std.specs.Prelude.{◌≡◌, ◌+◌, ◌<◌, ◌≤◌, ◌++◌, ◌∷◌, [], vec_len, vec_capacity, OnOk};
 
 use std::alloc::AllocError;
 
 /// Adds an item at the end, where there is room (`reserve`).
-// In place: a call of `push` would put the item together on the stack first.
+// `push_reserved` builds the item in place; `push` would build it on the stack first.
 #[inline(always)]
 pub fn push_within<T: Drop>(items: &mut Vec<T>, item: T)
     requires { vec_len items.old < vec_capacity items.old }

@@ -16,8 +16,8 @@ pub struct Note {
     pub serial: u64,
 }
 
-/// By slot whether its token is known to wait (is parked), and by cell the tokens that wait for it. A note may stay when its token is gone: its
-/// serial tells.
+/// Which tokens are known to wait (are *parked*): a flag for each slot, and for each cell notes of the tokens that wait for it. A note may outlive
+/// its token: the serial tells.
 pub struct Parking {
     alloc: Global,
     flags: Vec<bool>,

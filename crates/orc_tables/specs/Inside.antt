@@ -17,17 +17,17 @@ aids c (PruneRight d) = nat_eq c d
 aids c (OtherwiseLeft n) = false
 
 module _ (c : ℕ) (ss : List Step) where
-  -- a step enters it, or one further outwards does
+  -- a step enters the right side of cell c, or one further outwards does
   abbrev pub is_on : (ℕ → Bool) → Option Step → Bool
   is_on outwards None = false
   is_on outwards (Some p) = aids c p.entered || outwards p.outer
 
-  -- among so many steps outwards, from step i on, one enters the right side of cell c
+  -- among the n steps from step i outwards one enters the right side of cell c
   abbrev pub is_among : ℕ → ℕ → Bool
   is_among zero i = false
   is_among (suc n) i = is_on (λ j. is_among n j) (step_at ss i)
 
-  -- what has step i for its innermost one is inside the right side of cell c: there are i steps around it at most
+  -- what has step i for its innermost one is inside the right side of cell c; from i outwards there are at most i steps
   abbrev pub stands_inside : ℕ → Bool
   stands_inside i = is_among i i
 

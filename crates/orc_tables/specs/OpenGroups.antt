@@ -22,7 +22,7 @@ is_named i g = is_this i g.number
 abbrev pub IsOpen : List Group → ℕ → Type 0
 IsOpen gs i = (i ≡ 0) ⊎ (1 ≤ weight (is_named i) gs)
 
--- each number leads to its group's place
+-- `places` leads from each group's number to its place
 abbrev pub LeadTo : List Group → List ℕ → Type 0
 LeadTo gs places = (k : ℕ) (g : Group) → slice_get gs k ≡ Some g → slice_get places g.number ≡ Some k
 
@@ -49,11 +49,11 @@ groups_in ss gs i = weight (λ (g : Group). is_this i (group_at ss g.outer)) gs
 abbrev pub size_of : List ℕ → ℕ → ℕ
 size_of sizes i = slice_index_or sizes i 0
 
--- as many members have left each group as these were more before than after
+-- each group's size has changed by as much as its count has from `before` to `after`, if it was no less than that count before
 abbrev pub HaveLeft : List ℕ → List ℕ → (ℕ → ℕ) → (ℕ → ℕ) → Type 0
 HaveLeft sizes sizes' before after = (i : ℕ) → before i ≤ size_of sizes i → size_of sizes' i + before i ≡ size_of sizes i + after i
 
--- 1 for none, else 0
+-- 1 for the size 0, else 0
 abbrev pub is_none : ℕ → ℕ
 is_none zero = 1
 is_none (suc k) = 0

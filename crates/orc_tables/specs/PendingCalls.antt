@@ -11,7 +11,7 @@ use Rattle.orc_indexes.specs.Dues.{IsNoted}
 abbrev pub due_of : Call → Option ℕ
 due_of c = due_by c.made_at c.found
 
--- the earlier of two times, where none is later than any
+-- the earlier of two due times; None, which is never, is later than any time
 abbrev pub earlier : Option ℕ → Option ℕ → Option ℕ
 earlier None o = o
 earlier (Some t) None = Some t
@@ -29,7 +29,7 @@ pub record Pendings : Type 0 where
   pub room : ℕ
   pub notes : List (ℕ × ℕ)
 
--- each call's number has its place
+-- `places` leads from each call's number to its place
 abbrev pub ArePlaced : List Call → List ℕ → Type 0
 ArePlaced items places = (k : ℕ) (c : Call) → slice_get items k ≡ Some c → (1 ≤ c.number) × (slice_get places (c.number - 1) ≡ Some k)
 
@@ -45,14 +45,14 @@ HaveNotes notes items = (c : Call) → IsIn c items → HasNote notes c
 abbrev pub is_numbered : ℕ → Call → Bool
 is_numbered number c = nat_eq number c.number
 
--- a call over `beyond` that is due at t
+-- call k pends, its number is over `beyond`, and it is due at time t
 abbrev pub IsDueBeyond : List Call → ℕ → ℕ → ℕ → Type 0
 IsDueBeyond items beyond t k = (c : Call) × IsIn c items × (c.number ≡ k) × (beyond < k) × (due_of c ≡ Some t)
 
--- the least of them
+-- k is the least number of such a call
 abbrev pub IsLeastBeyond : List Call → ℕ → ℕ → ℕ → Type 0
 IsLeastBeyond items beyond t k = IsDueBeyond items beyond t k × ((j : ℕ) → IsDueBeyond items beyond t j → k ≤ j)
 
--- 1 for call k
+-- 1 for the call with number k, else 0
 abbrev pub has_number : ℕ → Call → ℕ
 has_number k c = once (call k) (call c.number)

@@ -46,17 +46,17 @@ is_try (SeqLeft x g scope) = false
 is_try (PruneRight c) = false
 is_try (OtherwiseLeft n) = true
 
--- past a step that enters an otherwise one looks further outwards; any other one is it
+-- what takes a publication, looked for from step i: past a step into an otherwise the search goes on outwards; any other step takes it
 abbrev pub past_try : (ℕ → ℕ) → ℕ → Option Step → ℕ
 past_try outwards i None = i
 past_try outwards i (Some p) = cond (is_try p.entered) (outwards p.outer) i
 
--- the nearest step that is no otherwise, past at most so many, from step i on outwards
+-- the nearest step from i outwards that enters no otherwise, if at most n steps are passed
 abbrev pub taker_among : ℕ → List Step → ℕ → ℕ
 taker_among zero ss i = i
 taker_among (suc n) ss i = past_try (λ j. taker_among n ss j) i (step_at ss i)
 
--- the nearest step that is no otherwise, from step i on outwards: there are i steps around it at most
+-- the nearest step from i outwards that enters no otherwise: at most i steps are passed
 abbrev pub taker_at : List Step → ℕ → ℕ
 taker_at ss i = taker_among i ss i
 
@@ -69,12 +69,12 @@ abbrev pub mark_at : List Step → ℕ → Step → List Step
 mark_at ss zero p = ss
 mark_at ss (suc k) p = slice_set ss k (marked p)
 
--- an otherwise gets its mark, and those around it are next; any other step ends it
+-- an otherwise gets its mark, and the walk goes on outwards; any other step ends it
 abbrev pub past_left : (List Step → ℕ → List Step) → List Step → ℕ → Option Step → List Step
 past_left outwards ss i None = ss
 past_left outwards ss i (Some p) = cond (is_try p.entered) (outwards (mark_at ss i p) p.outer) ss
 
--- so many otherwises at most, from step i on outwards, get their marks
+-- the otherwises from step i outwards get their marks, if at most n steps are passed
 abbrev pub left_among : ℕ → List Step → ℕ → List Step
 left_among zero ss i = ss
 left_among (suc n) ss i = past_left (λ rest j. left_among n rest j) ss i (step_at ss i)
@@ -84,11 +84,11 @@ abbrev pub left_from : List Step → ℕ → List Step
 left_from ss i = left_among i ss i
 
 -- ---- what a table of steps keeps
--- step i isn't an otherwise without its mark
+-- if step i enters an otherwise, that has its mark
 abbrev pub IsMarked : List Step → ℕ → Type 0
 IsMarked ss i = (p : Step) → step_at ss i ≡ Some p → is_try p.entered ≡ true → p.published ≡ true
 
--- round an otherwise that has its mark stands none without
+-- an otherwise directly around one that has its mark has it, too
 abbrev pub AreMarked : List Step → Type 0
 AreMarked ss = (k : ℕ) (p : Step) → slice_get ss k ≡ Some p → is_try p.entered ≡ true → p.published ≡ true → IsMarked ss p.outer
 

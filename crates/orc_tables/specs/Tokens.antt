@@ -27,21 +27,21 @@ IsHeld slots slot t = (slice_get slots slot ≡ Some t) × (1 ≤ t.serial)
 abbrev pub AreHeld : List Token → List Bool → Type 0
 AreHeld slots flags = (slot : ℕ) → is_set flags slot ≡ true → (t : Token) × IsHeld slots slot t
 
--- it is known to wait
+-- token t is in this slot, and known to wait
 abbrev pub IsParked : List Token → Parked → ℕ → Token → Type 0
 IsParked slots q slot t = IsHeld slots slot t × (is_set q.flags slot ≡ true)
 
--- those that are known to wait were so before, and their notes stay
+-- each token that is known to wait was so before, and has kept its notes
 abbrev pub StayParked : Slots → Slots → Type 0
 StayParked x x' = (slot : ℕ) (t : Token) → IsParked x'.items x'.parked slot t → IsParked x.items x.parked slot t × ((cell : ℕ) → IsNoted x.parked cell slot t.serial → IsNoted x'.parked cell slot t.serial)
 
--- so are those that don't wait for this cell, and no others
+-- as `StayParked`, but none of these tokens waits for cell c, and the notes of c may go
 abbrev pub StayBut : ℕ → Slots → Slots → Type 0
 StayBut c x x' =
     (slot : ℕ) (t : Token) → IsParked x'.items x'.parked slot t
     → IsParked x.items x.parked slot t × (IsNoted x.parked c slot t.serial → ⊥) × ((cell : ℕ) → (cell ≡ c → ⊥) → IsNoted x.parked cell slot t.serial → IsNoted x'.parked cell slot t.serial)
 
--- so are those before, and perhaps the one in this slot, which is noted with these cells
+-- each token that is known to wait was so before, or is the one in this slot, which is noted with these cells; all notes stay
 abbrev pub StayWith : ℕ → ℕ → List ℕ → Slots → Slots → Type 0
 StayWith slot serial cells x x' =
     ((k : ℕ) (t : Token) → IsParked x'.items x'.parked k t → IsParked x.items x.parked k t ⊎ ((k ≡ slot) × ((cell : ℕ) → IsIn cell cells → IsNoted x'.parked cell slot serial)))

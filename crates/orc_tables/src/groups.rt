@@ -16,16 +16,16 @@ use orc_indexes::{Chains, push_within, reserve};
 use std::alloc::{AllocError, Global};
 use std::marker::Model;
 
-/// The open groups in a table by number. Number 0 is the program's own group, which is no item. A number is used again once its group is gone,
-/// so that there are never more than `MOST_GROUPS`.
+/// The open groups, found by their numbers. Number 0 is the program's own group, which has no record here. The number of a group that is gone is
+/// given out again, so that all numbers stay below `MOST_GROUPS`.
 pub struct Groups {
     items: Vec<Group>,
     // By number, 0 included: where its group is among the items, if it is open, and how many members it has.
     places: Vec<usize>,
     sizes: Vec<u32>,
-    // By number: which step entered its group's side. Nothing is promised of it: who uses it tests it.
+    // By number: the step into the side of the group, as `open` was told. A hint, which callers test.
     hints: Vec<usize>,
-    // The numbers that no group has, the next one to be used last.
+    // The numbers that no group has; the last one is given out next.
     free: Vec<u32>,
     // The places in `items` of the groups in each group. They are hints.
     chains: Chains,
@@ -59,7 +59,7 @@ impl Model for Groups {
     ghost invariant = { λ g. AreNumbered g.items.items g.places.items g.free.items × (length g.sizes.items ≡ length g.places.items) × (length g.places.items ≤ vec_capacity g.free + 1) × (g.empty ≡ empty_in g.sizes.items g.items.items) };
 }
 
-// How many members a number has.
+// How many members the group with this number has; 0 for a number that was never given out.
 #[inline(always)]
 fn size_at(sizes: &Vec<u32>, number: u32) -> u32
     ensures { result ≡ size_of sizes.now.items number }
@@ -79,7 +79,7 @@ fn set_size(sizes: &mut Vec<u32>, number: u32, size: u32)
     }
 }
 
-// 1 for a number without members, else 0: what it adds to `empty`.
+// What a group with this number adds to `empty`: 1 if it has no members, else 0.
 fn none_at(sizes: &Vec<u32>, number: u32) -> usize
     ensures { result ≡ is_none (size_of sizes.now.items number) }
 {
@@ -124,8 +124,7 @@ fn place_of(items: &Vec<Group>, places: &Vec<usize>, number: u32) -> Option<usiz
     }
 }
 
-// How many open groups have this number: 1 or none, and none has the number 0. Not inlined, since few joins are a group's first one, and few leaves
-// its last.
+// How many open groups have this number: 0 or 1, and 0 for number 0. Not inlined, since only a group's first join and its last leave need it.
 #[cold]
 #[inline(never)]
 fn count_at(items: &Vec<Group>, places: &Vec<usize>, number: u32) -> usize
@@ -139,7 +138,7 @@ fn count_at(items: &Vec<Group>, places: &Vec<usize>, number: u32) -> usize
     }
 }
 
-// How many open groups have this number, if it is asked; else 0.
+// `count_at` if `asked`, else 0.
 #[inline(always)]
 fn count_if(asked: bool, items: &Vec<Group>, places: &Vec<usize>, number: u32) -> usize
     requires lead { LeadTo items.now.items places.now.items }
@@ -153,7 +152,7 @@ fn count_if(asked: bool, items: &Vec<Group>, places: &Vec<usize>, number: u32) -
     }
 }
 
-// Adds a number that no group has had, with its place in each list, and sets it free. Where memory is refused the lists stay.
+// Adds a number that was never given out, with an item in each list, and notes it as free. If memory is refused, the contents of the lists stay.
 fn add_number(
     places: &mut Vec<usize>,
     sizes: &mut Vec<u32>,
@@ -297,8 +296,8 @@ impl Groups {
         size_at(&self.sizes, number)
     }
 
-    /// Makes room for one more group, of at most 1,022 before it (`MOST_GROUPS` less the program's own and the new one). The error is refused memory.
-    /// The groups and their sizes stay either way.
+    /// Makes room for one more group. At most 1,022 may be open before (`MOST_GROUPS` less the program's own and the new one). The error is refused
+    /// memory. The groups and their sizes stay either way.
     pub fn reserve(&mut self) -> Result<(), AllocError>
         requires few { length self.old.items ≤ 1022 }
         ensures items { self.new.items ≡ self.old.items }
@@ -320,8 +319,8 @@ impl Groups {
         Ok(())
     }
 
-    /// Which step enters the side of the group with this number, as `open` was told it. Nothing is promised of it; 0 for a number that was never
-    /// given out.
+    /// The step into the side of the group with this number, as `open` was told; 0 for a number that was never given out. A hint: nothing is
+    /// promised.
     pub fn hint(&self, number: u32) -> usize {
         match self.hints.get(number as usize) {
             Some(step) => *step,
@@ -329,9 +328,9 @@ impl Groups {
         }
     }
 
-    /// Opens a group, and gives its number, which was free: from 1, under `MOST_GROUPS`. `outer` is the step around it. There has to be room
-    /// (`reserve`). It doesn't make the group a member of its parent: that is `join`. Of the step into the side (`hint`) and the number of the parent
-    /// nothing is promised: they make later searches short.
+    /// Opens a group, and gives its number, which was free: from 1, below `MOST_GROUPS`. `outer` is the step around it. There has to be room
+    /// (`reserve`). The sizes stay: it is the caller who counts the group as a member of its parent. `hint`, the step into the side, and `parent`,
+    /// the number of the group around it, only make later searches short.
     pub fn open(&mut self, side: Side, outer: usize, hint: usize, parent: u32) -> u32
         requires room { 1 ≤ self.old.room }
         ensures items { self.new.items ≡ self.old.items ++ record { side = side; outer = outer; number = result } ∷ [] }

@@ -24,10 +24,10 @@ use orc_indexes::{Chains, Dues, push_within};
 use std::alloc::{AllocError, Global};
 use std::marker::Model;
 
-/// The calls that pend, in no order, with the place of each number that was given out and the due times.
+/// The pending calls, in no order, with the number of calls that were made, and notes of when the pending ones are due.
 pub struct Pending {
     items: Vec<Call>,
-    // By number, the first being 1: where its call is among the items. Of a call that doesn't pend it may name the place of another one.
+    // By the number of a call, less 1: its place in `items`. If the call doesn't pend any more, this may be another call's place.
     places: Vec<usize>,
     // When each call is due, if it ever is. A note may stay when its call is gone, so each is tested.
     dues: Dues,
@@ -155,7 +155,7 @@ fn remove_at(
     }
 }
 
-// Takes the note of a call out.
+// Takes out the note of when a call is due, if it has one.
 fn forget(dues: &mut Dues, call: Call)
     ensures { (t k : ℕ) → IsNoted dues.old t k → IsNoted dues.new t k ⊎ (k ≡ call.number) }
 {
@@ -164,7 +164,7 @@ fn forget(dues: &mut Dues, call: Call)
     }
 }
 
-// The calls inside the right side of a cell go, and leave their groups.
+// Removes the calls inside the right side of a cell from the lists and from their groups.
 fn drop_inside(
     items: &mut Vec<Call>,
     places: &mut Vec<usize>,
@@ -273,7 +273,7 @@ impl Pending {
         self.items.len()
     }
 
-    /// The number of the call that comes next, from 1.
+    /// The number that the next call gets; the first call gets 1.
     pub fn next_number(&self) -> u64
         ensures { result ≡ self.now.made + 1 }
     {
@@ -307,7 +307,8 @@ impl Pending {
         Ok(())
     }
 
-    /// Adds a call with the next number, for which `reserve` was called. Its group, which the caller counts, is only a hint here.
+    /// Adds a call, for which `reserve` was called; its number has to be `next_number`. `group` is a hint for later searches: it is the caller who
+    /// counts the call as a member of its group.
     pub fn add(&mut self, call: Call, group: u32)
         requires number { call.number ≡ self.old.made + 1 }
         requires room { 1 ≤ self.old.room }
@@ -391,7 +392,7 @@ impl Pending {
         &self.items
     }
 
-    /// The calls inside the right side of a cell go, and leave their groups.
+    /// Removes the calls inside the right side of a cell from the table and from their groups.
     pub(crate) fn drop_inside(&mut self, groups: &mut Groups, steps: &Steps, cell: u64)
         ensures made { self.new.made ≡ self.old.made }
         ensures rest { (w : Its → ℕ) → weight w self.new.items ≡ weight (but (λ (k : Its). stands_inside cell steps.now.items k.step) w) self.old.items }
@@ -409,7 +410,7 @@ impl Pending {
         );
     }
 
-    /// The calls with these numbers, which are those inside the right side of a cell, go, and leave their groups.
+    /// Removes the calls with these numbers, which have to be those inside the right side of a cell, from the table and from their groups.
     pub(crate) fn drop_listed(
         &mut self,
         groups: &mut Groups,

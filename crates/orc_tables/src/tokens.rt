@@ -21,8 +21,8 @@ use std::marker::Model;
 /// it is still the one that was put there.
 pub struct Tokens {
     slots: Vec<Token>,
-    // The slot that became free last, or `NO_SLOT`: a free slot has the one that became free before it in its `step`. That they still are free isn't
-    // proved, so each is tested when it is taken.
+    // The first of the list of free slots: the slot that became free last, or `NO_SLOT`. The `step` of a free slot names the next slot of that list.
+    // It isn't proved that the slots of the list are free, so each is tested when it is taken.
     free: usize,
     // How many slots hold a token.
     count: usize,
@@ -58,7 +58,7 @@ impl Model for Tokens {
 // No slot has this number.
 const NO_SLOT: usize = usize::MAX;
 
-// What is in a free slot, before which this one became free.
+// What a free slot holds: the serial 0, and in `step` the next slot of the list of free ones.
 fn nobody(free: usize) -> Token
     ensures { result.serial ≡ 0 }
 {
@@ -106,7 +106,7 @@ fn is_there(slots: &Vec<Token>, note: Note) -> bool
     }
 }
 
-// The token of a note, if it is still there, is not known to wait any more.
+// Clears the flag of a note's token, if that is still in its slot.
 fn rouse(slots: &Vec<Token>, parking: &mut Parking, note: Note)
     ensures flags { (k : ℕ) → is_set parking.new.flags k ≡ true → is_set parking.old.flags k ≡ true }
     ensures gone { (t : Its) → slice_get slots.now.items note.slot ≡ Some t → t.serial ≡ note.serial → is_set parking.new.flags note.slot ≡ true → ⊥ }
@@ -118,7 +118,7 @@ fn rouse(slots: &Vec<Token>, parking: &mut Parking, note: Note)
     parking.clear(note.slot);
 }
 
-// No token that is noted with this cell is known to wait any more. Its notes go.
+// Takes out all notes of a cell, and clears the flags of the tokens that they name.
 fn wake(slots: &Vec<Token>, parking: &mut Parking, cell: u64)
     ensures flags { (k : ℕ) → is_set parking.new.flags k ≡ true → is_set parking.old.flags k ≡ true }
     ensures gone { (k : ℕ) (t : Its) → IsHeld slots.now.items k t → is_set parking.new.flags k ≡ true → IsNoted parking.old cell k t.serial → ⊥ }
@@ -261,7 +261,7 @@ impl Tokens {
         }
     }
 
-    /// Replaces the token in this slot, which has to hold one, by another one, of this group. Nothing is known of its waiting.
+    /// Replaces the token in this slot, which has to hold one, by another one, of this group. The new token isn't known to wait.
     #[inline(always)]
     pub fn replace(&mut self, slot: usize, token: Token, group: u32)
         requires held { (t : Its) × IsHeld self.old.items slot t }
@@ -304,8 +304,8 @@ impl Tokens {
         self.parking.len() == self.count
     }
 
-    /// The token with this serial, which has to be in this slot, is known to wait from here on, until one of these cells is bound or lost (`wake`).
-    /// The error is refused memory, and then it isn't known to wait.
+    /// Notes that the token with this serial, which has to be in this slot, waits until one of these cells is bound or lost (`wake`). The error is
+    /// refused memory, and then the token isn't known to wait.
     pub fn park(&mut self, slot: usize, serial: u64, cells: &Vec<u64>) -> Result<(), AllocError>
         requires { (t : Its) × IsHeld self.old.items slot t × (t.serial ≡ serial) }
         ensures items { self.new.items ≡ self.old.items }
@@ -317,7 +317,7 @@ impl Tokens {
         Ok(())
     }
 
-    /// No token that waits for this cell is known to wait any more.
+    /// Forgets of each token that waits for this cell that it waits: the cell has been bound or lost.
     pub fn wake(&mut self, cell: u64)
         ensures items { self.new.items ≡ self.old.items }
         ensures parked { StayBut cell self.old self.new }
