@@ -12,7 +12,7 @@ cells_among (is.Name x ∷ ps) = cells_among ps
 cells_among (is.Is v ∷ ps) = cells_among ps
 cells_among (is.Void ∷ ps) = cells_among ps
 
--- that of a variable, or those of a call of a site; another term waits for none
+-- the cells for which a token waits, by its term: a variable's, or those of a call of a site; at another term it waits for none
 abbrev pub cells_of : Term → List ℕ
 cells_of (param q) = cells_among (q ∷ [])
 cells_of (site m ps) = cells_among ps

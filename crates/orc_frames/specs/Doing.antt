@@ -15,7 +15,7 @@ use Rattle.orc_frames.specs.Spelling.{Path, whole, feeding, aiding, trying}
 use Rattle.orc_frames.specs.declared.action.Action.{Action}
 use Rattle.orc_frames.specs.declared.action.Action.TheVariants.{Halt, Fork, Seq, Prune, Other, Def, Void, Publish, Send, Bind, Call, Wait}
 
--- the cell that the first unbound argument waits for
+-- the first unbound cell among these arguments; 0 if there is none
 abbrev pub first_cell : List Param → ℕ
 first_cell [] = 0
 first_cell (is.Cell c ∷ ps) = c
@@ -30,7 +30,7 @@ taken v (feeding x g p) = Send v
 taken v (aiding c p) = Bind c v
 taken v (trying n p) = taken v p
 
--- a token at a call of a site: whether an argument is void, and the values if all arguments have one
+-- what a token at a call of a site does: given whether an argument is void, and the values if all arguments have one
 abbrev pub what_site : List Param → Bool → Option (List Value) → Action
 what_site ps true o = Void
 what_site ps false (Some args) = Call
@@ -57,19 +57,19 @@ scan waits first (is.Cell c ∷ ps) = scan true (or_else first c) ps
 abbrev pub closed : Env → List Operand → List Param
 closed env ps = map (close_param env) (map param_of ps)
 
--- a token on a parameter
+-- what a token on a parameter does
 abbrev pub of_param : Path → Param → Action
 of_param p (is.Is v) = taken v p
 of_param p is.Void = Void
 of_param p (is.Cell c) = Wait c
 of_param p (is.Name x) = Wait 0
 
--- a token at a call of a definition, if there is one with that number
+-- what a token at a call of a definition does: given that definition, if there is one
 abbrev pub what_def : Option Definition → Action
 what_def (Some d) = Def
 what_def None = Wait 0
 
--- by the term under a token and its path
+-- what a token does, by its path and the term under it
 abbrev pub what_by : List Definition → Path → Term → Action
 what_by defs p stop = Halt
 what_by defs p (param q) = of_param p q

@@ -17,13 +17,13 @@ module _ (code : ℕ → Term) (env : ℕ → Env) where
   standing (At node scope) = close (env scope) (code node)
   standing (On v) = param (Is v)
 
-  -- one step inwards
+  -- the path inside a frame that itself has path p
   abbrev pub inwards : Frame → Path → Path
   inwards (SeqLeft x g scope) p = feeding x (close (without x (env scope)) (code g)) p
   inwards (PruneRight c) p = aiding c p
   inwards (OtherwiseLeft n) p = trying n p
 
-  -- the path that each step leads to, after those that are there
+  -- these paths, and behind them the path of each of these steps
   abbrev pub paths_from : List Path → List Step → List Path
   paths_from ps [] = ps
   paths_from ps (s ∷ ss) = paths_from (ps ++ inwards s.entered (slice_index_or ps s.outer whole) ∷ []) ss
@@ -48,7 +48,7 @@ abbrev pub has_left : List Step → ℕ → Bool
 has_left [] n = false
 has_left (s ∷ ss) n = (s.published && is_number n s.entered) || has_left ss n
 
--- ---- what names something that isn't there: a scope past the n that there are, or an otherwise whose number isn't under the next mark
+-- ---- names of what isn't there: a scope past the last one, n, or an otherwise whose number isn't below the next mark
 abbrev pub is_out : ℕ → Standing → Bool
 is_out n (At node scope) = nat_lt n scope
 is_out n (On v) = false
@@ -61,6 +61,6 @@ entered_out n next (OtherwiseLeft m) = not (nat_lt m next)
 abbrev pub step_out : ℕ → ℕ → Step → Bool
 step_out n next p = entered_out n next p.entered
 
--- how often a number is a step's otherwise's
+-- 1 if the step enters the left side of otherwise m, else 0
 abbrev pub tries : ℕ → Step → ℕ
 tries m p = cond (is_number m p.entered) 1 0

@@ -10,7 +10,7 @@ use Rattle.orc_tables.specs.declared.records.Frame.{Frame}
 use Rattle.orc_frames.specs.declared.takers.Taker.{Taker}
 use Rattle.orc_frames.specs.declared.takers.Taker.TheVariants as by
 
--- the nearest that takes a publication from a path: the path of its left or right side
+-- what takes a publication from a path, with the path around it: the otherwises on the way are passed over
 abbrev pub taker : Path → Path
 taker whole = whole
 taker (feeding x g p) = feeding x g p
@@ -28,7 +28,7 @@ Takes code env left steps from by.Whole = taker (seen left (path code env steps 
 Takes code env left steps from (by.SeqLeft x node scope outer) = taker (seen left (path code env steps from)) ≡ feeding x (close (without x (env scope)) (code node)) (seen left (path code env steps outer))
 Takes code env left steps from (by.PruneRight c outer) = taker (seen left (path code env steps from)) ≡ aiding c (seen left (path code env steps outer))
 
--- the same whatever the names stand for and whatever has been left
+-- t takes a publication of a token at step `from`, whatever the names stand for and whichever otherwises have been left
 abbrev pub GoesTo : List Step → ℕ → Taker → Type 0
 GoesTo steps from t = (code : ℕ → Term) (env : ℕ → Env) (left : ℕ → Bool) → Takes code env left steps from t
 
@@ -37,7 +37,7 @@ abbrev pub outer_of : Option Step → ℕ
 outer_of (Some p) = p.outer
 outer_of None = 0
 
--- the step round a step; round step 0 there is none but itself
+-- the step around a step; that of step 0 is 0
 abbrev pub outer_at : List Step → ℕ → ℕ
 outer_at ss zero = 0
 outer_at ss (suc k) = outer_of (slice_get ss k)
@@ -47,7 +47,7 @@ abbrev pub reach : List Step → ℕ → ℕ → ℕ
 reach ss zero i = i
 reach ss (suc n) i = outer_at ss (reach ss n i)
 
--- a `>x>` that takes a publication stands at a step round that of the token
+-- a `>x>` that takes a publication is at a step around the token's
 abbrev pub IsOnWay : List Step → ℕ → Taker → Type 0
 IsOnWay steps from by.Whole = Unit {0}
 IsOnWay steps from (by.SeqLeft x node scope outer) = (n : ℕ) × (reach steps n from ≡ outer)
@@ -63,7 +63,7 @@ IsEntered steps by.Whole = Unit {0}
 IsEntered steps (by.SeqLeft x node scope outer) = HasStep steps (SeqLeft x node scope) outer
 IsEntered steps (by.PruneRight c outer) = HasStep steps (PruneRight c) outer
 
--- what has been left once these otherwises are left too
+-- which otherwises have been left, once these are left, too
 abbrev pub left_all : List ℕ → (ℕ → Bool) → ℕ → Bool
 left_all [] left = left
 left_all (n ∷ ns) left = left_all ns (λ m. cond (nat_eq n m) true (left m))

@@ -46,12 +46,12 @@ pub enum Action {
     Bind(u64, Value),
     /// It calls a site, and all arguments have values.
     Call,
-    /// It waits for this cell, the first where it waits for several; 0 where it waits for nothing that ever comes.
+    /// It waits for this cell, the first one if it waits for several; 0 if no cell can end the wait.
     Wait(u64),
 }
 
-/// What a token on this value does, by what takes the value from step `from` on outwards. Where there is no such step nothing takes it: the program
-/// publishes it.
+/// What a token on this value does: it depends on what takes the value, from step `from` outwards. If nothing does, or if there is no step `from`,
+/// the program publishes the value.
 pub fn publish_action(steps: &Steps, from: usize, value: Value) -> Action
     requires { AreOutwards steps.now.items }
     ensures { (code : ℕ → Term) (env : ℕ → Env) (left : ℕ → Bool) → result ≡ taken value (seen left (path code env steps.now.items from)) }
@@ -116,7 +116,7 @@ pub fn site_call_action(
             Some(Bound::Cell(cell)) => {
                 site_call_action(scopes, cells, operands, scope, true, first.or(Some(cell)))
             }
-            // A name that isn't bound, as no checked program has it.
+            // A name that isn't bound; no checked program has one.
             None => site_call_action(scopes, cells, operands, scope, true, first),
         },
     }

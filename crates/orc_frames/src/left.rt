@@ -1,4 +1,4 @@
-//! Whether an otherwise (`f ; g`) has published: a publication has left it, so that its right side never runs.
+//! Whether the left side of an otherwise (`f ; g`) has published, so that its right side never runs. Contracts say that a publication has *left* it.
 
 ghost use Rattle.std.specs.Prelude.{◌≡◌, ◌≤◌, false, Some, IfSome, IfNone};
 ghost use Rattle.orc_indexes.specs.Same.{weight};
@@ -18,7 +18,7 @@ fn is_number(entered: Frame, number: u64) -> bool
     }
 }
 
-/// Whether the otherwise with this number has published, if this is the step into its left side. None where it isn't, and then nothing is known.
+/// Whether the otherwise with this number has published. None if `step` isn't the step into its left side, and then nothing is known.
 pub fn left_at(steps: &Steps, step: usize, number: u64) -> Option<bool>
     requires { weight (tries number) steps.now.items ≤ 1 }
     ensures left { IfSome result (λ left. left ≡ has_left steps.now.items number) }

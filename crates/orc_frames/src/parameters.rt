@@ -9,10 +9,11 @@ use orc_indexes::{push_within, reserve};
 use orc_rules::param::Operand;
 use std::alloc::AllocError;
 
-/// Writes the scopes of a definition's parameters over `added`: one for each, the last parameter's first, each the outer one of the next. They count
-/// on from `scopes`, behind which they are to be put. What stands for them are the operands in `scope`, the caller's; the outermost extends scope 0,
-/// since a body sees nothing but its parameters. Gives the number of the innermost scope. None where the operands are not as many, or one of them
-/// isn't bound. The error is refused memory, or a number of over 32 bits; what is in `added` isn't known then.
+/// Writes a scope for each parameter of a definition over `added`. Each binds its parameter to what the operand means in `scope`, the caller's. The
+/// last parameter's scope comes first and extends scope 0, since a body sees nothing but its parameters; each further one extends the one before it.
+/// The caller is to put them behind `scopes`, and their numbers count on from there. Gives the number of the innermost scope, which is added last.
+/// None if there are not as many operands as parameters, or if an operand isn't bound. The error is refused memory, or a number of over 32 bits;
+/// what is in `added` isn't known then.
 pub fn parameter_scopes(
     scopes: &[StoredScope],
     cells: &[Bound],

@@ -7,12 +7,12 @@ use Rattle.orc_rules.specs.Trace.{published}
 use Rattle.orc_subrun.specs.Moved.{AreLocal}
 use Rattle.orc_journal.specs.declared.journal.Version.{Version}
 
--- its version, and its entries from the first on
+-- what contracts know of a log: its version, and all entries, held or not
 pub record Logged : Type 0 where
   pub version : Version
   pub entries : List Entry
 
--- one with more entries behind its own
+-- the log with these entries behind its own
 abbrev pub log_with : Logged → List Entry → Logged
 log_with c es = record { version = c.version; entries = c.entries ++ es }
 

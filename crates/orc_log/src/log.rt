@@ -30,6 +30,7 @@ const MOST: usize = 1 << 62;
 #[derive(Drop)]
 pub struct Log<P: Run> {
     alloc: Global,
+    // Whether entries are held (`P.keeps`).
     keeps: bool,
     // The entries, where they are held.
     held: Journal,
@@ -54,7 +55,8 @@ impl<P: Run> Model for Log<P> {
     ghost invariant = { λ c. (c.keeps ≡ P.keeps) × IsKnown P.sites c.keeps c.past.items c.passed c.published.items c.is_local (length c.held.entries) };
 }
 
-// The past with an entry behind it. It uses no argument: the caller's proof picks the items by them. So it is with the four functions below.
+// The past with an entry behind it. At run time the arguments aren't used: the caller's proof names them where it picks the items. The four
+// functions below do likewise.
 fn past_with_entry(past: &GhostList<Entry>, entry: &Entry) -> GhostList<Entry>
     ghost items: { List EntryOf }
     ensures { result.items ≡ items }
@@ -147,7 +149,8 @@ fn count_more(count: &mut usize, more: usize) -> Result<(), AllocError>
     Ok(())
 }
 
-// Whether something outside the run may affect an entry: a tick, a cancel, or a call, since a script may answer it. Only `false` is certain.
+// Whether something outside the run may affect an entry: it is a tick, a cancel, or a call (a script may answer it). `false` is certain, `true` is
+// not.
 #[inline(always)]
 fn may_bear(entry: &Entry) -> bool
     ensures { result ≡ false → (sites : List Site) → IsLocal sites entry.now }
@@ -173,8 +176,8 @@ fn add_published(values: &mut Vec<Value>, entry: &Entry) -> Result<(), AllocErro
     }
 }
 
-// Appends a part's entries under the numbers that they have in this run, and passes over the numbers of the `made` calls of sites in it. Where memory
-// is refused nothing changes.
+// Appends a part's entries under the numbers that they have in this run, and skips the numbers of its calls of sites, of which there are `made`. If
+// memory is refused, nothing changes.
 fn append_held(
     held: &mut Journal,
     part: &Journal,
@@ -307,7 +310,7 @@ impl<P: Run> Log<P> {
         Ok(())
     }
 
-    /// Keeps the first `len` entries alone, or all if there are no more. Those that go have to publish nothing.
+    /// Removes the entries behind the first `len`, none of which may be a publication. If there are no more than `len`, all stay.
     pub fn truncate(&mut self, len: usize)
         requires { AreSilent (drop len self.old.entries) }
         ensures { self.new ≡ record { version = self.old.version; entries = take len self.old.entries } }
@@ -321,13 +324,13 @@ impl<P: Run> Log<P> {
         }
     }
 
-    /// Whether all entries are known to be local: no tick, no cancel, no call that a script answers. They may be so where this is false: where no
-    /// entry is held, none counts as local any more once a part was appended.
+    /// Whether all entries are known to be local: no tick, no cancel, no call that a script answers. `false` isn't certain: a log that holds no
+    /// entries says so for good once a part was appended.
     pub fn are_local(&self, answers: &Answers) -> bool
         requires { answers.now.sites ≡ P.sites }
         ensures { result ≡ true → AreLocal P.sites self.now.entries }
     {
-        // The flag is about the entries that aren't held, and the list has those that are: one of the two is of no entry.
+        // `is_local` speaks of the entries that aren't held, `held` of those that are. There are never entries of both kinds.
         self.is_local && self.held.are_local(answers)
     }
 
@@ -338,8 +341,8 @@ impl<P: Run> Log<P> {
         self.published.is_empty() && self.held.is_silent()
     }
 
-    /// Appends the entries of a part under the numbers that they have in this run, and passes over the numbers of the `made` calls of sites in it,
-    /// none of which pends. The error is refused memory, and then nothing changes.
+    /// Appends the entries of a part under the numbers that they have in this run, and skips the numbers of its calls of sites: there are `made` of
+    /// them, and none pends. The error is refused memory, and then nothing changes.
     pub fn append(
         &mut self,
         part: &Log<P>,
@@ -360,8 +363,8 @@ impl<P: Run> Log<P> {
         }
     }
 
-    // `append` where no entry is held: adds up how many entries both have and what these publish. Whether they are local isn't followed: it counts as
-    // not known.
+    // `append` for a log that holds no entries: it adds the part's count and its published values. It doesn't follow whether the part's entries are
+    // local, so this isn't known any more.
     fn append_known(
         &mut self,
         part: &Log<P>,
