@@ -81,8 +81,8 @@ fn write_answered<P: Run>(
 }
 
 impl<P: Run> Ledger<P> {
-    /// A token at a call of a site with values makes it, as `call` does; if the table answers it at once, the answer is recorded too, provided that
-    /// the limit allows both entries. Else the call pends. `args` is lent for the arguments.
+    /// Makes the call of a site at which this token is, as `call` does. If the table answers it at once, and the limit allows both entries, the
+    /// answer is recorded, too; else the call pends. `args` is lent for the arguments.
     pub fn call_through(
         &mut self,
         inputs: &Inputs<'_, P>,
@@ -101,8 +101,8 @@ impl<P: Run> Ledger<P> {
         self.answer_through(inputs, slot, token, site, args)
     }
 
-    /// A token at a call of this site, with the operands of this list in this scope, makes the call as `call_through` does. It looks at the operands
-    /// once. None, which changes nothing, where an operand has no value. `args` is lent for the arguments.
+    /// Makes the call at which this token is, of `site` with the operands of list `list` in `scope`, as `call_through` does, but looks at the
+    /// operands only once. None, and nothing changes, if an operand has no value. `args` is lent for the arguments.
     #[inline(always)]
     pub fn call_at(
         &mut self,
@@ -131,7 +131,7 @@ impl<P: Run> Ledger<P> {
         Ok(None)
     }
 
-    /// A token at a call of this site with these arguments makes it as `call_through` does.
+    /// Makes the call at which this token is, of this site with these arguments, as `call_through` does.
     #[inline(always)]
     pub(crate) fn answer_through(
         &mut self,

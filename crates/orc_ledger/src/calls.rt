@@ -17,9 +17,9 @@ use orc_rules::value::{Answer, Value};
 use orc_tables::{Call, Standing, Token};
 
 impl<P: Run> Ledger<P> {
-    /// Answers the call that pends with this number, if the table of sites gives this answer and it is due now. An answer that is a value puts a
-    /// token on it in the call's place, and its slot is given; one that is halt gives None. Gone where no such call pends, Wrong where the table says
-    /// otherwise or the call isn't due now, Limit where the journal has as many entries as its limit, else Memory. Nothing has changed then.
+    /// Answers the call that pends with this number, if the table of sites gives this answer and it is due now. If the answer is a value, a token on
+    /// it comes in the call's place, and its slot is given; if the call halts, None is given. Gone if no such call pends, Wrong if the table says
+    /// otherwise or the call isn't due now, Limit if the journal has as many entries as its limit, else Memory. Nothing has changed then.
     pub fn returned(&mut self, number: u64, answer: Answer) -> Result<Option<usize>, ReturnFault>
         ensures done { IfOk result (λ slot. (c : Its) × Pends self.old number c × IsReturned self.old c answer slot self.new) }
         ensures others { OnOk result (KeepsAll self.old.slots self.new.slots) }

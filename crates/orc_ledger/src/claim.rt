@@ -2,10 +2,10 @@
 
 ghost use Rattle.std.specs.Prelude.{◌≡◌, true, false};
 
-/// What others may have taken first, as a mark that only one can win. Who asks gets it or has lost it; both are final.
+/// Something that another worker may have taken first, such as a mark that only one worker can win. Once asked, a claim is got or lost, for good.
 ///
-/// A move asks it when nothing else can refuse the move any more: its entry is written, and nothing else has changed. Where the claim is lost the
-/// entry is taken back.
+/// A move asks its claim when nothing else can refuse the move any more: its entry is written, and nothing else has changed. If the claim is lost,
+/// the entry is removed again.
 pub trait Claim {
     // What holds of a claim before and after it was asked: if it was got, and if it was lost.
     ghost got: { Self → Self → Type 0 };

@@ -45,10 +45,10 @@ fn extend_within(scopes: &mut Vec<StoredScope>, more: &[StoredScope])
 }
 
 impl<P: Run> Ledger<P> {
-    /// A call of a definition: a token on its body takes the slot, with a scope for each parameter, and Ok(true). `token` is the one in the slot, at
-    /// a call of `definition` in `scope`, with the operands of list `list`. `added` is lent for the new scopes, and what it held is lost. Ok(false),
-    /// which changes nothing, where there is no such definition, where the operands are not as many as the parameters, or where one of them isn't
-    /// bound: no checked program has such a call.
+    /// Makes a call of a definition: a token on its body takes the slot, with a scope for each parameter, and the answer is Ok(true). `token` is the
+    /// one in the slot, which is at a call of `definition` in `scope`, with the operands of list `list`. `added` is lent for the new scopes, and
+    /// what it held is lost. Ok(false), and nothing changes, if there is no such definition, if it has more or fewer parameters than there are
+    /// operands, or if an operand isn't bound: no checked program has such a call.
     #[inline(always)]
     pub fn def(
         &mut self,

@@ -41,9 +41,9 @@ impl<P: Run> Ledger<P> {
         }
     }
 
-    /// Ends the group with this number, which has no member. A right side of a `<x<` is lost: its cell becomes void. The left side of an otherwise
-    /// starts the right side, unless it has published: then its group goes, and no entry says so. Gone where no open group has this number (the
-    /// program's own, 0, isn't one), Live where it has members, Refused where its entry is. A group that is refused stays.
+    /// Ends the group with this number, which has no member. If it is a right side of a `<x<`, it is lost: its cell becomes void. If it is the left
+    /// side of an otherwise, the right side starts, unless the left side has published: then the group goes without an entry. Gone if no open group
+    /// has this number (the program's own, 0, isn't one), Live if it has members, Refused if its entry is refused. A group that is refused stays.
     pub fn halt(&mut self, number: u32) -> Result<Halted, HaltFault>
         ensures done { IfOk result (λ h. HasHalted (code P.listing) self.old self.new number h) }
         ensures others { OnOk result (KeepsAll self.old.slots self.new.slots) }

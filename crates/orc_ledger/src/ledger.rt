@@ -45,7 +45,7 @@ pub struct Ledger<P: Run> {
     pub(crate) calls: Pending,
     // How often each site that a script answers was called with the same arguments.
     pub(crate) counts: Counts,
-    // Scope n is the n-th record, and step n the n-th step; 0 is the scope without names, and the program as a whole.
+    // Scope n is the n-th item of `scopes`, and step n that of `steps`. Scope 0 has no names, and step 0 is the program as a whole.
     pub(crate) scopes: Vec<StoredScope>,
     pub(crate) steps: Steps,
     pub(crate) groups: Groups,
@@ -112,8 +112,8 @@ pub(crate) fn write<P: Run>(journal: &mut Log<P>, entry: &Entry) -> Result<(), L
     }
 }
 
-// Writes an entry that publishes nothing, and asks the claim then. Memory where memory is refused, Unclaimed where the claim is lost; the journal
-// stays as it was then.
+// Writes an entry that publishes nothing, then asks the claim, and removes the entry if the claim is lost. Memory if memory is refused, Unclaimed if
+// the claim is lost; the journal is then as it was.
 #[inline(always)]
 pub(crate) fn write_claimed<P: Run, C: Claim>(
     journal: &mut Log<P>,
@@ -156,7 +156,7 @@ impl<P: Run> Ledger<P> {
         // There is no cell 0.
         push_within(&mut cells, Bound::Void);
         let mut groups = Groups::begin(alloc)?;
-        // The token is the program's own group's first member.
+        // The first token is a member of the program's own group.
         groups.join(0);
         let tokens = Tokens::begin(
             alloc,

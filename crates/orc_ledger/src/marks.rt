@@ -196,8 +196,8 @@ impl<P: Run> Ledger<P> {
         self.next_mark = mark + 1;
         let step = self.steps.len() + 1;
         let parent = self.steps.group_at(token.step);
-        // Its parent loses the token and gets the group: it has as many members as before.
-        // The otherwise has the token's mark for its number.
+        // The group around the otherwise loses the token and gets the new group: it has as many members as before. The token's mark becomes the
+        // number of the otherwise.
         let number = self.groups.open(
             Side::Left(token.serial, right, scope),
             token.step,

@@ -1,5 +1,5 @@
-//! Moves of tokens: a token does what it does next. Each `move_..` makes the entry that one kind of node, or of taker, asks for, and tells as
-//! [`Moved`] what became of the token.
+//! Moves of tokens: a token takes its action. Each `move_..` makes the entry that one kind of node, or of taker, asks for, and says as [`Moved`]
+//! what has become of the token.
 //!
 //! Of the clauses `held` says that the token is in the slot, `at` or `form` what it is on, `done` what becomes of the records, `others` which tokens
 //! stay in their slots, `refused` that a refused call changes nothing, and `why` its cause. `asked` says that a claim was got if the move needs one:
@@ -75,7 +75,7 @@ impl<P: Run> Ledger<P> {
         are_values(&self.scopes, &self.cells, operands, scope)
     }
 
-    // Puts the values of a call's operands into `args`, if each of them has one. Whether each has one.
+    // Puts the values of a call's operands into `args`, and says whether each operand has one.
     #[inline(always)]
     pub(crate) fn take_values(&self, operands: &[Operand], scope: usize, args: &mut Args) -> bool
         requires few { length operands.now ≤ MOST_ARGUMENTS }
@@ -359,7 +359,7 @@ impl<P: Run> Ledger<P> {
         }
     }
 
-    // A call of a site: it is made elsewhere, once its operands are values.
+    // A call of a site: once its operands have values the answer is `Calls`, and the caller makes the call by another function.
     #[inline(always)]
     fn move_site(
         &mut self,
@@ -388,7 +388,7 @@ impl<P: Run> Ledger<P> {
         }
     }
 
-    // A token does what the node says at which it stands.
+    // Moves a token by the node at which it is.
     #[inline(always)]
     pub(crate) fn move_at<C: Claim>(
         &mut self,
@@ -426,10 +426,10 @@ impl<P: Run> Ledger<P> {
         }
     }
 
-    /// A token does what it does next, as `what` says: a move of marks or an entry of its own, whose kind follows from the token's node and from what
-    /// takes its value. A call of a site is not made, and a token that waits stays as it is. Where a cell is bound or a side opened the claim is
-    /// asked last; any other move leaves it untouched, and so does whatever refuses a move before it is asked. `added` and `cancelled` are lent:
-    /// where a cell is bound `cancelled` then holds the numbers of the calls that are cancelled, in rising order.
+    /// Moves this token by its action, as `what` gives it: the kind of entry follows from the token's node and from what takes its value. A call of
+    /// a site is not made, and a token that waits stays as it is. If a cell is bound or a side opened, the claim is asked last. Any other move
+    /// leaves the claim untouched, and so does a refusal before it is asked. `added` and `cancelled` are lent: if a cell is bound, `cancelled` then
+    /// holds the numbers of the calls that are cancelled, in rising order.
     pub fn advance_by<C: Claim>(
         &mut self,
         inputs: &Inputs<'_, P>,
@@ -455,8 +455,8 @@ impl<P: Run> Ledger<P> {
         }
     }
 
-    /// A token does what it does next, as `advance_by` says, where there is nobody to lose a claim to. Full, Limit or Memory where its entry is
-    /// refused, and then nothing changes. `added` and `cancelled` are lent as there.
+    /// Moves this token as `advance_by` does, with a claim that is always got. Full, Limit or Memory if its entry is refused, and then nothing
+    /// changes. `added` and `cancelled` are lent as there.
     pub fn advance(
         &mut self,
         inputs: &Inputs<'_, P>,
@@ -475,7 +475,7 @@ impl<P: Run> Ledger<P> {
         self.advance_by(inputs, slot, token, &mut claim, added, cancelled)
     }
 
-    /// A token on this value does what it does next, as `advance` says: it publishes the value to what takes it.
+    /// Moves this token, which is on this value, as `advance` does: it publishes the value to what takes it.
     #[inline(always)]
     pub fn advance_value(
         &mut self,

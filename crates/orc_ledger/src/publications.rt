@@ -88,7 +88,7 @@ impl<P: Run> Ledger<P> {
         write(&mut self.journal, &Entry::Send(token.serial, mark, value))?;
         self.entries += 1;
         self.next_mark = mark + 1;
-        // They may be one group: it isn't empty in between.
+        // The two may be one group: as it is joined first, it isn't empty in between.
         self.groups.join(joined);
         self.groups.leave(left);
         leave_others(&mut self.steps, token.step);

@@ -99,7 +99,7 @@ impl<P: Run> Ledger<P> {
         }
     }
 
-    // Enters the call that a token makes next: it pends where the token was. Where memory is refused nothing changes.
+    // Makes this call, the token's next one: it pends in the token's place, and the slot is free. If memory is refused, nothing changes.
     pub(crate) fn pend(
         &mut self,
         inputs: &Inputs<'_, P>,
@@ -138,8 +138,8 @@ impl<P: Run> Ledger<P> {
         Ok(())
     }
 
-    /// A token at a call of a site with values makes it: the call pends in its place, and the slot is free. Gives the call's record. `args` is lent
-    /// for the arguments: it has them afterwards, and what it held is lost.
+    /// Makes the call of a site at which this token is, whose operands have values: the call pends in the token's place, and the slot is free. Gives
+    /// the call's record. `args` is lent for the arguments: it has them afterwards, and what it held is lost.
     pub fn call(
         &mut self,
         inputs: &Inputs<'_, P>,

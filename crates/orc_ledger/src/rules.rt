@@ -38,7 +38,8 @@ impl<P: Run> Ledger<P> {
         }
     }
 
-    // A token on the first part of a term that can use a rule where that part can; none where the term has no such part.
+    // The token as it would be on the first part of its term (f of `f | g`, `f >x> g` and `f ; g`): if that part can use a rule, so can the term.
+    // None for a term of another form.
     fn first_part(&self, inputs: &Inputs<'_, P>, token: Token) -> Option<Token>
         ensures { IfSome result (λ part. can_move (definitions P.listing) (term_of (code P.listing) self.now part) ≡ true → can_move (definitions P.listing) (term_of (code P.listing) self.now token) ≡ true) }
     {
@@ -64,7 +65,7 @@ impl<P: Run> Ledger<P> {
             return false;
         }
         let mut inner = *token;
-        // A bound for the loop: of a term that nests deeper it isn't known, and the answer is false.
+        // A bound for the loop: if a term nests deeper, the answer is false, whatever the term can do.
         for _inwards in 0..MOST_FRAMES {
             match self.first_part(inputs, inner) {
                 Some(part) => inner = part,

@@ -45,8 +45,8 @@ fn settle(cells: &mut Vec<Bound>, cell: u64, bound: Bound)
     }
 }
 
-// Writes a bind and the cancels of these calls, and asks the claim then. Memory where memory is refused, Unclaimed where the claim is lost; the
-// journal stays as it was then.
+// Writes a bind and the cancels of these calls, then asks the claim, and removes these entries if the claim is lost. Memory if memory is refused,
+// Unclaimed if the claim is lost; the journal is then as it was.
 fn write_bind<P: Run, C: Claim>(
     journal: &mut Log<P>,
     token: u64,
@@ -103,7 +103,8 @@ impl<P: Run> Ledger<P> {
         ensures why { IfErr result (λ fault. IsBarred (claim.new ≡ claim.old) (C.lost claim.old claim.new) (IsRefused self.old 0 0 0) fault) }
     {
         self.within(0, 0, 0)?;
-        // Whether who is inside was found from group to group; else each table is searched below. The cancels are listed before the entry is written.
+        // True if all that is inside was found group by group; else each table is searched below. The cancelled calls are listed before the entry is
+        // written.
         let known = list_side(
             &mut self.crowd,
             &self.tokens,
@@ -208,7 +209,7 @@ impl<P: Run> Ledger<P> {
         self.entries += 1;
         self.next_mark = mark + 1;
         let parent = self.steps.group_at(group.outer);
-        // Its parent loses the group and gets the token: it has as many members as before.
+        // The parent loses the group and gets the token: it has as many members as before.
         let _left = self.groups.take(group.number);
         let slot = self.tokens.add(
             Token {

@@ -179,7 +179,7 @@ fn comer_of(numbering: Numbering, token: Token, left: Option<Yield>) -> Option<T
     }
 }
 
-// The `comer` takes the slot of the token. Without one the token goes, and leaves its group.
+// Puts `comer` into the slot of the token. Without a `comer` it removes the token, from its group, too.
 fn exchange(
     tokens: &mut Tokens,
     groups: &mut Groups,
@@ -197,7 +197,7 @@ fn exchange(
     ensures groups { groups.new.items ≡ groups.old.items }
     ensures sizes { (j : ℕ) → size_of groups.new.sizes j ≡ size_of groups.old.sizes j + weight (λ (t : Its). is_this j group) (option_to_list comer) - is_this j group }
 {
-    // Only the contract mentions it.
+    // Only the contract uses `token`.
     let _ = token;
     match comer {
         Some(comer) => tokens.replace(slot, comer, group),
@@ -269,7 +269,7 @@ impl<P: Run> Ledger<P> {
         }
     }
 
-    // The result of a task whose run this ledger was, of which nothing is left but `left`.
+    // Turns a ledger that has run this task into the task's result. Of the run nothing is left but `left`.
     fn part_of<W: Run>(self, task: SubRunTask, is_silent: bool, left: Option<Yield>) -> SubRun<W>
         requires silent { is_silent ≡ true → AreSilent self.journal }
         requires sites { P.sites ≡ W.sites }
@@ -298,9 +298,9 @@ impl<P: Run> Ledger<P> {
         }
     }
 
-    /// The result of a task whose run this ledger was, for the enclosing run `W`. None if the enclosing run could affect an entry: time has passed, a
-    /// call was cancelled, or a site was called that a script answers. None also if something is left of the run. A run that has published nothing
-    /// may have one token left, in slot `last`, on a value that it would publish next.
+    /// Turns a ledger that has run this task into the task's result, for the enclosing run `W`. None if the enclosing run could affect an entry:
+    /// time has passed, a call was cancelled, or a site was called that a script answers. None also if something is left of the run, with one
+    /// exception: a run that has published nothing may have one token left, in slot `last`, on a value that it would publish next.
     pub fn into_sub_run<W: Run>(
         self,
         inputs: &Inputs<'_, P>,
@@ -328,9 +328,9 @@ impl<P: Run> Ledger<P> {
         Some(self.part_of(task, true, Some(last)))
     }
 
-    /// Merges a part where the token at its call is. Its entries are appended to the journal under the numbers that they have in this run. The token
-    /// is gone then, or a token on the value that the call yields is in its slot. The fault is Limit if the limit has no room for all of the entries,
-    /// else Memory; nothing has changed then.
+    /// Merges a part: the token is at the call that the part has run. The part's entries are appended to the journal under the numbers that they
+    /// have in this run. Then the token is gone, or a token on the value that the call yields is in its slot. The fault is Limit if the limit has no
+    /// room for all of the entries, else Memory; nothing has changed then.
     pub fn append_sub_run(
         &mut self,
         slot: usize,

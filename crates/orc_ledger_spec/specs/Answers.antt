@@ -21,7 +21,7 @@ use Rattle.orc_ledger_spec.specs.declared.faults.ReturnFault.TheVariants as retu
 use Rattle.orc_ledger_spec.specs.declared.faults.LedgerFault.{LedgerFault}
 use Rattle.orc_ledger_spec.specs.declared.faults.LedgerFault.TheVariants as fault
 
--- where the journal has led
+-- the journal has led to place p
 abbrev pub IsAt : Listing → List Site → Records → Place → Type 0
 IsAt l sites s p = Journal (context l sites) (begin (source l)) s.journal p
 

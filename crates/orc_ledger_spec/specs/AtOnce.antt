@@ -13,7 +13,8 @@ use Rattle.orc_tables.specs.declared.records.Call.{Call}
 use Rattle.orc_ledger_spec.specs.declared.results.Called.{Called}
 use Rattle.orc_ledger_spec.specs.declared.results.Called.TheVariants as called
 
--- token t, in this slot, makes call k, which pends; or the records with it are those from which its answer leads on, which the table gives at once
+-- token t, in this slot, makes a call: it pends, with number k; or the table answers it at once, and `between` are the records between the call and
+-- its answer
 abbrev pub IsCalled : Listing → List Site → Records → ℕ → Token → Called → Records → Type 0
 IsCalled l sites s slot t (called.Pends k) s' = (c : Call) × (c.number ≡ k) × IsMade l sites s t c s'
 IsCalled l sites s slot t (called.Answered v) s' = (c : Call) × (between : Records) × (c.found ≡ After (Gives v) 0) × IsMade l sites s t c between × IsReturned between c (Gives v) (Some slot) s'

@@ -20,6 +20,6 @@ module _ (code : ℕ → Term) (defs : List Definition) (s : Records) (q : Parke
   abbrev pub IsAtRest : ℕ → Token → Type 0
   IsAtRest slot t = (waits defs (term_of code s t) ≡ true) × ((cell : ℕ) → IsIn cell (cells_of (term_of code s t)) → IsNoted q cell slot t.serial)
 
-  -- each token that is said to wait does
+  -- each token that is parked waits, and is noted with its cells
   abbrev pub AreAtRest : Type 0
   AreAtRest = (slot : ℕ) (t : Token) → IsParked s.slots q slot t → IsAtRest slot t

@@ -1,4 +1,4 @@
--- What the journal has brought: no more tokens and calls, open groups and left sides of a `>x>` are there.
+-- Bounds by the journal: there are no more tokens and calls, open groups and left sides of a `>x>` than its entries have brought.
 use Rattle.std.specs.Prelude.{ℕ, ◌+◌, ◌≤◌, length}
 use Rattle.orc_rules.specs.Nodes.{Listing}
 use Rattle.orc_journal.specs.Sizes.{brings, opens, feeds, total, IsCrowded}
@@ -17,7 +17,7 @@ pub record AreBrought (s : Records) : Type 0 where
   pub groups : length s.groups ≤ total opens s.journal
   pub depth : (i : ℕ) → depth_at s.steps i ≤ total feeds s.journal
 
--- where a move of a token, a call of a site or the end of a group is refused as full, the journal can have reached the number that refuses it
+-- if a move of a token, a call of a site or the end of a group is refused as full, the journal has enough entries to have reached the limit
 pub record FullIsCrowded (l : Listing) (s : Records) : Type 0 where
   pub moves : (t : Token) → IsHindered l s t Full → IsCrowded s.journal
   pub calls : IsRefused s 0 0 0 Full → IsCrowded s.journal

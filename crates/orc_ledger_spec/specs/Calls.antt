@@ -25,7 +25,7 @@ use Rattle.orc_ledger_spec.specs.declared.faults.LedgerFault.TheVariants as faul
 use Rattle.orc_tables.specs.PendingCalls.{has_number}
 use Rattle.orc_frames.specs.Taking.{Publishes}
 
--- inside the right side of cell c; that side's own group too
+-- a side with path p around it is inside the right side of cell c, or is that side itself
 abbrev pub is_inside : ℕ → Path → Side → Bool
 is_inside c p (Right d) = inside c (aiding d p)
 is_inside c p (Left n g scope) = inside c p
@@ -60,7 +60,7 @@ pub record AreCancelled (code : ℕ → Term) (c : ℕ) (s : Records) (ks : List
   pub rising : IsRising ks
   pub each : (k : ℕ) → IsIn k ks ↔ (1 ≤ weight (only (call_goes code c s) (has_number k)) s.calls)
 
--- the token t goes and others come, with more scopes, steps, groups and cells; the journal has the entry
+-- token t goes and `births` come; scopes ss, steps ps, groups gs and cells cs are added, and entry e to the journal
 pub record Turns (s s' : Records) (t : Token) (births : List Token) (ss : List Scope) (ps : List Step) (gs : List Group) (cs : List Bound) (e : Entry) : Type 0 where
   pub limit : s'.limit ≡ s.limit
   pub journal : s'.journal ≡ s.journal ++ e ∷ []
@@ -103,11 +103,11 @@ module _ (s : Records) (t : Token) where
       Turns s s' t (born s.next_mark f (length s.scopes + 1) t.step ∷ born (s.next_mark + 1) g scope (length s.steps + 1) ∷ []) (record { name = x; bound = Cell (length s.cells); outer = scope } ∷ [])
       (record { entered = PruneRight (length s.cells); outer = t.step; group = number; depth = 0; published = false } ∷ []) (record { side = Right (length s.cells); outer = t.step; number = number } ∷ []) (Cell (length s.cells) ∷ []) (Open t.serial (length s.cells) s.next_mark (s.next_mark + 1))
 
--- no open group has this number, the program's own is 0, and there are no more numbers than groups may be
+-- no open group has this number, it isn't that of the program's own group, 0, and it is below `MOST_GROUPS`
 abbrev pub IsFree : Records → ℕ → Type 0
 IsFree s number = (1 ≤ number) × None (λ (g : Group). nat_eq number g.number) s.groups × (number < MOST_GROUPS)
 
--- so many more tokens and groups find room, and a token with so many left sides of a `>x>` round it
+-- so many tokens and groups more are within the limits, and so is a token with `depth` left sides of a `>x>` around it
 abbrev pub HasRoom : Records → ℕ → ℕ → ℕ → Type 0
 HasRoom s tokens groups depth = (length s.tokens + length s.calls + tokens ≤ MOST_TOKENS) × (length s.groups + 1 + groups ≤ MOST_GROUPS) × (depth ≤ MOST_FRAMES)
 
@@ -115,14 +115,14 @@ HasRoom s tokens groups depth = (length s.tokens + length s.calls + tokens ≤ M
 abbrev pub IsFull : Records → ℕ → ℕ → ℕ → Type 0
 IsFull s tokens groups depth = (MOST_TOKENS < length s.tokens + length s.calls + tokens) ⊎ ((MOST_GROUPS < length s.groups + 1 + groups) ⊎ (MOST_FRAMES < depth))
 
--- why a call that adds an entry, such tokens and such groups is refused: the first cause that there is
+-- why a call that adds an entry and so many tokens and groups is refused: the first cause that there is
 abbrev pub IsRefused : Records → ℕ → ℕ → ℕ → LedgerFault → Type 0
 IsRefused s tokens groups depth fault.Full = IsFull s tokens groups depth
 IsRefused s tokens groups depth fault.Limit = HasRoom s tokens groups depth × (s.limit ≤ s.entries)
 IsRefused s tokens groups depth fault.Memory = HasRoom s tokens groups depth × (s.entries < s.limit)
 IsRefused s tokens groups depth fault.Unclaimed = ⊥
 
--- the token t publishes past these otherwises, and others come
+-- token t publishes, its value leaves the otherwises ns on the way, and `births` come
 pub record Crosses (s s' : Records) (t : Token) (births : List Token) (ss : List Scope) (ns : List ℕ) (e : Entry) : Type 0 where
   pub limit : s'.limit ≡ s.limit
   pub journal : s'.journal ≡ s.journal ++ e ∷ []
@@ -137,7 +137,7 @@ pub record Crosses (s s' : Records) (t : Token) (births : List Token) (ss : List
   pub steps : Publishes ns s.steps s'.steps
   pub cells : s'.cells ≡ s.cells
 
--- the left side g of an otherwise goes, and a token stands on its right side
+-- group g, the left side of otherwise n, goes, and a token at the right side comes
 pub record Resumes (s s' : Records) (g : Group) (n node scope : ℕ) : Type 0 where
   pub limit : s'.limit ≡ s.limit
   pub journal : s'.journal ≡ s.journal ++ Right_ n s.next_mark ∷ []
@@ -167,14 +167,14 @@ pub record Closes (s s' : Records) (g : Group) : Type 0 where
   pub steps : s'.steps ≡ s.steps
   pub cells : s'.cells ≡ s.cells
 
--- the group g goes, and no other record
+-- of all tokens, calls, groups and steps only group g goes
 pub record GoesAlone (s s' : Records) (g : Group) : Type 0 where
   pub tokens : s'.tokens ≡ s.tokens
   pub calls : s'.calls ≡ s.calls
   pub groups : (w : Group → ℕ) → weight w s'.groups + w g ≡ weight w s.groups
   pub steps : s'.steps ≡ s.steps
 
--- some tokens and calls go and others come; `made` calls are new
+-- tokens ts and calls cs go, ts' and cs' come, of which `made` calls are new; entry e is added to the journal
 pub record Exchanges (s s' : Records) (ts ts' : List Token) (cs cs' : List Call) (made : ℕ) (e : Entry) : Type 0 where
   pub limit : s'.limit ≡ s.limit
   pub journal : s'.journal ≡ s.journal ++ e ∷ []

@@ -1,4 +1,5 @@
--- Claims: what only an exchange can show, as a mark that is won, is asked of a move last. A claim that was not asked is untouched; one that was asked is got or lost.
+-- Claims: a condition that only an atomic operation can settle, such as winning a mark that several workers try to set. A move asks its claim last,
+-- when nothing else refuses it. Until then the claim is untouched; once asked, it is got or lost.
 use Rattle.orc_rules.specs.Nodes.{Listing, code, definitions}
 use Rattle.orc_frames.specs.declared.action.Action.{Action}
 use Rattle.orc_frames.specs.declared.action.Action.TheVariants.{Prune, Other, Bind}
@@ -16,7 +17,8 @@ Claims untouched asked Other = asked
 Claims untouched asked (Bind c v) = asked
 Claims untouched asked _ = untouched
 
--- why a call that asks a claim last is refused: for one of these reasons, before it was asked; or it was lost, where none of those that come before was a reason
+-- why a call that asks a claim last is refused: for one of these reasons, before the claim was asked; or because it was lost, where neither Full nor
+-- Limit was a reason
 abbrev pub IsBarred : Type 0 → Type 0 → (LedgerFault → Type 0) → LedgerFault → Type 0
 IsBarred untouched lost reason fault.Full = untouched × reason fault.Full
 IsBarred untouched lost reason fault.Limit = untouched × reason fault.Limit

@@ -1,4 +1,4 @@
--- What becomes of a group that has halted: nobody is in it.
+-- What becomes of a group that has halted: it has no members.
 use Rattle.std.specs.Prelude.{◌≡◌, ◌≤◌, ℕ, [], ◌∷◌, ◌++◌, true, false}
 use Rattle.orc_rules.specs.declared.entry.Entry.TheVariants as entry
 use Rattle.orc_rules.specs.Term.{Term}
@@ -25,7 +25,7 @@ abbrev pub IsGroup : Records → ℕ → Group → Type 0
 IsGroup s number g = IsIn g s.groups × (g.number ≡ number)
 
 module _ (code : ℕ → Term) (s s' : Records) (g : Group) where
-  -- its side is a cell's right side: the cell has no value, and no other record goes
+  -- its side is a cell's right side: the cell is lost, and no other record goes
   pub record Loses (cell parent : ℕ) : Type 0 where
     pub side : g.side ≡ Right cell
     pub done : Drops code cell bound.Void s s'
@@ -55,7 +55,7 @@ module _ (code : ℕ → Term) (s s' : Records) (g : Group) where
   Becomes (Resumed slot) = Starts slot
   Becomes (Closed parent) = Leaves parent
 
--- the group with this number had nobody, and this has become of it
+-- the group with this number had no members, and h says what has become of it
 pub record HasHalted (code : ℕ → Term) (s s' : Records) (number : ℕ) (h : Halted) : Type 0 where
   pub group : Group
   pub is : IsGroup s number group

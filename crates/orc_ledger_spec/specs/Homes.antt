@@ -25,7 +25,7 @@ pub record Nest : Type 0 where
   pub step : ℕ
   pub parent : ℕ
 
--- each open group's side is a step's, whose outer step is in its parent; the root's is step 0
+-- each open group has the step into its side, and its parent is the group of the side around that step; the root's step is 0
 pub record AreNests (hs : List ℕ) (ss : List Step) (groups : ℕ → Option Nest) : Type 0 where
   pub root : (g : ℕ) (n : Nest) → groups g ≡ Some n → n.step ≡ 0 → g ≡ 0
   pub above : (g : ℕ) (n : Nest) (k : ℕ) (p : Step) → groups g ≡ Some n → n.step ≡ suc k → slice_get ss k ≡ Some p → (m : Nest) × (groups n.parent ≡ Some m) × (m.step ≡ home hs p.outer)

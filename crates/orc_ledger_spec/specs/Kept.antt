@@ -20,14 +20,14 @@ pub record Kept (l : Listing) (sites : List Site) (counts : List (List ℕ × �
   pub grouped : AreGrouped (numbers_of s) s
   -- of each pending call the table of sites says what its record has
   pub told : AreTold sites lawful.place.calls s.calls
-  -- of the calls that were made those which scripts answer are counted
+  -- `counts` has how many calls were made of each site that scripts answer, by the arguments
   pub counted : AreCounted sites counts lawful.place.calls
-  -- of each group's number it is known how many members it has
+  -- `sizes` has how many members each group has
   pub sized : AreSizes sizes s
-  -- the journal has brought what is there
+  -- there are no more records than the journal's entries have brought
   pub brought : AreBrought s
 
--- and that each token which is said to wait does, that the journal is of the second version, and that the limit is the run's
+-- `Kept`, and: each token that is parked waits, the journal has the second version, and the limit is the run's
 pub record IsKept (l : Listing) (sites : List Site) (limit : ℕ) (v : Version) (counts : List (List ℕ × ℕ)) (sizes : List ℕ) (q : Parked) (s : Records) : Type 0 where
   pub kept : Kept l sites counts sizes s
   pub rest : AreAtRest (code l) (definitions l) s q

@@ -44,7 +44,7 @@ module _ (l : Listing) (n : Numbers) (s : Records) where
   abbrev pub IsLeft : Type 0
   IsLeft = (g : Group) × IsIn g s.groups × (is_over (code l) s g.side ≡ true) × (members n s (n.number g) ≡ 0)
 
-  -- the causes of work: a token that moves, a group (the root, too) with nobody in it, or a call that is due
+  -- the causes of work: a token that moves, a group (the root, too) without members, or a call that is due
   abbrev pub Cause : Type 0
   Cause =
       ((t : Token) × IsIn t s.tokens × (is_wait (what_of (code l) (definitions l) s t) ≡ false)) ⊎ ((members n s 0 ≡ 0) ⊎ ((g : Group) × IsIn g s.groups × (members n s (n.number g) ≡ 0)))

@@ -1,4 +1,4 @@
--- What a move of a token does: the entry of its word, and what the move says of it.
+-- What a move of a token does: the entry of the token's word (its next action), and what the move answers.
 use Rattle.std.specs.Prelude.{◌≡◌, ◌+◌, ◌≤◌, ℕ, List, [], ◌∷◌, ◌++◌, map, length, slice_index_or}
 use Rattle.orc_rules.specs.declared.value.Value.{Value}
 use Rattle.orc_rules.specs.declared.entry.Entry.TheVariants as entry
@@ -37,7 +37,7 @@ IsThere s (by.SeqLeft x node scope outer) = (scope ≤ length s.scopes) × (oute
 IsThere s (by.PruneRight c outer) = HasStep s.steps (PruneRight c) outer
 
 module _ (l : Listing) (s : Records) (slot : ℕ) (t : Token) (s' : Records) where
-  -- the left side of `f | g` stands in the slot, the right one in another
+  -- t is at `f | g`: a token at the left side comes into its slot, one at the right side into another
   pub record Forks (right_slot : ℕ) : Type 0 where
     pub scope : ℕ
     pub left : ℕ
@@ -47,7 +47,7 @@ module _ (l : Listing) (s : Records) (slot : ℕ) (t : Token) (s' : Records) whe
     pub held : IsHeld s'.slots slot (born s t s.next_mark left scope t.step)
     pub right_held : IsHeld s'.slots right_slot (born s t (s.next_mark + 1) right scope t.step)
 
-  -- the left side of `f >x> g` stands in the slot
+  -- t is at `f >x> g`: a token at the left side comes into its slot
   pub record Feeds : Type 0 where
     pub scope : ℕ
     pub left : ℕ
@@ -57,7 +57,7 @@ module _ (l : Listing) (s : Records) (slot : ℕ) (t : Token) (s' : Records) whe
     pub done : IsFed s t scope left name right s'
     pub held : IsHeld s'.slots slot (born s t s.next_mark left scope (length s.steps + 1))
 
-  -- the left side of `f ; g` stands in the slot, in a group with a number that was free
+  -- t is at `f ; g`: a token at the left side comes into its slot, in a group with a number that was free
   pub record Tries : Type 0 where
     pub scope : ℕ
     pub left : ℕ
@@ -68,7 +68,7 @@ module _ (l : Listing) (s : Records) (slot : ℕ) (t : Token) (s' : Records) whe
     pub done : IsTried s t scope left right number s'
     pub held : IsHeld s'.slots slot (born s t s.next_mark left scope (length s.steps + 1))
 
-  -- the left side of `f <x< g` stands in the slot, the right one in another, in a group with a number that was free
+  -- t is at `f <x< g`: a token at the left side comes into its slot, one at the right side into another, in a group with a number that was free
   pub record Opens (right_slot : ℕ) : Type 0 where
     pub scope : ℕ
     pub left : ℕ
@@ -81,7 +81,7 @@ module _ (l : Listing) (s : Records) (slot : ℕ) (t : Token) (s' : Records) whe
     pub held : IsHeld s'.slots slot (born s t s.next_mark left (length s.scopes + 1) t.step)
     pub right_held : IsHeld s'.slots right_slot (born s t (s.next_mark + 1) right scope (length s.steps + 1))
 
-  -- the body of the definition that is called stands in the slot
+  -- t calls a definition: a token at the body comes into its slot
   pub record Enters : Type 0 where
     pub scope : ℕ
     pub definition : ℕ
@@ -99,7 +99,7 @@ module _ (l : Listing) (s : Records) (slot : ℕ) (t : Token) (s' : Records) whe
     pub undone : IsUndone l s scope definition list
     pub same : s' ≡ s
 
-  -- a copy of the right side of the `>x>` that takes the value stands in the slot
+  -- a `>x>` takes the value v: a token at a copy of the right side comes into t's slot
   pub record Sends (v : Value) : Type 0 where
     pub name : ℕ
     pub right : ℕ
@@ -109,7 +109,7 @@ module _ (l : Listing) (s : Records) (slot : ℕ) (t : Token) (s' : Records) whe
     pub done : Crosses s s' t (born s t s.next_mark right (length s.scopes + 1) outer ∷ []) (record { name = name; bound = bound.Is v; outer = scope } ∷ []) (crossed (its_path (code l) s t.step)) (entry.Send t.serial s.next_mark v)
     pub held : IsHeld s'.slots slot (born s t s.next_mark right (length s.scopes + 1) outer)
 
-  -- the cell has the value, the calls ks are cancelled, and the group round its right side has this number
+  -- cell c is bound to v, the calls ks are cancelled, and the group around the pruning has this number
   pub record Binds (c : ℕ) (v : Value) (ks : List ℕ) (number : ℕ) : Type 0 where
     pub done : Drops (code l) c (bound.Is v) s s'
     pub journal : s'.journal ≡ s.journal ++ entry.Bind t.serial c v ∷ map entry.Cancel ks
@@ -118,7 +118,7 @@ module _ (l : Listing) (s : Records) (slot : ℕ) (t : Token) (s' : Records) whe
     pub side : HasStep s.steps (PruneRight c) outer
     pub round : number ≡ group_at s.steps outer
 
-  -- what each word does, and what the move says of it
+  -- what each word does, and what the move answers
   abbrev pub Does : List ℕ → Action → Moved → Type 0
   Does ks Halt (moved.Gone g) = IsEnded s t s' × (g ≡ group_at s.steps t.step)
   Does ks Void (moved.Gone g) = IsVoided s t s' × (g ≡ group_at s.steps t.step)

@@ -45,11 +45,11 @@ abbrev pub is_empty : ℕ → ℕ
 is_empty zero = 1
 is_empty (suc k) = 0
 
--- how many open groups have nobody
+-- how many open groups have no members
 abbrev pub empty_groups : Numbers → Records → ℕ
 empty_groups n s = weight (λ (g : Group). is_empty (members n s (n.number g))) s.groups
 
--- how many groups, the root too, have nobody
+-- how many groups, the root too, have no members
 abbrev pub open_empty : Numbers → Records → ℕ
 open_empty n s = is_empty (members n s 0) + empty_groups n s
 
@@ -102,7 +102,7 @@ abbrev pub next_at : ℕ → Option ℕ → Next
 next_at now None = quiet
 next_at now (Some t) = cond (nat_lt now t) (ticks t) work
 
--- work if something is ready or empty, which are so many in all; else by the next due time
+-- work if the number of ready tokens and empty groups isn't 0; else by the next due time
 abbrev pub next_by : ℕ → ℕ → Option ℕ → Next
 next_by zero now due = next_at now due
 next_by (suc k) now due = work

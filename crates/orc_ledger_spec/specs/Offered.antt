@@ -57,19 +57,19 @@ module _ (l : Listing) (sites : List Site) (s : Records) where
     pub found : IsUnanswered l sites s k a return_.Gone → ⊥
     pub right : IsUnanswered l sites s k a return_.Wrong → ⊥
 
-  -- where this test tells what is inside: no call pends there, and a token makes moves of marks alone
+  -- of what this test picks no call pends, and the word of each token is a move of marks
   pub record AreDone (test : Path → Bool) : Type 0 where
     pub calls : (c : Call) → IsIn c s.calls → test (raw_path (code l) s c.step) ≡ false
     pub tokens : (t : Token) → IsIn t s.tokens → test (raw_path (code l) s t.step) ≡ true → is_move (what_of (code l) (definitions l) s t) ≡ true
 
-  -- the right side of a cell is a group, in which and in whose inner groups nothing is left but moves of marks
+  -- the right side of cell c is open, and in it, at any depth, nothing is left but moves of marks
   pub record IsLosing (c : ℕ) : Type 0 where
     pub group : Group
     pub is_open : IsIn group s.groups
     pub side : group.side ≡ side.Right c
     pub done : AreDone (inside c)
 
-  -- so is the left side of an otherwise, and no publication has left it
+  -- the same of the left side of otherwise n, and no publication has left it
   pub record IsStarting (n : ℕ) : Type 0 where
     pub group : Group
     pub is_open : IsIn group s.groups
@@ -83,7 +83,7 @@ module _ (l : Listing) (sites : List Site) (s : Records) where
   abbrev pub IsWithheld : Type 0
   IsWithheld = ((t : Token) × IsIn t s.tokens × (is_move (what_of (code l) (definitions l) s t) ≡ true)) ⊎ IsLeft l (numbers_of s) s
 
-  -- this comes next, or is withheld
+  -- n comes next, or a move of marks or a group that goes without an entry comes first
   abbrev pub ComesNext : Next → Type 0
   ComesNext n = (next_of (code l) (definitions l) (numbers_of s) s ≡ n) ⊎ IsWithheld
 

@@ -22,7 +22,8 @@ use Rattle.orc_ledger_spec.specs.declared.parts.Yield.{Yield}
 use Rattle.orc_ledger_spec.specs.declared.faults.LedgerFault.{LedgerFault}
 use Rattle.orc_ledger_spec.specs.declared.faults.LedgerFault.TheVariants as fault
 
--- the call of a definition with values, the entries of its own run, its next mark, how many calls it has made and cells it has opened, and what is left of it
+-- a sub-run: the call of a definition with values, the entries of its own run, its next mark, how many calls it has made and cells it has opened,
+-- and what is left of it
 pub record Apart : Type 0 where
   pub definition : ℕ
   pub args : List Value
@@ -41,12 +42,12 @@ abbrev pub rows_left : Option Yield → List Row
 rows_left None = []
 rows_left (Some y) = stands y.mark (param (Is y.value)) whole ∷ []
 
--- a token is left only of a run that has published nothing, and it isn't the first one
+-- if a token is left, the run has published nothing, and the token isn't the first one
 abbrev pub IsLeftOf : List Entry → ℕ → Option Yield → Type 0
 IsLeftOf es mark None = Unit {0}
 IsLeftOf es mark (Some y) = AreSilent es × (2 ≤ y.mark) × (y.mark < mark)
 
--- the entries lead from the call to a place where nothing is left but that, and nothing around it bears on them
+-- the entries are local, and lead from the call to a place where nothing is left but `left`
 pub record IsOver (l : Listing) (sites : List Site) (a : Apart) : Type 0 where
   pub place : Place
   pub leads : Journal (context l sites) (begin (call_of a.definition a.args)) a.entries place
@@ -65,7 +66,8 @@ pub record IsOver (l : Listing) (sites : List Site) (a : Apart) : Type 0 where
 abbrev pub StandsFor : Listing → Records → Token → ℕ → List Value → Type 0
 StandsFor l s t definition args = standing (code l) (its_env (code l) s) t.standing ≡ call_of definition args
 
--- the part may be taken in where the token stands: where nothing is left of it the whole run publishes what it has published, or that is nothing
+-- the part may be merged in the place of token t: if nothing is left of it, either the whole program publishes what the part does, or that is
+-- nothing
 abbrev pub Fits : Apart → Token → Type 0
 Fits a t = a.left ≡ None → (t.step ≡ 0) ⊎ AreSilent a.entries
 
@@ -73,7 +75,7 @@ Fits a t = a.left ≡ None → (t.step ≡ 0) ⊎ AreSilent a.entries
 abbrev pub numbering : Records → Token → Numbering
 numbering s t = record { token = t.serial; mark = s.next_mark; calls = s.made; cells = length s.cells - 1 }
 
--- cells from a number on, of which each stands for itself
+-- n cells from number c on, all unbound: each stands for itself
 abbrev pub cells_from : ℕ → ℕ → List Bound
 cells_from c zero = []
 cells_from c (suc n) = Cell c ∷ cells_from (suc c) n
@@ -83,7 +85,8 @@ abbrev pub comers : Numbering → Token → Option Yield → List Token
 comers n t None = []
 comers n t (Some y) = record { serial = mark_in n y.mark; standing = On y.value; step = t.step } ∷ []
 
--- the part's entries stand in the journal, and the token is gone, or stands on the value to which the call has come; no name stands for a cell of the part
+-- the part's entries stand in the journal; token t is gone, or one on the value that the call yields is in its place; no name stands for a cell of
+-- the part
 pub record TakesIn (s s' : Records) (t : Token) (a : Apart) : Type 0 where
   pub limit : s'.limit ≡ s.limit
   pub some : 1 ≤ length a.entries

@@ -26,7 +26,8 @@ goes (moved.Bound c g) = passed.Bound c g
 goes moved.Calls = passed.Calls
 goes moved.Waits = passed.Waits
 
--- token t, in this slot, stands at a call in the left side of a `>x>`: nothing has changed; or its call was made; or that was answered at once with a value, which the `>x>` took
+-- token t, in this slot, stands at a call in the left side of a `>x>`: nothing has changed; or its call was made; or the call was also answered at
+-- once, with a value that the `>x>` took
 abbrev pub GoesOn : Listing → List Site → Records → ℕ → Token → Passed → Records → Type 0
 GoesOn l sites s slot t passed.On s' = s' ≡ s
 GoesOn l sites s slot t (passed.Pends k) s' = IsCalled l sites s slot t (called.Pends k) s'
@@ -39,7 +40,7 @@ GoesOn l sites s slot t _ s' = ⊥
 abbrev pub Enters : Listing → List Site → Records → ℕ → Token → Passed → Records → Type 0
 Enters l sites s slot t p s' = (s1 : Records) × (u : Token) × Feeds l s slot t s1 × IsHeld s1.slots slot u × GoesOn l sites s1 slot u p s'
 
--- token t, in this slot, does so and is out of that left side: the step at which it stood there goes
+-- as `Enters`, but then nothing is in that left side any more, and its step goes
 abbrev pub Clears : Listing → List Site → Records → ℕ → Token → Passed → Records → Type 0
 Clears l sites s slot t p s' = (s2 : Records) × Enters l sites s slot t p s2 × Sheds s2 s'
 

@@ -115,7 +115,7 @@ abbrev pub is_own : ℕ → Option Bound → Bool
 is_own c (Some (Cell d)) = nat_eq c d
 is_own c _ = false
 
--- the side's cell has become something else
+-- the side is the right side of a cell that is bound or lost
 abbrev pub is_settled : List Bound → Side → Bool
 is_settled cells (Right c) = not (is_own c (slice_get cells c))
 is_settled cells (Left n g scope) = false

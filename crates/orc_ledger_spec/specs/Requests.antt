@@ -20,7 +20,7 @@ pub record IsNextCall (l : Listing) (sites : List Site) (s : Records) (t : Token
   pub number : c.number ≡ s.made + 1
   pub step : c.step ≡ t.step
   pub made_at : c.made_at ≡ s.now
-  -- the table's word, by the calls that the journal has
+  -- what the table says, by the calls that the journal has
   pub place : Place
   pub at : IsAt l sites s place
   pub found : c.found ≡ find sites m args (nth_of m args place.calls)
@@ -35,7 +35,7 @@ pub record IsMade (l : Listing) (sites : List Site) (s : Records) (t : Token) (c
   pub number : c.number ≡ s.made + 1
   pub step : c.step ≡ t.step
   pub made_at : c.made_at ≡ s.now
-  -- the table's word, by the calls that the journal has
+  -- what the table says, by the calls that the journal has
   pub place : Place
   pub at : IsAt l sites s place
   pub found : c.found ≡ find sites site args (nth_of site args place.calls)
@@ -43,7 +43,7 @@ pub record IsMade (l : Listing) (sites : List Site) (s : Records) (t : Token) (c
   pub row : c.row ≡ length s.journal
   pub exchanges : Exchanges s s' (t ∷ []) [] [] (c ∷ []) 1 (entry.Call t.serial c.number site args)
 
--- what call k asks, which pends: the journal's call with this number does
+-- r is what the pending call k asks: what the journal's call with this number asks
 pub record IsAsked (l : Listing) (sites : List Site) (s : Records) (k : ℕ) (r : Request) : Type 0 where
   pub call : Call
   pub pends : Pends s k call

@@ -12,7 +12,7 @@ use Rattle.orc_ledger_spec.specs.Laws.{Allowed, IsLeft}
 use Rattle.orc_ledger_spec.specs.declared.results.Next.{Next as Answer}
 use Rattle.orc_ledger_spec.specs.declared.results.Next.TheVariants.{Work, Ticks, Quiet}
 
--- the ledger's answer, as the definition has it
+-- what the ledger answers, as a value of the definition
 abbrev pub spoken : Answer → Next
 spoken Work = work
 spoken (Ticks t) = ticks t

@@ -19,12 +19,12 @@ found_eq _ _ = false
 abbrev pub is_nth : List Site → CallMade → ℕ → Bool
 is_nth sites m n = not (is_scripted sites m.site) || nat_eq m.nth n
 
--- the call was made, and its record has the table's word on it, the time when it was made, and which one it was
+-- the call was made, and its record has what the table says of it, the time when it was made, and which one it was
 abbrev pub is_told : List Site → List CallMade → Call → Bool
 is_told sites [] c = false
 is_told sites (m ∷ ms) c = cond (nat_eq c.number m.number) (found_eq (says_of sites m) c.found && nat_eq m.at c.made_at && is_nth sites m c.nth) (is_told sites ms c)
 
--- is_told as a fact
+-- `is_told` as facts
 pub record IsTold (sites : List Site) (made : List CallMade) (c : Call) : Type 0 where
   pub by : CallMade
   pub is_made : IsIn by made
@@ -33,6 +33,6 @@ pub record IsTold (sites : List Site) (made : List CallMade) (c : Call) : Type 0
   pub at : by.at ≡ c.made_at
   pub nth : is_scripted sites by.site ≡ true → by.nth ≡ c.nth
 
--- each pending call is told
+-- the record of each pending call is right
 abbrev pub AreTold : List Site → List CallMade → List Call → Type 0
 AreTold sites made calls = None (λ c. not (is_told sites made c)) calls

@@ -1,4 +1,4 @@
--- A last step at which nobody stands, and the records without it.
+-- The last step, when no token, call or group is at it any more, and the records without it.
 use Rattle.std.specs.Prelude.{◌≡◌, [], ◌∷◌, ◌++◌, false, Some, length, nat_eq}
 use Rattle.orc_indexes.specs.Same.{None}
 use Rattle.orc_tables.specs.Steps.{step_at}

@@ -8,7 +8,8 @@ use Rattle.orc_ledger_spec.specs.Records.{Records, context}
 use Rattle.orc_frames.specs.declared.action.Action.{Action}
 use Rattle.orc_frames.specs.declared.action.Action.TheVariants.{Halt, Fork, Seq, Other, Wait}
 
--- the journal leads from the program's term to a place where no cancel is due, at the ledger's time; it has as many entries, cancels not counted, as the ledger says, and those are within its limit
+-- the journal leads from the program's term to a place where no cancel is due, at the ledger's time; the ledger says how many entries it has,
+-- cancels not counted, and those are within its limit
 pub record IsWhole (l : Listing) (sites : List Site) (s : Records) : Type 0 where
   pub place : Place
   pub leads : Journal (context l sites) (begin (source l)) s.journal place

@@ -4,7 +4,7 @@ ghost use Rattle.std.specs.Prelude.{◌≡◌};
 
 use std::alloc::AllocError;
 
-/// Why a call is refused; nothing has changed then. The first of these that is a cause.
+/// Why a call is refused; nothing has changed then. If there are several causes, it is the first in this order.
 #[derive(Clone, Copy, Debug, PartialEq, Eq)]
 pub enum LedgerFault {
     /// There would be over `MOST_TOKENS` tokens and calls, `MOST_GROUPS` groups (with the program's own), or `MOST_FRAMES` left sides of a `>x>`
@@ -14,7 +14,7 @@ pub enum LedgerFault {
     Limit,
     /// Memory was refused.
     Memory,
-    /// The call asks a claim last, and that was lost.
+    /// The call came with a claim, asked it when nothing else was in its way, and the claim was lost.
     Unclaimed,
 }
 
@@ -28,7 +28,7 @@ impl From<AllocError> for LedgerFault {
     }
 }
 
-/// Why an answer of a call is refused; nothing has changed then. The first of these that is a cause.
+/// Why an answer of a call is refused; nothing has changed then. If there are several causes, it is the first in this order.
 #[derive(Clone, Copy, Debug, PartialEq, Eq)]
 pub enum ReturnFault {
     /// No call with this number pends.
@@ -41,7 +41,7 @@ pub enum ReturnFault {
     Memory,
 }
 
-/// Why a group doesn't halt; nothing has changed then. The first of these that is a cause.
+/// Why a group doesn't halt; nothing has changed then. If there are several causes, it is the first in this order.
 #[derive(Clone, Copy, Debug, PartialEq, Eq)]
 pub enum HaltFault {
     /// No open group has this number.

@@ -5,18 +5,18 @@ ghost use Rattle.orc_ledger_spec.specs.Passing.{goes};
 
 use orc_rules::value::{Args, Value};
 
-/// What a move of a token has done. A group that may have no member any more is named, so that its caller can halt it.
+/// What a move of a token has done. If a group may have lost its last member by it, the answer names that group, so that the caller can halt it.
 #[derive(Clone, Copy, Debug, PartialEq, Eq)]
 pub enum Moved {
-    /// Another token is in its slot.
+    /// The token was replaced: its successor is in its slot.
     On,
-    /// Another token is in its slot, and one more in this slot.
+    /// The token has two successors: one is in its slot, the other in this slot.
     Forked(usize),
     /// A `>x>` took its value, and a token on the right side stands in its slot. The group that it was in may have no member any more.
     Sent(u32),
-    /// It went, out of this group, which may have no member any more.
+    /// The token is gone, out of this group, which may have no member any more.
     Gone(u32),
-    /// This cell has its value, and all inside its right side went. The group around the pruning has this number, and may have no member any more.
+    /// This cell is bound, and all inside its right side is gone. The group around the pruning has this number, and may have no member any more.
     Bound(u64, u32),
     /// It is at a call of a site with values, which is made by another function (`call`): nothing has changed.
     Calls,
