@@ -27,13 +27,14 @@ in_ended f (Token k) = f k.pass
 in_ended f (Lost cell) = 0
 in_ended f Group = 0
 
--- what is told of a group that has halted so: the cell that is lost, a token in the slot of the one that has come, or no more than that it is gone
+-- the book's answer for a group that has halted so: the cell that is lost, the token in this slot, or only that the group is gone
 abbrev pub Told : {X : Type 0} → Halted → Ended X → Type 0
 Told {X} (halted.Lost cell parent) e = e ≡ Lost cell
 Told {X} (halted.Resumed slot) e = (k : Out X) × (e ≡ Token k) × (k.slot ≡ slot)
 Told {X} (halted.Closed parent) e = e ≡ Group
 
--- word w, which stands for this, was left last, and this is told of it. The program's own group keeps its word. Else the word is free again, and no other word has changed: an open group has halted, and a killed one changes no record
+-- The last pass to word w, which stands for this, was left, and e is the answer. The program's own group keeps its word. Any other word is free
+-- again, and no other word has changed: an open group has halted, and for a killed one no record changes
 abbrev pub FreesWord : {X : Type 0} → (ℕ → Term) → Held → ℕ → Kind → Ended X → Held → Type 0
 FreesWord code b w Free e b' = ⊥
 FreesWord code b w (Open number) e b' = ((number ≡ 0) × (e ≡ Run) × (b' ≡ b)) ⊎ ((number ≡ 0 → ⊥) × (h : Halted) × HasHalted code b.ledger b'.ledger number h × Told h e × Turns b.stands w unused b'.stands)

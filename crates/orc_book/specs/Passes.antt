@@ -27,7 +27,8 @@ in_book f b = in_posts f b.posts + in_words f b.stands
 abbrev pub in_tokens : {X : Type 0} → (View → ℕ) → List (Out X) → ℕ
 in_tokens {X} f ks = weight (λ (k : Out X). f k.pass) ks
 
--- passes have been added to those that are to be left. They are all that went: whatever each weighs, they weigh with those that there are what those did that there were
+-- Passes have been added to those to be left: all that were given up, and no others. Whatever each pass weighs, those that were added and those that
+-- there are now (`has`) weigh together what those weighed that there were before (`had`)
 pub record GivesUp (before after : List View) (had has : (View → ℕ) → ℕ) : Type 0 where
   pub more : List View
   pub added : after ≡ before ++ more

@@ -156,7 +156,7 @@ module _ {X : Type 0} (l : Listing) (b : Held) (k : Out X) where
   IsRefusedOn Wrong = (t : Token) × (IsOther is_onward t ⊎ IsMisfit t)
   IsRefusedOn why = IsRefusedMove is_onward (IsHindered l b.ledger) why
 
-  -- no cause of the ledger's stands against the move, but none of so many words is opened for the new group
+  -- the ledger has no cause to refuse the move, but none of so many words can be opened for the new group
   abbrev pub IsUnopened : ℕ → (Action → Bool) → BookFault → Type 0
   IsUnopened words takes Full = (t : Token) × IsTaken takes t × IsHindered l b.ledger t ledger.Memory × HasNoWord b.stands words Full
   IsUnopened words takes Live = (t : Token) × IsTaken takes t × IsHindered l b.ledger t ledger.Memory × HasNoWord b.stands words Live
@@ -175,7 +175,7 @@ module _ {X : Type 0} (l : Listing) (b : Held) (k : Out X) where
   abbrev pub IsSentOut : Token → Type 0
   IsSentOut t = (f : Fed) × IsFedBy l b.ledger t f × (group_at b.ledger.steps f.outer ≡ group_at b.ledger.steps t.step → ⊥)
 
-  -- passes that were lent don't do for the move
+  -- the last of the passes that the move needs names another group, or is missing
   abbrev pub IsShort : List View → List View → Token → Action → Type 0
   IsShort same idle t does.Fork = HasNone same (group_of k.pass)
   IsShort same idle t (does.Send v) = HasNone idle None × IsSentOut t

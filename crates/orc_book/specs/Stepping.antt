@@ -26,7 +26,7 @@ AreComers slot (moved.Sent g) slots = slots ≡ slot ∷ []
 AreComers slot (moved.Forked other) slots = slots ≡ slot ∷ other ∷ []
 AreComers slot _ slots = ⊥
 
--- a token that was out has done what its word says, and tokens have been added: those that come of that
+-- a token that was out has taken its action, and the tokens that come of it have been added
 abbrev pub HasStepped : {X : Type 0} → Listing → Held → Out X → List (Out X) → List (Out X) → Held → Type 0
 HasStepped {X} l b k before after b' =
     (t : Token) × (m : Moved) × (ks : List ℕ) × (more : List (Out X))
@@ -58,7 +58,8 @@ ChangesOwn b k ps so = (t : Token) × IsUnkept b k.slot k.serial k.pass t × Cha
 abbrev pub AreLeft : List View → List View → Type 0
 AreLeft before after = (more : List View) × (after ≡ before ++ more) × ((v : View) → IsIn v more → IsSome (group_of v))
 
--- the passes that a move uses of those that were lent, to the same group and idle, those of its token that are to be left, and those of the tokens that come
+-- By a token's action: which of the passes that were lent it uses, to the same group and idle, which passes are to be left, and which ones the
+-- tokens have that come
 abbrev pub IsSpent : Action → View → List View → List View → List View → List View → Type 0
 IsSpent does.Halt own same idle left come = (same ≡ []) × (idle ≡ []) × (left ≡ own ∷ []) × (come ≡ [])
 IsSpent does.Void own same idle left come = (same ≡ []) × (idle ≡ []) × (left ≡ own ∷ []) × (come ≡ [])
@@ -76,7 +77,8 @@ pub record Lent : Type 0 where
   pub idle : List View
   pub leave : List View
 
--- the token has done what its word says with the last of the passes that were lent, those that it gives up have been added to those to be left, and the tokens that come have the others
+-- The token has taken its action with the last of the passes that were lent. Those that it gives up have been added to those to be left, and the
+-- tokens that come have the others
 pub record HasSpent {X : Type 0} (l : Listing) (b : Held) (k : Out X) (before after : Lent) (tokens tokens' : List (Out X)) : Type 0 where
   pub token : Token
   pub unkept : IsUnkept b k.slot k.serial k.pass token
@@ -90,7 +92,8 @@ pub record HasSpent {X : Type 0} (l : Listing) (b : Held) (k : Out X) (before af
   pub come : tokens' ≡ tokens ++ more
   pub spent : IsSpent (what_of (code l) (definitions l) b.ledger token) k.pass same idle left (map (λ (j : Out X). j.pass) more)
 
--- none of the idle passes has been used, and a token has come with the one's own pass; or the last one has, a token has come with a pass, and the own one is to be left
+-- Either no idle pass was used, and a token with the old token's own pass was added; or the last idle one was used, a token with some pass was
+-- added, and the own pass is to be left
 abbrev pub SpendsIdle : {X : Type 0} → View → List View → List View → List View → List View → List (Out X) → List (Out X) → Type 0
 SpendsIdle own before after leave leave' born born' =
     ((after ≡ before) × (leave' ≡ leave) × HaveCome born born' (own ∷ []))

@@ -1,5 +1,5 @@
-//! A cell is bound: what stood inside its right side goes. A group's word has a bit for *killed*, which one pass at most sets, and so wins: of two
-//! tokens of the group that bind at the same time it picks one.
+//! Binds a cell: what is inside its right side goes. The word of a group has a bit *killed*, which at most one pass sets: so if two tokens of a
+//! group try to bind at the same time, one of them wins.
 ghost use Rattle.std.specs.Prelude.{◌≡◌, ◌≤◌, ◌+◌, ◌⊎◌, ℕ, IfOk, IfErr, IfSome, OnOk, OnErr, vec_len, vec_capacity};
 ghost use Rattle.orc_rules.specs.Timed.{IsIn};
 ghost use Rattle.orc_tables.specs.declared.records.Token.{Token as Its};
@@ -28,7 +28,7 @@ fn count_records<P: Run>(ledger: &Ledger<P>) -> Option<usize>
     count.checked_add(ledger.side_count())
 }
 
-// Makes room for a pass of each record, so for all that are held, and one more.
+// Makes room in `leave` for one pass more than there are records: so for all passes that the book holds, and the token's own.
 fn reserve_all<P: Run, J: Naming>(
     ledger: &Ledger<P>,
     leave: &mut Vec<Pass<J>>,
@@ -47,11 +47,11 @@ fn reserve_all<P: Run, J: Naming>(
 }
 
 impl<P: Run + Naming> Book<P> {
-    /// A cell takes what the token publishes: all that stands inside its right side goes. The token's pass has won the mark that its group is killed,
-    /// and is to be left with those of all records that went. Refused as Gone where the token isn't out or the mark was set already, as Wrong where
-    /// it does something else next, as Full, Limit or Memory where the ledger refuses the entry for that or memory is refused. Of a refused token the
-    /// pass has won the mark only where the fault is Memory. `cancelled` is lent: where the bind is Ok it then holds the numbers of the calls that
-    /// went, in rising order, and else any numbers.
+    /// Binds the cell that takes what this token publishes: all records inside the cell's right side go. The token's pass wins the mark that its
+    /// group is killed, and is added to `leave`, with the passes of all records that went. Refused as Gone if the token isn't out or the mark was
+    /// set already, as Wrong if it does something else next, as Full, Limit or Memory if the ledger refuses the entry for that or memory is refused.
+    /// The pass of a refused token has won the mark only if the fault is Memory. `cancelled` is lent: after an Ok it holds the numbers of the calls
+    /// that went, in rising order, and else any numbers.
     pub fn bind(
         &mut self,
         groups: &Groups<P>,

@@ -32,9 +32,10 @@ pub enum Answered<P: Naming> {
 }
 
 impl<P: Run + Naming> Book<P> {
-    /// A call of a site with values: it pends where the token was, and the book holds its pass. Gives its number, from 1. `args` is lent: the call's
-    /// arguments stand in it then, and what it held is lost. Refused as Gone where the token isn't out, as Wrong where it does something else next,
-    /// as Full or Limit where the entry is over one, else as Memory.
+    /// Makes the call of a site at which this token is, whose operands have values: the call pends in the token's place, and the book holds the
+    /// token's pass for it. Gives the call's number, from 1. `args` is lent: it has the call's arguments afterwards, and what it held is lost.
+    /// Refused as Gone if the token isn't out, as Wrong if it does something else next, as Full or Limit if the entry is over such a limit, else as
+    /// Memory.
     pub fn call(
         &mut self,
         inputs: &Inputs<'_, P>,
@@ -83,9 +84,9 @@ impl<P: Run + Naming> Book<P> {
 }
 
 impl<P: Run + Naming> Book<P> {
-    /// A call that pends is answered, where the table of sites gives this answer and it is due now. With a value a token on it is out, with the
-    /// call's pass; else that is to be left. Refused as Gone where no call pends with the number, as Wrong where the answer isn't due now, as Limit
-    /// where the journal has as many entries as the limit, else as Memory.
+    /// Answers a pending call, if the table of sites gives this answer and it is due now. If the answer is a value, a token on it is out, with a
+    /// pass of the call's group; if the call halts, that pass comes back, to be left. Refused as Gone if no call pends with the number, as Wrong if
+    /// the answer isn't due now, as Limit if the journal has as many entries as the limit, else as Memory.
     pub fn returned(&mut self, number: u64, answer: Answer) -> Result<Answered<P>, BookFault>
         ensures done { IfOk result (λ a. (c : ItsCall) × Pends self.old.ledger number c × IsAnswered self.old c answer a self.new) }
         ensures stands { KeepsWords self.old self.new }
@@ -98,7 +99,7 @@ impl<P: Run + Naming> Book<P> {
         };
         let group = self.ledger.group_of_call(&call);
         let out = out_in(&self.posts, group);
-        // The same law.
+        // A law, as in `call`.
         stands(&self.ledger);
         match self.ledger.returned(number, answer) {
             Ok(Some(slot)) => {

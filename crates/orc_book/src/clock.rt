@@ -1,4 +1,4 @@
-//! What comes next of a run, asked once no worker has a token that can move; and the tick, if it is one.
+//! What comes next in a run: workers ask it when none of them has a token that can move. If it is a tick, the book makes it.
 ghost use Rattle.std.specs.Prelude.{◌≡◌, ◌+◌, ◌++◌, ◌∷◌, [], IfOk, IfErr, OnOk, OnErr};
 ghost use Rattle.orc_rules.specs.declared.entry.Entry.TheVariants.{Tick};
 ghost use Rattle.orc_ledger_spec.specs.Answers.{MayTick};
@@ -12,7 +12,7 @@ use orc_ledger::{Inputs, Next as Comes};
 use orc_log::Run;
 use orc_word::Naming;
 
-/// What comes next of a run.
+/// What comes next in a run.
 #[derive(Clone, Copy)]
 pub enum Next {
     /// Something else comes before time goes on: a token can move, a group can end, or a call is due.
@@ -24,8 +24,8 @@ pub enum Next {
 }
 
 impl<P: Run + Naming> Book<P> {
-    /// What comes next of the run, be its tokens out or kept. Where that is a tick it is made. The faults are Limit, where the
-    /// journal has as many entries as the limit, and Memory, both of a tick alone.
+    /// What comes next in the run, whether its tokens are out or kept. If it is a tick, the tick is made. The faults are Limit, if the journal has
+    /// as many entries as the limit, and Memory; both come of a tick alone.
     pub fn next(&mut self, inputs: &Inputs<'_, P>) -> Result<Next, BookFault>
         ensures says { IfOk result (λ n. SaysNext P.listing P.sites self.old.ledger n self.new.ledger) }
         ensures posts { self.new.posts ≡ self.old.posts }

@@ -14,9 +14,9 @@ use orc_log::Run;
 use orc_word::Naming;
 
 impl<P: Run + Naming> Book<P> {
-    /// A token at `f >x> g` or at a call of a definition: one on the left side, or on the body, is out in its place with its pass. Refused as Gone
-    /// where the token isn't out, as Wrong where it does something else next, or the call's operands don't fit, which no checked program has, and as
-    /// Full, Limit or Memory where the ledger refuses the entry for that.
+    /// Moves a token at `f >x> g`, or at a call of a definition: a token on the left side, or on the body, is out in its place, with its pass.
+    /// Refused as Gone if the token isn't out, as Wrong if it does something else next or if the call's operands don't fit (no checked program has
+    /// such a call), as Full, Limit or Memory if the ledger refuses the entry for that.
     pub fn go_on(
         &mut self,
         inputs: &Inputs<'_, P>,

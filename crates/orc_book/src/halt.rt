@@ -1,4 +1,4 @@
-//! The end of a group: somebody has left the last pass to it, and so nobody is in it.
+//! Ends a group: a worker has left the last pass that names it, so it has no members any more.
 ghost use Rattle.std.specs.Prelude.{◌≡◌, ◌≤◌, ◌+◌, ◌⊎◌, ℕ, IfOk, IfErr, OnOk, OnErr, None, Some};
 ghost use Rattle.orc_rules.specs.Nodes.{code};
 ghost use Rattle.orc_rules.specs.Term.{Halted as HasStopped};
@@ -21,23 +21,24 @@ use orc_ledger_spec::{HaltFault, Halted};
 use orc_log::Run;
 use orc_word::{Last, Naming, Pass};
 
-/// What has become of a group that was left last.
+/// What has become of a group whose last pass was left.
 #[derive(Drop)]
 pub enum Ended<P: Naming> {
     /// It was the program's own, and the program's term has halted.
     Run,
     /// It was the left side of an otherwise: a token on the right side is out.
     Token(Token<P>),
-    /// It was the right side of this cell, which will never have a value: `wake` is to be told.
+    /// It was the right side of this cell, which will never have a value: the caller has to call `wake` for it.
     Lost(u64),
     /// It is gone, and nothing follows: it was killed, or it was the left side of an otherwise that has published.
     Group,
 }
 
 impl<P: Run + Naming> Book<P> {
-    /// A group that was left last is closed. Its word is free again, and its pass to the group round it is to be left, if it had one. Refused as Gone
-    /// where the word stands for no group that is there, as Live where somebody is in that still, as Full or Limit where the ledger refuses the entry
-    /// for that, else as Memory.
+    /// Closes the group whose last pass was left, so that its word is free again. If the book holds a pass to the enclosing group for it, that goes
+    /// to the token that starts a right side, if one does, else to `leave`. The program's own group keeps its word. Refused as Gone if the word
+    /// stands for no group that is there, as Live if that group still has members, as Full or Limit if the ledger refuses the entry for that, else
+    /// as Memory.
     pub fn halt(
         &mut self,
         last: Last<P>,
@@ -90,8 +91,8 @@ impl<P: Run + Naming> Book<P> {
         }
     }
 
-    // The group with this number, in which nobody is, ends, and its word is free again. Where it was the left side of an otherwise that no
-    // publication has left, a token stands on the right side, and is out. Else the group's pass to the one round it is to be left.
+    // Ends the group with this number, which has no members, and frees its word. If it was the left side of an otherwise that has not published, a
+    // token on the right side is out, with the group's pass to the enclosing one. Else that pass is to be left.
     fn halt_group(
         &mut self,
         number: u32,

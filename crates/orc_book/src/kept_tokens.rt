@@ -1,4 +1,4 @@
-//! Tokens that are kept while they wait for cells. The serial that a slot has here is the mark of the token that is kept there.
+//! Which tokens the book keeps while they wait for cells. Contracts call the serial of the token that is kept in a slot the slot's *mark*.
 ghost use Rattle.std.specs.Prelude.{◌≡◌, ◌<◌, ◌≤◌, ℕ, [], length, true, false, OnOk, OnErr};
 ghost use Rattle.orc_book.specs.Held.{IsMarked, mark_at};
 
@@ -12,21 +12,22 @@ pub(crate) struct Handle {
     pub serial: u64,
 }
 
-// A token that waits for a cell, and the place of the next one that does. Places count from 1 in `links`; 0 is none.
+// A link of a cell's chain: a token that waits for the cell, and the place of the next link. Places in `links` count from 1; 0 is none.
 #[derive(Clone, Copy)]
 struct Link {
     handle: Handle,
     next: u32,
 }
 
-/// Which tokens are kept, and a chain of those that wait for each cell. They are hints: a token may stand in several chains, and one that is out or
-/// gone may stand there still.
+/// Which tokens are kept, and for each cell a chain of those that wait for it. The chains are hints: a token may be in several, and one that is out
+/// or gone may still be in some.
 #[derive(Drop)]
 pub(crate) struct Keeping {
     // The serial of the token that is kept in each slot; 0 for none.
     kept: Vec<u64>,
-    // The place of the first link of each cell, from 1.
+    // By cell: the place of its first link, from 1; 0 for none.
     heads: Vec<u32>,
+    // The links of all chains, with those that are free.
     links: Vec<Link>,
     // The place of the first link that is free; the free ones are a chain too.
     free: u32,
@@ -74,7 +75,7 @@ impl Keeping {
         }
     }
 
-    // Puts a link where one is free, else behind the others. Gives its place, or refuses where the next one has no 32 bits.
+    // Puts a link into a free place, or else behind the others, and gives the place. Refused if the place takes over 32 bits, or if memory is.
     fn put(&mut self, link: Link) -> Result<u32, AllocError>
         ensures { self.new ≡ self.old }
     {
@@ -95,7 +96,7 @@ impl Keeping {
         Ok(place as u32)
     }
 
-    // A token waits for a cell: it comes first in the cell's chain.
+    // Puts a token that waits for a cell in front of the cell's chain.
     fn add(&mut self, cell: u64, handle: Handle) -> Result<(), AllocError>
         ensures { self.new ≡ self.old }
     {
@@ -129,7 +130,7 @@ impl Keeping {
         self.kept.resize(len, 0)
     }
 
-    /// A token is kept, and waits for these cells. Where memory is refused it isn't kept.
+    /// Keeps a token that waits for these cells. If memory is refused, it isn't kept.
     pub(crate) fn keep(&mut self, cells: &[u64], handle: Handle) -> Result<(), AllocError>
         ensures kept { OnOk result (IsMarked self.old handle.slot handle.serial self.new) }
         ensures refused { OnErr result (self.new ≡ self.old) }
@@ -173,7 +174,7 @@ impl Keeping {
         Some(link.handle)
     }
 
-    /// If this token is kept in its slot, it is no more. Gives whether it was.
+    /// Keeps this token no longer, and says whether it was kept in its slot.
     pub(crate) fn release(&mut self, handle: Handle) -> bool
         ensures kept { result ≡ true → (mark_at self.old handle.slot ≡ handle.serial) × IsMarked self.old handle.slot 0 self.new }
         ensures other { result ≡ false → self.new ≡ self.old }

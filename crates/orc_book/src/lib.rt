@@ -4,8 +4,9 @@
 //! pending calls and the groups right inside it. The group's *word*, an atomic counter of `orc_word`, counts *passes*: one for each member. Of a
 //! token that is *out* a worker holds the pass; of every other record the book does. Who leaves the last pass of a group closes it (`halt`).
 //!
-//! In clauses `Moves` is the ledger's line for a move of a token, with the numbers of the calls that it cancels; `stands` lists what each word stands
-//! for, and `marks` the tokens that are kept, by slots. The function `stands` of `orc_ledger` is another thing: a law about the journal.
+//! In contracts `Moves` says what a token's move does to the ledger, with the numbers of the calls that it cancels; `stands` lists what each word
+//! stands for, and `marks` the serials of the tokens that are kept, by slots. The function `stands` of `orc_ledger` is another thing: a law about
+//! the journal.
 #![tactic(auto)]
 
 mod bind;

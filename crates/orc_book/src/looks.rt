@@ -28,10 +28,12 @@ use orc_rules::value::Answer;
 use orc_tables::Call;
 use orc_word::Naming;
 
-/// The passes that a move needs beside the token's own, at most: how many to the token's own group, and how many idle ones.
+/// The passes that a move needs at most, beside the token's own.
 #[derive(Clone, Copy)]
 pub struct Needs {
+    /// How many passes to the token's own group.
     pub same: u32,
+    /// How many idle passes.
     pub idle: u32,
 }
 
@@ -47,11 +49,14 @@ pub fn needs_of(what: Action) -> Needs
     }
 }
 
-/// What a book knows of a token: what it does next, the word of its group, and the passes that it needs for that.
+/// What a book knows of a token.
 #[derive(Clone, Copy)]
 pub struct TokenView {
+    /// What the token does next.
     pub what: Action,
+    /// The number of its group's word.
     pub word: u32,
+    /// The passes that the action needs at most.
     pub needs: Needs,
 }
 

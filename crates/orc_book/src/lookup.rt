@@ -10,18 +10,22 @@ use orc_log::Run;
 use orc_tables::Token as Record;
 use orc_word::Naming;
 
-/// A token's record, what it does next, the number of its group, and how many of the group's tokens are out.
+/// What the book has found of a token that may be out.
 #[derive(Clone, Copy)]
 pub(crate) struct Found {
+    /// The token's record in the ledger.
     pub its: Record,
+    /// What the token does next.
     pub what: Action,
+    /// The ledger's number of the token's group.
     pub group: u32,
+    /// How many tokens of that group are out: 1 at least.
     pub out: usize,
 }
 
 impl<P: Run + Naming> Book<P> {
-    /// A token that may be out: its record is there, its pass names its group's word, the book doesn't keep it, and some token of the group is out.
-    /// The fault is Gone.
+    /// Looks up a token that may be out: its record is there, its pass names its group's word, the book doesn't keep it, and some token of the group
+    /// is out. Else the fault is Gone.
     #[inline(always)]
     pub(crate) fn find(&self, inputs: &Inputs<'_, P>, token: &Token<P>) -> Result<Found, BookFault>
         ensures found { IfOk result (HasFound P.listing self.now token.now) }

@@ -19,8 +19,8 @@ use orc_log::Run;
 use orc_word::{Naming, Pass};
 
 impl<P: Run + Naming> Book<P> {
-    /// A token that ends, at `stop` or where it is void. Its pass is to be left. Refused as Gone where the token isn't out, as Wrong where it does
-    /// something else next, as Full, Limit or Memory where the ledger refuses the entry for that.
+    /// Ends a token that is at `stop` or void. Its pass comes back, to be left. Refused as Gone if the token isn't out, as Wrong if it does
+    /// something else next, as Full, Limit or Memory if the ledger refuses the entry for that.
     pub fn end(
         &mut self,
         inputs: &Inputs<'_, P>,
@@ -86,7 +86,7 @@ impl<P: Run + Naming> Book<P> {
 }
 
 impl<P: Run + Naming> Book<P> {
-    // The token in a slot, which goes out with this pass.
+    // Makes a token for a worker of the record in this slot, with this pass.
     pub(crate) fn born(&self, slot: usize, pass: Pass<P>) -> Token<P>
         requires held { (t : Its) × IsHeld self.now.ledger.slots slot t × (group_of pass ≡ Some (word_at self.now.posts (group_at self.now.ledger.steps t.step))) }
         ensures token { (t : Its) × IsToken self.now result.slot result.serial result.pass t }
@@ -102,9 +102,9 @@ impl<P: Run + Naming> Book<P> {
         }
     }
 
-    /// A token at `f | g`: one on each side is out in its place, the left one with its pass, the right one with `same`, which names its group too.
-    /// Refused as Gone where the token isn't out, as Wrong where it does something else next, as Full where the tokens and calls are as many as there
-    /// may be, as Limit or Memory where the ledger refuses the entry for that.
+    /// Forks a token at `f | g`: a token on each side is out in its place, the left one with its pass, the right one with `same`, which names its
+    /// group, too. Refused as Gone if the token isn't out, as Wrong if it does something else next, as Full if there are as many tokens and calls as
+    /// there may be, as Limit or Memory if the ledger refuses the entry for that.
     pub fn fork(
         &mut self,
         inputs: &Inputs<'_, P>,
@@ -184,8 +184,8 @@ impl<P: Run + Naming> Book<P> {
 }
 
 impl<P: Run + Naming> Book<P> {
-    /// A publication of the program. The token's pass is to be left. Refused as Gone where the token isn't out, as Wrong where it does something else
-    /// next, as Full, Limit or Memory where the ledger refuses the entry for that.
+    /// Makes a publication of the program: nothing around the token takes its value. The token's pass comes back, to be left. Refused as Gone if the
+    /// token isn't out, as Wrong if it does something else next, as Full, Limit or Memory if the ledger refuses the entry for that.
     pub fn publish(
         &mut self,
         inputs: &Inputs<'_, P>,

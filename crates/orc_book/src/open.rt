@@ -1,5 +1,5 @@
-//! Groups that are opened: the right side of a pruning, and the left side of an otherwise. Each gets a word that is free in the book, which an idle
-//! pass opens. The new group is a member of the token's, for which the book holds a pass to that.
+//! Opens groups: the right side of a pruning, and the left side of an otherwise. Each gets a word that is free in the book, which an idle pass
+//! opens. The new group is a member of the group in which the token was: so the book holds a pass to that for it.
 ghost use Rattle.std.specs.Prelude.{◌≡◌, ◌≤◌, ◌+◌, ◌<◌, ℕ, List, length, true, Some, None, IfOk, OnOk, IfErr};
 ghost use Rattle.orc_tables.specs.declared.records.Token.{Token as Its};
 ghost use Rattle.orc_ledger_spec.specs.Moves.{Moves};
@@ -25,7 +25,8 @@ struct Opened<P: Naming> {
     pass: Pass<P>,
 }
 
-// An idle pass names a word that is free. The fault is that of `next` where no word is, and Live where somebody names it meanwhile.
+// Lets an idle pass open a word that is free in the book. The fault is that of `WordTable::next` if no word is, and Live if a pass still names the
+// word.
 fn open_word<P: Naming>(
     words: &WordTable<P>,
     groups: &Groups<P>,
@@ -52,10 +53,10 @@ fn open_word<P: Naming>(
 }
 
 impl<P: Run + Naming> Book<P> {
-    /// A token at `f <x< g`: one on each side is out in its place, the left one with its pass, the right one with `idle`, which opens the new group's
-    /// word. The book holds `same` for that group, which names the token's. Refused as Gone where the token isn't out, as Wrong where it does
-    /// something else next, as Full or Limit where the ledger is at one, as Full too where no word is free, as Live where the free word is still
-    /// named, else as Memory.
+    /// Opens the pruning at which this token is, `f <x< g`: a token on each side is out in its place. The left one has the token's pass, the right
+    /// one has `idle`, which opens the new group's word. For the new group the book holds `same`, which names the token's group. Refused as Gone if
+    /// the token isn't out, as Wrong if it does something else next, as Full or Limit if the ledger is at such a limit, as Full also if no word is
+    /// free, as Live if the free word is still named, else as Memory.
     pub fn prune(
         &mut self,
         groups: &Groups<P>,
@@ -111,8 +112,7 @@ impl<P: Run + Naming> Book<P> {
         ensures refused { IfErr result (λ r. HasStayed self.old self.new × (r.back.0 ≡ token) × (r.back.1 ≡ same) × (group_of r.back.2 ≡ None)) }
         ensures why { IfErr result (λ r. IsRefusedOpening P.listing self.old token P.table.words is_prune r.why) }
     {
-        // Room in the ledger for an entry, a token and a group. Each refusal comes before the word is opened, but for memory that the move is
-        // refused.
+        // Room in the ledger for an entry, a token and a group. Once the word is opened, only the ledger can refuse the move, for memory.
         if let Err(fault) = self.ledger.within(1, 1, 0) {
             let back = (token, same, idle);
             return Err(Refused {
@@ -172,8 +172,8 @@ impl<P: Run + Naming> Book<P> {
         }
     }
 
-    /// A token at `f ; g`: one on the left side is out in its place, with `idle`, which opens the new group's word. The book holds the token's pass
-    /// for that group. Refused for the causes for which `prune` is.
+    /// Enters the otherwise at which this token is, `f ; g`: a token on the left side is out in its place, with `idle`, which opens the new group's
+    /// word. For the new group the book holds the token's pass. Refused for the causes for which `prune` is.
     pub fn other(
         &mut self,
         groups: &Groups<P>,

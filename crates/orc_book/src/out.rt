@@ -7,7 +7,7 @@ use crate::token::Token;
 use orc_word::{Naming, Pass};
 use std::alloc::{AllocError, Global};
 
-/// Passes for the records that a step makes. What it doesn't use stays there.
+/// Passes that a worker lends for the records that a step makes. What the step doesn't use stays here.
 #[derive(Drop)]
 pub struct Births<P: Naming> {
     /// Passes to the group of the token that moves; the last one is used first.
@@ -18,7 +18,7 @@ pub struct Births<P: Naming> {
 
 /// Lists to which a book's calls add what comes out of them.
 pub struct StepOut<P: Naming> {
-    /// Tokens that are out now, to be moved.
+    /// Tokens that have come out, for the worker to move.
     pub born: Vec<Token<P>>,
     /// Passes to be left, once the book's lock is given up.
     pub leave: Vec<Pass<P>>,

@@ -11,7 +11,8 @@ use std::alloc::Global;
 use std::sync::{Mutex, Wait};
 use std::thread::{Threads, join};
 
-// Leaves a pass, if it names a group, without the lock. The last one who does closes the group, and adds to `more`. Whether a group was closed.
+// Leaves a pass, if it names a group: that needs no lock. If it was the group's last, closes the group, which may add a pass to `more`. True if it
+// closed one.
 fn leave_one<P: Run + Naming, R: Wait>(
     rt: &R,
     groups: &Groups<P>,

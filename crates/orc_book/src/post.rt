@@ -1,6 +1,6 @@
-//! Posts: a post is what a book has of one group, namely its passes and how many of its tokens are kept and are out. The functions behind the type do
-//! to the post of the group with a number what its methods do. One without a post has no passes and no tokens.
-//! Where a clause asks that the post is there the arm without one never runs.
+//! A *post* is what a book has of one group: its passes, and how many of its tokens are kept and are out. The functions below the type do to the
+//! post of the group with this number what the type's methods do. A group without a post has no passes and no tokens. If a contract asks that the
+//! post is there, the arm for none never runs.
 ghost use Rattle.std.specs.Prelude.{◌≡◌, ◌+◌, ◌-◌, ◌<◌, ◌≤◌, ◌^◌, ◌∷◌, ◌++◌, [], Some, None, true, false, length, vec_len, vec_capacity, All, IfOk, OnOk, MatchOption, MatchResult};
 ghost use Rattle.orc_indexes.specs.Same.{weight};
 ghost use Rattle.orc_word.specs.Views.{group_of};
@@ -63,7 +63,7 @@ impl<J: Naming> Post<J> {
         self.parent
     }
 
-    /// The post is that of a new group from here on: sets its word and its parent's number, and that one token of it is out.
+    /// Makes this the post of a new group: sets its word and its parent's number, and notes that one token of the group is out.
     pub(crate) fn raise(&mut self, word: u32, parent: u32)
         requires { length self.old.passes ≡ 0 }
         ensures { (self.new.word ≡ word) × (self.new.passes ≡ self.old.passes) × (self.new.kept ≡ self.old.kept) × (self.new.out ≡ 1) }
@@ -135,8 +135,8 @@ impl<J: Naming> Post<J> {
         }
     }
 
-    /// Fits the post to a group that has so many members left: passes go to `leave` until those that stay and the tokens that are out are as many.
-    /// Without members no token is kept or out.
+    /// Fits the post to its group, which has `members` left: moves passes to `leave` until those that stay and the tokens that are out are as many.
+    /// Of a group without members no token is kept or out.
     pub(crate) fn settle(&mut self, members: usize, leave: &mut Vec<Pass<J>>)
         requires enough { members ≤ length self.old.passes + self.old.out }
         requires out { 1 ≤ members → self.old.out ≤ members }
@@ -183,7 +183,7 @@ impl<J: Naming> Post<J> {
         self.passes.try_reserve(1)
     }
 
-    /// One pass more, for which there is room.
+    /// Adds a pass, for which there is room (`reserve`).
     pub(crate) fn put(&mut self, pass: Pass<J>)
         requires room { 1 ≤ self.old.room }
         requires names { group_of pass ≡ Some self.old.word }
@@ -270,7 +270,7 @@ pub(crate) fn take_at<J: Naming>(posts: &mut Vec<Post<J>>, number: u32) -> Optio
     }
 }
 
-/// A token is no longer out, but a record of its group remains (a call, or a group): its pass goes into the post. Sets how many tokens are out.
+/// For a token that was out and becomes a pending call or a group: puts its pass into the post, and sets how many tokens are out.
 pub(crate) fn bring_at<J: Naming>(posts: &mut Vec<Post<J>>, number: u32, out: usize, pass: Pass<J>)
     requires there { number < length posts.old.items }
     requires room { 1 ≤ room_at posts.old.items number }
@@ -283,7 +283,7 @@ pub(crate) fn bring_at<J: Naming>(posts: &mut Vec<Post<J>>, number: u32, out: us
     }
 }
 
-/// A token that was out is kept: its pass goes into the post. Sets how many tokens are out and how many are kept.
+/// For a token that was out and is kept from here on: puts its pass into the post, and sets how many tokens are out and how many are kept.
 pub(crate) fn keep_at<J: Naming>(
     posts: &mut Vec<Post<J>>,
     number: u32,
@@ -303,7 +303,7 @@ pub(crate) fn keep_at<J: Naming>(
     }
 }
 
-/// A token comes in place of a record of the group (a call, or a group): takes its pass out, if one is held, and sets how many tokens are out.
+/// For a token that comes in the place of a call or a group: takes the record's pass out, if one is held, and sets how many tokens are out.
 pub(crate) fn send_at<J: Naming>(
     posts: &mut Vec<Post<J>>,
     number: u32,
@@ -321,8 +321,8 @@ pub(crate) fn send_at<J: Naming>(
     }
 }
 
-/// A token comes into the group: an idle pass names this too, beside one that the post holds. Sets how many tokens are out. Where the post holds no
-/// pass nothing changes, and the idle one comes back.
+/// For a token that comes into the group without a pass to it: lets the idle pass enter the group, beside one that the post holds, and sets how many
+/// tokens are out. If the post holds no pass, nothing changes, and the idle one comes back.
 pub(crate) fn enter_at<J: Naming>(
     groups: &Groups<J>,
     posts: &mut Vec<Post<J>>,
@@ -345,7 +345,7 @@ pub(crate) fn enter_at<J: Naming>(
     }
 }
 
-/// A token that was kept goes out: takes its pass out of the post, and sets how many are out and how many are kept. Nothing changes without a pass.
+/// For a token that was kept and goes out: takes a pass out, and sets how many tokens are out and kept. If no pass is held, nothing changes.
 pub(crate) fn wake_at<J: Naming>(
     posts: &mut Vec<Post<J>>,
     number: u32,
@@ -354,7 +354,7 @@ pub(crate) fn wake_at<J: Naming>(
 ) -> Option<Pass<J>>
     ensures { MatchOption result (posts.new.items ≡ posts.old.items) (λ pass. (group_of pass ≡ Some (word_at posts.old.items number)) × Changes posts.old.items number posts.new.items (λ p q. (length q.passes + 1 ≡ length p.passes) × (q.kept ≡ kept) × (q.out ≡ out) × (p.passes ≡ q.passes ++ pass ∷ []))) }
 {
-    // So both arms below find what they ask for, and nothing changes without a pass.
+    // With a pass held, the post and the pass below are there.
     if held_in(posts, number) < 1 {
         return None;
     }
@@ -390,7 +390,7 @@ pub(crate) fn out_in<J: Naming>(posts: &Vec<Post<J>>, number: u32) -> usize
     }
 }
 
-/// Takes a pass out of a group's post, if its passes and the tokens that are out are more than so many members.
+/// Takes a pass out of a group's post, if the passes there and the tokens that are out are together more than `members`.
 pub(crate) fn spare_at<J: Naming>(
     posts: &mut Vec<Post<J>>,
     number: u32,
@@ -474,7 +474,7 @@ pub(crate) fn grow_to<J: Naming>(alloc: Global, posts: &mut Vec<Post<J>>, number
     }
 }
 
-/// The post with this number is that of a new group from here on: sets its word and its parent's number, and that one token of it is out.
+/// Makes the post with this number that of a new group: sets its word and its parent's number, and notes that one token of the group is out.
 pub(crate) fn raise_at<J: Naming>(posts: &mut Vec<Post<J>>, number: u32, word: u32, parent: u32)
     requires there { number < length posts.old.items }
     requires empty { held_at posts.old.items number ≡ 0 }

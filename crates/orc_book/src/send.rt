@@ -53,8 +53,8 @@ impl<P: Run + Naming> Book<P> {
         }
     }
 
-    // A token that was found publishes a value into a `>x>`: one on a copy of its right side is out in its place. Where that stands in another group,
-    // it has an idle pass that comes to name this, and the token's own is to be left.
+    // Publishes the token's value into the `>x>` that takes it: a token on a copy of the right side is out in its place. If the `>x>` is in another
+    // group, an idle pass of `births` enters that group for the new token, and the old token's own pass is to be left.
     pub(crate) fn send(
         &mut self,
         groups: &Groups<P>,

@@ -16,13 +16,13 @@ use orc_log::Run;
 use orc_word::{Groups, Naming};
 
 impl<P: Run + Naming> Book<P> {
-    /// A token that is out does what it does next, where that is Halt, Fork, Seq, Def, Void, Send, Prune or Other of `view`: its record goes, and
-    /// those of the tokens that come in its place are out. `births` lends passes, as many as `view` says that the move needs at most; what isn't used
-    /// stays there. Tokens and passes to leave are added to `out`.
+    /// Moves a token that is out, if its next action (`view`) is Halt, Fork, Seq, Def, Void, Send, Prune or Other: its record goes, and the tokens
+    /// that come in its place are out. `births` lends passes; the move needs no more of them than `view` says, and what it doesn't use stays there.
+    /// Tokens and passes to leave are added to `out`.
     ///
-    /// Refused as Gone where the token isn't out, as Wrong where it does something else next, as Short where `births` has not the passes that the
-    /// move needs, as Full or Limit where the move is over a limit, as Full too where a group is opened and no word is free, as Live where the free
-    /// word is still named, and as Memory where memory is refused. Then the records are as they were, and `back` is the token.
+    /// Refused as Gone if the token isn't out, as Wrong if it does something else next, as Short if `births` lacks a pass that the move needs, as
+    /// Full or Limit if the move is over a limit, as Full also if a group is to be opened and no word is free, as Live if the free word is still
+    /// named, and as Memory if memory is refused. Then the records are as they were, and `back` is the token.
     pub fn step(
         &mut self,
         groups: &Groups<P>,

@@ -23,9 +23,9 @@ pub enum SubRunEnd<P: Naming> {
 }
 
 impl<P: Run + Naming> Book<P> {
-    /// A token at a call of a definition with values is replaced by what a run of that call has come to. The run was made apart; its entries stand
-    /// behind the journal at once. If the call has come to a value, a token on that is out in the token's place, with its pass; else the pass is to
-    /// be left.
+    /// Merges a sub-run into the run: this token is at the call of a definition, with values, that the sub-run has run. The sub-run's entries are
+    /// appended to the journal. If the call yields a value, a token on it is out in the token's place, with its pass; else the token is gone, and
+    /// its pass is to be left.
     ///
     /// Refused as Gone where the token isn't out, as Wrong where it doesn't stand at the call of the sub-run, or the sub-run may have published
     /// something and the token isn't the program's outermost, as Limit where the limit has no room for all of the entries, and as Memory. Then

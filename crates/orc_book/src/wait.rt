@@ -20,8 +20,8 @@ use orc_word::Naming;
 use std::alloc::AllocError;
 
 impl<P: Run + Naming> Book<P> {
-    /// A token that waits comes into the book with its pass, until `wake` is told of a cell for which it waits. Refused as Gone where
-    /// the token isn't out, as Wrong where it does something else next, else as Memory.
+    /// Hands a token that waits to the book, which keeps it and its pass until `wake` is called for one of its cells. Refused as Gone if the token
+    /// isn't out, as Wrong if it does something else next, else as Memory.
     pub fn wait(&mut self, inputs: &Inputs<'_, P>, token: Token<P>) -> Result<(), Refused<Token<P>>>
         ensures done { OnOk result ((t : Its) × IsUnkept self.old token.slot token.serial token.pass t × (is_wait (what_of (code P.listing) (definitions P.listing) self.old.ledger t) ≡ true) × Changes self.old.posts (group_at self.old.ledger.steps t.step) self.new.posts KeepsOne) }
         ensures ledger { self.new.ledger ≡ self.old.ledger }
@@ -45,7 +45,7 @@ impl<P: Run + Naming> Book<P> {
             slot: token.slot,
             serial: token.serial,
         };
-        // Lists in `cells` what the token waits for. That the ledger has parked it does no harm where the book refuses it then.
+        // Lists the token's cells in `cells`, and parks the token in the ledger. If the book then refuses it, it does no harm that it is parked.
         if let Err(fault) = self
             .ledger
             .park(inputs, token.slot, found.its, &mut self.cells)
@@ -71,8 +71,8 @@ impl<P: Run + Naming> Book<P> {
         Ok(())
     }
 
-    // A token that is kept goes out. None where it isn't kept, or a bind has dropped its record and left the mark. No contract says that the counts
-    // and the pass, asked last, are there for any other.
+    // Lets a kept token go out. None if it isn't kept, or if a bind has dropped its record and left its mark. For any other token the counts and the
+    // pass below are there, but no contract says so.
     fn wake_one(&mut self, handle: Handle) -> Option<Token<P>>
         ensures same { HaveStayed self.old self.new }
         ensures born { IfSome result (IsOut self.new) }
@@ -90,8 +90,8 @@ impl<P: Run + Naming> Book<P> {
         Some(self.born(handle.slot, pass))
     }
 
-    /// A cell has a value, or will never have one: those tokens that were kept for it go out, each once, and are added to `born`. The error is
-    /// refused memory; those that are still kept then come by another call.
+    /// To be called when a cell is bound or lost: the tokens that were kept for it go out, each once, and are added to `born`. The error is refused
+    /// memory; another call lets out those that are then still kept.
     pub fn wake(&mut self, cell: u64, born: &mut Vec<Token<P>>) -> Result<(), AllocError>
         ensures same { HaveStayed self.old self.new }
         ensures born { AreBorn born.old.items born.new.items self.new }

@@ -78,8 +78,8 @@ impl<P: Naming> WordTable<P> {
         })
     }
 
-    /// The free word that `open` takes. The fault is Full where as many words are taken as there are. Memory is that of a slab whose next key lies
-    /// past the words though one is free: no clause of the slab's rules it out.
+    /// The free word that `open` takes. The fault is Full if as many words are taken as there are. It is Memory if the slab's next key is past the
+    /// words though one is free: the slab's contract doesn't rule that out.
     #[tactic(auto, using(crate::proofs::Entries::taken_some))]
     pub(crate) fn next(&self) -> Result<u32, BookFault>
         ensures word { IfOk result (λ word. (word ≡ self.now.next) × (word < P.table.words) × (kind_at self.now.stands word ≡ Kind.Free)) }
@@ -96,7 +96,7 @@ impl<P: Naming> WordTable<P> {
         }
     }
 
-    /// The word that `next` gives stands for the open group with this number.
+    /// Lets the word that `next` gives stand for the open group with this number.
     pub(crate) fn open(&mut self, number: u32)
         requires { self.old.next < P.table.words }
         ensures { IsOpened self.old.stands self.old.next number self.new.stands }
@@ -119,7 +119,8 @@ impl<P: Naming> WordTable<P> {
         }
     }
 
-    /// A group is killed: its word stands for it until its last pass is left.
+    /// Notes that the group of this word is killed: the word stands for it until its last pass is left. The word holds `pass` until then, the
+    /// group's pass to the enclosing group, whose word is `parent`.
     pub(crate) fn bury(&mut self, word: u32, parent: u32, pass: Option<Pass<P>>)
         requires stood { (number : ℕ) × (kind_at self.old.stands word ≡ Kind.Open number) }
         requires pass { owed_to parent pass ≡ Some parent }

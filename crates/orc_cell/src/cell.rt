@@ -37,15 +37,15 @@ impl<T: Drop> Cell<T> {
         Note { sight }
     }
 
-    /// Binds the cell, where no other call has bound it; else hands the box back. It takes no memory.
+    /// Binds the cell, if no other call has bound it; else it gives the box back. It takes no memory.
     pub fn bind(&self, value: Box<T>) -> Result<(), Box<T>>
         ensures { MatchResult result (λ _. ⊤) (λ back. back.value ≡ value.value) }
     {
         self.shared.set(value)
     }
 
-    /// Binds the cell, where no other call has bound it; else hands the box back. Either way the note has then read what the cell is bound to, so
-    /// that a note that had read before is answered with its box. It takes no memory.
+    /// Binds the cell, if no other call has bound it; else it gives the box back. Either way the note has then read the cell's value. A note that
+    /// had read a value before always gets its box back, since the cell was bound by then. It takes no memory.
     pub fn bind_and_note(&self, value: Box<T>, note: &mut Note<T>) -> Result<(), Box<T>>
         requires { subject note.old ≡ identity self.now }
         ensures subject { subject note.new ≡ subject note.old }

@@ -11,7 +11,7 @@ use std::alloc::{AllocError, Global};
 /// The slots that a queue begins with.
 const SLOTS: usize = 64;
 
-/// One queue: its end, until its worker takes it, and the stealer of which each thief gets a copy.
+/// One queue: the owner's end, until its worker takes that, and the stealer, of which each thief gets a copy.
 #[derive(Drop)]
 pub struct Lane<T: Drop> {
     pub(crate) own: Option<Own<T>>,

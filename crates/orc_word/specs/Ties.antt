@@ -1,4 +1,4 @@
--- What a table of group words is as a word core, and which event each step on it is.
+-- How the words and views of a table are read as a state of the machine (`Machine`), and which of its events each step on the table is.
 use Rattle.std.specs.Prelude.{◌≡◌, ℕ, ◌+◌, ◌-◌, ◌%◌, ◌<◌, Bool, false, cond, List, [], ◌∷◌, ◌++◌, None, Some, map, replicate, slice_index, slice_set, ◌==◌, bit_or}
 use mathlib.Core.Option.{some}
 use lib.ListN.{get_elem?}
@@ -26,7 +26,7 @@ as_pass Idle = machine.idle
 as_pass (Names g seen won) = machine.names g
 as_pass Spent = machine.gone
 
--- the word core that a table shows, beside what the book knows
+-- the machine's state with the words and passes of a table; `rest` has the other parts
 abbrev pub core_of : machine.State → List ℕ → List Stance → machine.State
 core_of rest words views = record rest { words = λ g. word_at (slice_index words g); passes = map as_pass views }
 
@@ -43,7 +43,8 @@ abbrev pub mask_of : Bit → ℕ
 mask_of Published = 4294967296
 mask_of Killed = 8589934592
 
--- The steps on the words are the core's events. A load that only looks, and a supply that sets passes aside, are none: the core stays as it was
+-- Each step on the words is an event of the machine. Two kinds are none, and leave the state as it is: a load that tells nothing of a group (`Peek`,
+-- `Bound`), and a supply that sets passes aside
 pub record Steps : Type 0 where
   -- the words are made: nothing but the place of the first supply
   pub made : (n k : ℕ) → machine.Step machine.start machine.sits (core_of machine.start (replicate n 0) (Supplies k ∷ []))

@@ -80,12 +80,13 @@ over f v = sum_by f v.deeds
 abbrev pub some_of : ℕ → ℕ
 some_of w = cond (count_of w == 0) 0 1
 
--- Word g: it counts somebody exactly where there was one beginning more than last leaves, and a bit is set exactly where there was one win more than it was cleared
+-- Word g: its count isn't 0 exactly if the deeds have one beginning more than last leaves; and a bit is set exactly if it was won once more than it
+-- was cleared
 pub record Balanced (views : List View) (g w : ℕ) : Type 0 where
   pub begun : sum_by (over (begins g)) views ≡ sum_by (over (ends g)) views + some_of w
   pub won : (b : Bit) → sum_by (over (wins b g)) views ≡ sum_by (over (clears b g)) views + bit_of b w
 
--- Only what is worth a pass has done anything: so nobody can get rid of what a pass has done
+-- A seat that stands for no pass has no deeds: so nobody can get rid of what a pass has done
 abbrev pub Bare : List View → Type 0
 Bare views = (p : ℕ) (v : View) → get_elem? views p ≡ some v → worth v.stance ≡ 0 → v.deeds ≡ []
 
@@ -108,7 +109,7 @@ Kept plan s = Keeps plan s.words s.views
 abbrev pub Opens : ℕ → List Deed → List Deed → Type 0
 Opens g before after = (found : Bits) × (after ≡ before ++ Opened g found ∷ [])
 
--- One came to name g. Of its word it knows no more than what it found, which may have been nobody
+-- A pass came to name g. If it found that nobody did, that is a deed; if it found somebody, nothing is added
 abbrev pub Comes : Option ℕ → List Deed → List Deed → Type 0
 Comes o before after = (g : ℕ) × (o ≡ Some g) × (nobody : Bool) × (after ≡ before ++ cond nobody (Found g ∷ []) [])
 

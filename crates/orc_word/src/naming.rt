@@ -1,4 +1,5 @@
-//! Which table of words a type speaks of. It is so in types and clauses alone: no code runs by it.
+//! A type that names one table of words: so no pass of one table is used on the words of another. Types and contracts alone need it; no code runs by
+//! it.
 use std::marker::Brand;
 
 /// Names one table of group words. Words, supplies and passes with the same name in their types are of the same table.

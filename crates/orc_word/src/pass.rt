@@ -10,7 +10,7 @@ use std::marker::{Model, PhantomData};
 #[derive(Drop)]
 pub struct Pass<J: Naming> {
     pub(crate) group: Option<u32>,
-    // By which the table's rule knows this pass, and what it has seen and done.
+    // The pass's seat (`view.rt`): by it the table's rule knows the pass, with what it has seen and done.
     pub(crate) seat: Seat<(), View>,
     pub(crate) of: PhantomData<J>,
 }
