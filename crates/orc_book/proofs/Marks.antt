@@ -2,7 +2,7 @@
 use Rattle.std.proofs.Common.{◌≡◌, ◌≤◌, ◌<◌, ℕ, zero, suc, List, [], ◌∷◌, ◌++◌, length, take, replicate, Bool, if◌then◌else◌, true, false, refl, sym, ap, ◌∙◌, arith}
 use Rattle.std.proofs.lemmas.List.{take_all}
 use Rattle.std.specs.Prelude.{slice_set}
-use Rattle.orc_book.specs.Held.{IsMarked, mark_at}
+use Rattle.orc_book.specs.Held.{mark_at}
 
 zeros : (m i : ℕ) → mark_at (replicate m 0) i ≡ 0
 zeros zero i = refl
@@ -30,7 +30,3 @@ set_off (x ∷ ms) zero serial zero off = absurd (off refl)
 set_off (x ∷ ms) zero serial (suc i) off = refl
 set_off (x ∷ ms) (suc slot) serial zero off = refl
 set_off (x ∷ ms) (suc slot) serial (suc i) off = set_off ms slot serial i (λ e. off (ap suc e))
-
--- the mark of a slot is set
-pub set-mark : (first ms : List ℕ) (slot serial : ℕ) → slot < length ms → ((i : ℕ) → mark_at ms i ≡ mark_at first i) → IsMarked first slot serial (slice_set ms slot serial)
-set-mark first ms slot serial lt same = (set_here ms slot serial lt, λ i off. set_off ms slot serial i off ∙ same i)

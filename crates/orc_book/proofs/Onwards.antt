@@ -71,13 +71,6 @@ module _ (l : Listing) (s : Records) (slot : ℕ) (t : Token) (s' : Records) (ks
       by (inl x) = x.1
       by (inr x) = cc x.0
 
-  pub stayed-on : (m : Moved) → (what_of (code l) (definitions l) s t ≡ what.Seq) ⊎ (what_of (code l) (definitions l) s t ≡ what.Def) → Moves l s slot t m ks s' → (m ≡ moved.On → ⊥) → s' ≡ s
-  stayed-on m w d off = by (goes m w d)
-    where
-      by : ((m ≡ moved.On) × WentOn s s' slot t) ⊎ ((m ≡ moved.Waits) × (s' ≡ s)) → s' ≡ s
-      by (inl x) = absurd (off x.0)
-      by (inr x) = x.1
-
 -- ---- who has the newest serial is who came
 
 pub weight-none-in : {X : Type 0} (w : X → ℕ) (xs : List X) → ((x : X) → IsIn x xs → w x ≡ 0) → weight w xs ≡ 0

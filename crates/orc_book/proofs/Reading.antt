@@ -10,15 +10,6 @@ use Rattle.orc_frames.specs.declared.action.Action.TheVariants as what
 use Rattle.orc_tables.specs.declared.records.Token.{Token}
 
 module _ (l : Listing) (s : Records) (slot : ℕ) (t : Token) (s' : Records) (ks : List ℕ) where
-  forks : (m : Moved) → Does l s slot t s' ks what.Fork m → (k : ℕ) × (m ≡ moved.Forked k) × Forks l s slot t s' k
-  forks (moved.Forked k) d = (k, refl, d)
-  forks moved.On d = elim d [ ]
-  forks (moved.Gone g) d = elim d [ ]
-  forks (moved.Sent g) d = elim d [ ]
-  forks (moved.Bound c g) d = elim d [ ]
-  forks moved.Calls d = elim d [ ]
-  forks moved.Waits d = elim d [ ]
-
   opens : (m : Moved) → Does l s slot t s' ks what.Prune m → (k : ℕ) × (m ≡ moved.Forked k) × Opens l s slot t s' k
   opens (moved.Forked k) d = (k, refl, d)
   opens moved.On d = elim d [ ]
@@ -36,15 +27,6 @@ module _ (l : Listing) (s : Records) (slot : ℕ) (t : Token) (s' : Records) (ks
   tries (moved.Bound c g) d = elim d [ ]
   tries moved.Calls d = elim d [ ]
   tries moved.Waits d = elim d [ ]
-
-  pub forks-by : (m : Moved) → what_of (code l) (definitions l) s t ≡ what.Fork → Moves l s slot t m ks s' → (k : ℕ) × (m ≡ moved.Forked k) × Forks l s slot t s' k
-  forks-by m e d = forks m (subst (λ w. Does l s slot t s' ks w m) e d)
-
-  pub opens-by : (m : Moved) → what_of (code l) (definitions l) s t ≡ what.Prune → Moves l s slot t m ks s' → (k : ℕ) × (m ≡ moved.Forked k) × Opens l s slot t s' k
-  opens-by m e d = opens m (subst (λ w. Does l s slot t s' ks w m) e d)
-
-  pub tries-by : (m : Moved) → what_of (code l) (definitions l) s t ≡ what.Other → Moves l s slot t m ks s' → (m ≡ moved.On) × Tries l s slot t s'
-  tries-by m e d = tries m (subst (λ w. Does l s slot t s' ks w m) e d)
 
   pub forked : (k : ℕ) → what_of (code l) (definitions l) s t ≡ what.Fork → Moves l s slot t (moved.Forked k) ks s' → Forks l s slot t s' k
   forked k e d = subst (λ w. Does l s slot t s' ks w (moved.Forked k)) e d

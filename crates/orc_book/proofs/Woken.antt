@@ -1,5 +1,5 @@
 -- Tokens that have come out stay out while the records stay.
-use Rattle.std.proofs.Common.{◌≡◌, ◌≤◌, ◌+◌, ℕ, zero, suc, List, [], ◌∷◌, ◌++◌, Bool, true, false, nat_eq, eq-eqb, refl, sym, ap, ◌∙◌, subst, arith, append_assoc, append-nil, ⊎_elim, inl, inr, ◌⊎◌, Some}
+use Rattle.std.proofs.Common.{◌≡◌, ◌≤◌, ◌+◌, ℕ, zero, suc, List, [], ◌∷◌, ◌++◌, Bool, true, false, nat_eq, eq-eqb, refl, sym, ap, ◌∙◌, subst, arith, append_assoc, ⊎_elim, inl, inr, ◌⊎◌, Some}
 use Rattle.std.proofs.lemmas.Bool.{eqb-true}
 use Rattle.orc_indexes.specs.Same.{is_this, weight}
 use Rattle.orc_indexes.proofs.Weight.{this_is, this_not, weight-append}
@@ -58,9 +58,6 @@ marked-none ms slot ms' M i = by (nat_eq i slot) refl
     by false e = inl (M.1 i (λ same. cc (eq-eqb i slot same, e)))
 
 module _ {X : Type 0} (ms : List ℕ) (before : List (Out X)) where
-  pub woken-none : (after : List (Out X)) → after ≡ before → HaveWoken ms ms before after
-  woken-none after e = record { more = []; added = e ∙ sym (append-nil before); kept = λ k i. elim i [ ]; once = λ i. omega arith; others = λ i. inl refl }
-
   module _ (mid ms' : List ℕ) (after : List (Out X)) (W : HaveWoken ms mid before after) where
     pub woken-on : AreUnmarked mid ms' → HaveWoken ms ms' before after
     woken-on U =

@@ -1,7 +1,7 @@
 -- The places of services, as they are gathered.
-use Rattle.std.proofs.Common.{◌≡◌, ℕ, zero, suc, ◌+◌, ◌<◌, ◌≤◌, Bool, true, false, cond, List, [], ◌∷◌, ◌++◌, Option, Some, None, length, drop, get_or, refl, sym, ap, ◌∙◌, arith}
+use Rattle.std.proofs.Common.{◌≡◌, ℕ, zero, suc, ◌+◌, ◌<◌, Bool, true, false, cond, List, [], ◌∷◌, ◌++◌, Option, Some, None, length, drop, get_or, refl, sym, ap, ◌∙◌, arith}
 use Rattle.std.specs.Prelude.{slice_get}
-use Rattle.std.proofs.lemmas.List.{append_assoc, append-nil, drop_more, drop_all}
+use Rattle.std.proofs.lemmas.List.{append_assoc, drop_more}
 use Rattle.orc_ways.specs.declared.test.ServiceLine.{ServiceLine as CodeServiceLine}
 use Rattle.orc_ways.specs.Lines.{Service}
 use Rattle.orc_ways.specs.Values.{service_of}
@@ -46,9 +46,6 @@ own_more case ls ns ms i x total lt e is pushed so_far =
 pub own_less : (case : ℕ) (ls : List CodeServiceLine) (ns ms : List ℕ) (i : ℕ) (x : CodeServiceLine) (total : List Service) → i < length ls → x ≡ get_or ls i x → is_own case x.case ≡ false → ms ≡ ns → services_at ls ns ++ own case (service_lines_of (drop i ls)) ≡ total → services_at ls ms ++ own case (service_lines_of (drop (i + 1) ls)) ≡ total
 own_less case ls ns ms i x total lt e is same so_far = ap (λ (ks : List ℕ). services_at ls ks ++ own case (service_lines_of (drop (i + 1) ls))) same ∙ ap (λ (ss : List Service). services_at ls ns ++ ss) (sym (own_left case ls i x false lt e is)) ∙ so_far
 
-pub own_done : (case : ℕ) (ls : List CodeServiceLine) (ns : List ℕ) (i : ℕ) (total : List Service) → length ls ≤ i → services_at ls ns ++ own case (service_lines_of (drop i ls)) ≡ total → services_at ls ns ≡ total
-own_done case ls ns i total le so_far = sym (append-nil (services_at ls ns)) ∙ ap (λ (rest : List CodeServiceLine). services_at ls ns ++ own case (service_lines_of rest)) (sym (drop_all i ls le)) ∙ so_far
-
 -- ---- the same of those of `given`
 
 kept_if : (ss : List Service) (x : CodeServiceLine) (rest : List CodeServiceLine) (b : Bool) → is_kept ss (service_line_of x) ≡ b → kept ss (service_lines_of (x ∷ rest)) ≡ cond b (service_of x.service ∷ kept ss (service_lines_of rest)) (kept ss (service_lines_of rest))
@@ -67,6 +64,3 @@ kept_more ss ls ns ms i x total lt e is pushed so_far =
 
 pub kept_less : (ss : List Service) (ls : List CodeServiceLine) (ns ms : List ℕ) (i : ℕ) (x : CodeServiceLine) (total : List Service) → i < length ls → x ≡ get_or ls i x → is_kept ss (service_line_of x) ≡ false → ms ≡ ns → services_at ls ns ++ kept ss (service_lines_of (drop i ls)) ≡ total → services_at ls ms ++ kept ss (service_lines_of (drop (i + 1) ls)) ≡ total
 kept_less ss ls ns ms i x total lt e is same so_far = ap (λ (ks : List ℕ). services_at ls ks ++ kept ss (service_lines_of (drop (i + 1) ls))) same ∙ ap (λ (ts : List Service). services_at ls ns ++ ts) (sym (kept_left ss ls i x false lt e is)) ∙ so_far
-
-pub kept_done : (ss : List Service) (ls : List CodeServiceLine) (ns : List ℕ) (i : ℕ) (total : List Service) → length ls ≤ i → services_at ls ns ++ kept ss (service_lines_of (drop i ls)) ≡ total → services_at ls ns ≡ total
-kept_done ss ls ns i total le so_far = sym (append-nil (services_at ls ns)) ∙ ap (λ (rest : List CodeServiceLine). services_at ls ns ++ kept ss (service_lines_of rest)) (sym (drop_all i ls le)) ∙ so_far

@@ -1,8 +1,8 @@
 -- One line more of a way.
-use Rattle.std.proofs.Common.{◌≡◌, ℕ, zero, suc, ◌+◌, ◌*◌, ◌/◌, ◌%◌, ◌<◌, ◌≤◌, Bool, List, [], ◌∷◌, ◌++◌, Option, Some, None, length, drop, get_or, sym, ap, ◌∙◌, arith}
+use Rattle.std.proofs.Common.{◌≡◌, ℕ, zero, suc, ◌+◌, ◌*◌, ◌/◌, ◌%◌, ◌<◌, Bool, List, [], ◌∷◌, ◌++◌, Option, Some, length, drop, get_or, sym, ap, ◌∙◌, arith}
 use Rattle.std.specs.Prelude.{slice_get}
 use Rattle.std.specs.Option.{option_to_list}
-use Rattle.std.proofs.lemmas.List.{append_assoc, append-nil, drop_more, drop_all, length-map}
+use Rattle.std.proofs.lemmas.List.{append_assoc, drop_more, length-map}
 use Rattle.std.proofs.Math.Nat.{mul_comm, mul-div_cancel, div-lt_iff_lt-mul, mod-lt}
 use Rattle.orc_cases.specs.Choices.{Choice}
 use Rattle.orc_cases.specs.declared.choices.Choice.{Choice as CodeChoice}
@@ -109,12 +109,6 @@ text_more ls i left digits x cs s only c read old new total written so_far =
     ∙ ap (λ (t : List ℕ). old ++ t) (sym (s.text only c read))
     ∙ so_far
 
-pub text_done : (ls : List CodeLine) (i digits : ℕ) (only : Bool) (text total : List ℕ) → length ls ≤ i → text ++ lines_text only (lines_from (drop i ls)) (way_at (all_choices_of (drop i ls)) digits) ≡ total → text ≡ total
-text_done ls i digits only text total le so_far =
-    sym (append-nil text)
-    ∙ ap (λ (rest : List CodeLine). text ++ lines_text only (lines_from rest) (way_at (all_choices_of rest) digits)) (sym (drop_all i ls le))
-    ∙ so_far
-
 -- what a line behind it does stands one place lower in what is left
 pub place_more : (ls : List CodeLine) (i left digits : ℕ) (x : CodeLine) (cs : List CodeChoice) → Step ls i left digits x cs → (c : CodeChoice) → c ≡ get_or cs (digits / (left / length cs)) c →
     (before rest : ℕ) (total : Option Choice) → before ≡ suc rest → slice_get (way_at (all_choices_of (drop i ls)) digits) before ≡ total →
@@ -127,6 +121,3 @@ pub place_here : (ls : List CodeLine) (i left digits : ℕ) (x : CodeLine) (cs :
     (before : ℕ) (total : Option Choice) → before ≡ 0 → slice_get (way_at (all_choices_of (drop i ls)) digits) before ≡ total → Some (choice_of c) ≡ total
 place_here ls i left digits x cs s c read before total none so_far =
     sym (ap (λ (w : Way). slice_get w 0) (s.way c read)) ∙ ap (λ (n : ℕ). slice_get (way_at (all_choices_of (drop i ls)) digits) n) (sym none) ∙ so_far
-
-pub place_none : (ls : List CodeLine) (i digits before : ℕ) (total : Option Choice) → length ls ≤ i → slice_get (way_at (all_choices_of (drop i ls)) digits) before ≡ total → None ≡ total
-place_none ls i digits before total le so_far = sym (ap (λ (rest : List CodeLine). slice_get (way_at (all_choices_of rest) digits) before) (drop_all i ls le)) ∙ so_far

@@ -1,17 +1,16 @@
 -- Faults of a source and of its script are faults of its run, of its check and of its drawing.
 use Rattle.std.proofs.Common.{ℕ, List, [], refl}
 use Rattle.std.specs.declared.option.Option.{Option}
-use Rattle.std.specs.Io.KnownBytes.{Keeps}
 use Rattle.std.proofs.KnownBytes.{Appends-nil, Keeps-refl}
 use Rattle.orc_rules.specs.declared.entry.State.{State}
 use Rattle.orc_journal.specs.Written.{Written}
-use Rattle.orc_load.specs.Loading.{IsLoadFault, Loads}
+use Rattle.orc_load.specs.Loading.{IsLoadFault}
 use Rattle.orc_load.specs.declared.fault.LoadFault.{LoadFault}
 use Rattle.orc_load.specs.declared.fault.LoadFault.TheVariants as load
-use Rattle.orc_run.specs.Running.{IsFaultOf, IsOther, LeavesAtFault, of_load}
+use Rattle.orc_run.specs.Running.{of_load}
 use Rattle.orc_journal_text.specs.Pieces.{MayCome}
 use Rattle.orc_journal_text.proofs.Coming.{some_may_come}
-use Rattle.orc_run.specs.Checked.{IsBeyond, IsCheckFault, IsJudged, IsOfRun, IsRefusal, IsUnchecked, IsUnjudged, LeavesUnchecked, LeavesUnjudged}
+use Rattle.orc_run.specs.Checked.{IsBeyond, IsCheckFault, IsJudged, IsOfRun, IsRefusal, IsUnchecked, IsUnjudged}
 use Rattle.orc_run.specs.declared.judge.Unchecked.{Unchecked}
 use Rattle.orc_run.specs.declared.judge.Unchecked.TheVariants.{Fault, Unread}
 use Rattle.orc_run.specs.Drawn.{IsUndrawable, LeavesUndrawn}
@@ -20,28 +19,7 @@ use Rattle.orc_run.specs.declared.picture.Undrawn.TheVariants as undrawn
 use Rattle.orc_outcome.specs.declared.end.Summary.{Summary}
 use Rattle.orc_run.specs.declared.faults.RunFault.{RunFault}
 use Rattle.orc_run.specs.declared.faults.RunFault.TheVariants as fault
-use Rattle.orc_cli.specs.declared.job.Options.{Options}
 use Rattle.orc_run.proofs.Accepting.{names_beyond, script_beyond, syntax_beyond}
-
-pub of_run : (source script : List ℕ) (f : LoadFault) → IsLoadFault source script f → IsFaultOf source script (of_load f)
-of_run source script (load.Syntax f) h = h
-of_run source script (load.Script f) h = h
-of_run source script (load.Scope f) h = h
-
-pub of_other : (source script : List ℕ) (f : RunFault) → Loads source script → IsOther f → IsFaultOf source script f
-of_other source script (fault.Syntax f) loads h = absurd h
-of_other source script (fault.Scope f) loads h = absurd h
-of_other source script (fault.Script f) loads h = absurd h
-of_other source script (fault.Test f) loads h = absurd h
-of_other source script (fault.Journal f) loads h = absurd h
-of_other source script (fault.Check f) loads h = absurd h
-of_other source script (fault.Engine f) loads h = loads
-of_other source script (fault.Write w) loads h = absurd h
-
-pub run_left : (source script : List ℕ) (options : Options) (old new : Option (List ℕ)) (f : LoadFault) → Keeps old new → LeavesAtFault source script options old new (of_load f)
-run_left source script options old new (load.Syntax f) keeps = keeps
-run_left source script options old new (load.Script f) keeps = keeps
-run_left source script options old new (load.Scope f) keeps = keeps
 
 pub of_check : (source script journal : List ℕ) (f : LoadFault) → IsLoadFault source script f → IsRefusal source script journal (of_load f)
 of_check source script journal (load.Syntax f) h = h
@@ -68,30 +46,6 @@ of_pieces source script left f h =
 pub unread : (source script text : List ℕ) (f : Unchecked) → IsUnjudged source script text f → IsUnchecked source script text f
 unread source script text (Fault f) h = refused source script text f h
 unread source script text Unread h = h
-
-pub check_left : (source script journal : List ℕ) (old new : Option (List ℕ)) (f : RunFault) → IsRefusal source script journal f → Keeps old new → LeavesUnjudged source script journal old new f
-check_left source script journal old new (fault.Syntax f) h keeps = keeps
-check_left source script journal old new (fault.Scope f) h keeps = keeps
-check_left source script journal old new (fault.Script f) h keeps = keeps
-check_left source script journal old new (fault.Test f) h keeps = absurd h
-check_left source script journal old new (fault.Journal f) h keeps = keeps
-check_left source script journal old new (fault.Check f) h keeps = keeps
-check_left source script journal old new (fault.Engine f) h keeps = keeps
-check_left source script journal old new (fault.Write w) h keeps = absurd h
-
-pub unread_left : (source script text : List ℕ) (old new : Option (List ℕ)) (f : Unchecked) → IsUnjudged source script text f → Keeps old new → LeavesUnchecked source script text old new f
-unread_left source script text old new (Fault f) h keeps = check_left source script text old new f h keeps
-unread_left source script text old new Unread h keeps = keeps
-
-pub draw_left : (source script journal : List ℕ) (old new : Option (List ℕ)) (f : RunFault) → IsRefusal source script journal f → Keeps old new → LeavesUndrawn source script journal old new (undrawn.Fault f)
-draw_left source script journal old new (fault.Syntax f) h keeps = keeps
-draw_left source script journal old new (fault.Scope f) h keeps = keeps
-draw_left source script journal old new (fault.Script f) h keeps = keeps
-draw_left source script journal old new (fault.Test f) h keeps = absurd h
-draw_left source script journal old new (fault.Journal f) h keeps = keeps
-draw_left source script journal old new (fault.Check f) h keeps = keeps
-draw_left source script journal old new (fault.Engine f) h keeps = keeps
-draw_left source script journal old new (fault.Write w) h keeps = absurd h
 
 -- a journal that the check accepts and that isn't drawn leaves the output as it was
 pub undrawable_left : (source script journal : List ℕ) (out : Option (List ℕ)) (j : Written) (state : State) → IsJudged source script journal j state → (u : Undrawn) → IsUndrawable u → LeavesUndrawn source script journal out out u

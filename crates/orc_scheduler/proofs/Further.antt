@@ -1,8 +1,7 @@
 -- Each move of a token brings a run further, but where the token calls a site or waits.
-use Rattle.std.proofs.Common.{◌≡◌, ◌≤◌, ℕ, List, [], refl, sym, ap, subst, ◌∙◌, arith, Bool, true, false}
+use Rattle.std.proofs.Common.{◌≡◌, ◌≤◌, ℕ, List, [], refl, sym, ap, ◌∙◌, arith, false}
 use Rattle.orc_rules.specs.declared.entry.Entry.{Entry}
-use Rattle.orc_rules.specs.Nodes.{Listing, code, definitions, source}
-use Rattle.orc_rules.specs.Program.{IsProgram}
+use Rattle.orc_rules.specs.Nodes.{Listing, code, definitions}
 use Rattle.orc_rules.specs.Sites.{Site}
 use Rattle.orc_rules.specs.Term.{Term}
 use Rattle.orc_env.specs.declared.names.Bound.{Bound}
@@ -11,7 +10,6 @@ use Rattle.orc_frames.specs.Doing.{is_wait}
 use Rattle.orc_frames.specs.declared.action.Action.{Action}
 use Rattle.orc_frames.specs.declared.action.Action.TheVariants.{Halt, Fork, Seq, Prune, Other, Def, Void, Publish, Send, Bind, Call, Wait}
 use Rattle.orc_indexes.specs.Same.{weight}
-use Rattle.orc_tables.specs.Tokens.{IsHeld}
 use Rattle.orc_tables.specs.declared.records.Call.{Call as Pending}
 use Rattle.orc_tables.specs.declared.records.Group.{Group}
 use Rattle.orc_tables.specs.declared.records.Step.{Step}
@@ -19,10 +17,9 @@ use Rattle.orc_tables.specs.declared.records.Token.{Token}
 use Rattle.orc_indexes.proofs.Weight.{weight-but}
 use Rattle.orc_ledger_spec.specs.Records.{Records}
 use Rattle.orc_ledger_spec.specs.AtOnce.{IsCalled}
-use Rattle.orc_ledger_spec.specs.Calls.{Turns, Crosses, Drops, Exchanges, Resumes, Closes, IsEnded, IsForked, group_goes}
+use Rattle.orc_ledger_spec.specs.Calls.{Turns, Crosses, Drops, Exchanges, Resumes, Closes, group_goes}
 use Rattle.orc_ledger_spec.specs.Doing.{what_of}
-use Rattle.orc_ledger_spec.specs.Moves.{Does, Moves, CallsFit}
-use Rattle.orc_ledger_spec.specs.Parameters.{IsCalled as Entered}
+use Rattle.orc_ledger_spec.specs.Moves.{Does, Moves}
 use Rattle.orc_ledger_spec.specs.Passing.{Enters, Clears, Passes}
 use Rattle.orc_ledger_spec.specs.Vacant.{Sheds}
 use Rattle.orc_ledger_spec.specs.declared.results.Called.{Called}
@@ -147,23 +144,6 @@ module _ (l : Listing) (s : Records) (slot : ℕ) (t : Token) (s' : Records) (ks
   pub waits-so : Moves l s slot t moved.Waits ks s' → s' ≡ s
   waits-so h = (waits_by l s slot t s' ks (what_of (code l) (definitions l) s t) h).0
 
-  misfit_of : (w : Action) → w ≡ Def → Does l s slot t s' ks w moved.Waits → Does l s slot t s' ks Def moved.Waits
-  misfit_of w e h = subst (λ z. Does l s slot t s' ks z moved.Waits) e h
-
-  wait_or_not : (w : Action) → (is_wait w ≡ false → ⊥) → is_wait w ≡ true
-  wait_or_not w h = go (is_wait w) refl
-    where
-      go : (b : Bool) → is_wait w ≡ b → is_wait w ≡ true
-      go true e = e
-      go false e = absurd (h e)
-
-  -- and in a closed program its word says so
-  pub waits-by-word : CallsFit l s → IsProgram (definitions l) (source l) → IsHeld s.slots slot t → Moves l s slot t moved.Waits ks s' → is_wait (what_of (code l) (definitions l) s t) ≡ true
-  waits-by-word fit program held h =
-      let w = what_of (code l) (definitions l) s t in
-      let d = waits_by l s slot t s' ks w h in
-      wait_or_not w (λ moves. fit program slot t s' held (d.1 moves) (misfit_of w (d.1 moves) h))
-
 pub goes-on : (s s' s'' : Records) → Advances s s' → Goes s' s'' → Advances s s''
 goes-on s s' s'' a g = record { limit = g.limit ∙ a.limit; far = omega (arith, a.far, g.far) }
 
@@ -172,9 +152,6 @@ gone-on s s' s'' g a = record { limit = a.limit ∙ g.limit; far = omega (arith,
 
 pub further-still : (s s' s'' : Records) → Advances s s' → Advances s' s'' → Advances s s''
 further-still s s' s'' a b = record { limit = b.limit ∙ a.limit; far = omega (arith, a.far, b.far) }
-
-pub further-goes : (s s' : Records) → Advances s s' → Goes s s'
-further-goes s s' a = record { limit = a.limit; far = omega (arith, a.far) }
 
 pub stays : (s s' : Records) → s' ≡ s → Goes s s'
 stays s s' e = record { limit = ap (λ (z : Records). z.limit) e; far = omega (arith, ap (λ (z : Records). z.entries) e, ap open_groups e) }
@@ -221,13 +198,3 @@ passes-further l sites s slot t (passed.Pends k) ks s' nc nw h = pends-further l
 passes-further l sites s slot t passed.Answered ks s' nc nw h = answered-further l sites s slot t s' h
 passes-further l sites s slot t (passed.Halted g) ks s' nc nw h = halted-further l sites s slot t g s' h
 passes-further l sites s slot t passed.Through ks s' nc nw h = through-further l sites s slot t s' h
-
--- `stop`, a fork, and a call of a definition
-pub ends-further : (s s' : Records) (t : Token) → IsEnded s t s' → Advances s s'
-ends-further s s' t h = turned _ _ _ _ _ _ _ _ _ h (omega arith)
-
-pub forks-further : (s s' : Records) (t : Token) (scope left right : ℕ) → IsForked s t scope left right s' → Advances s s'
-forks-further s s' t scope left right h = turned _ _ _ _ _ _ _ _ _ h (omega arith)
-
-pub enters-further : (l : Listing) (s s' : Records) (t : Token) (scope definition list : ℕ) → Entered l s t scope definition list s' → Advances s s'
-enters-further l s s' t scope definition list h = turned _ _ _ _ _ _ _ _ _ h.5 (omega arith)

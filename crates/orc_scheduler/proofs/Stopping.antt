@@ -31,11 +31,8 @@ use Rattle.orc_ledger_spec.specs.declared.faults.LedgerFault.{LedgerFault}
 use Rattle.orc_ledger_spec.specs.declared.faults.LedgerFault.TheVariants as fault
 use Rattle.orc_ledger_spec.proofs.Advancing.{word-par, hindered-by}
 use Rattle.orc_ledger_spec.proofs.Claiming.{never-hinders}
-use Rattle.orc_scheduler.specs.declared.scheduler.Stop.{Stop}
 use Rattle.orc_scheduler.specs.declared.scheduler.Stop.TheVariants as stop
-use Rattle.orc_scheduler.specs.declared.scheduler.Turn.{Turn}
-use Rattle.orc_scheduler.specs.declared.scheduler.Turn.TheVariants as turn
-use Rattle.orc_scheduler.specs.Stops.{Advances, HasSpread, HasTurned, IsNearer, IsAtWork, NoneIsDue, Stops, left}
+use Rattle.orc_scheduler.specs.Stops.{Advances, HasSpread, IsNearer, IsAtWork, NoneIsDue, Stops, left}
 use Rattle.orc_scheduler.proofs.Further.{further-still, exchanged, dropped, resumed, closed}
 
 -- ---- what the ledger refuses
@@ -99,9 +96,6 @@ refused-so l s s' f same law h = go f (subst (λ z. IsRefused z 0 0 0 f) (sym sa
     go fault.Memory k = tt
     go fault.Unclaimed k = absurd k
 
-pub no-memory : (l : Listing) (s : Records) (r : Stop) → r ≡ stop.Refused fault.Memory → Stops l s r
-no-memory l s r is = subst (Stops l s) (sym is) tt
-
 -- ---- halts and answers
 
 halted_by : (code : ℕ → Term) (s s' : Records) (g : Group) (h : Halted) → Becomes code s s' g h → Advances s s'
@@ -158,20 +152,6 @@ spread-on s s' s'' n n' n'' (inl a) (inl b) = inl (further-still s s' s'' a b)
 spread-on s s' s'' n n' n'' (inl a) (inr (same, few)) = inl (subst (Advances s) (sym same) a)
 spread-on s s' s'' n n' n'' (inr (same, few)) (inl b) = inl (subst (λ z. Advances z s'') same b)
 spread-on s s' s'' n n' n'' (inr (same, few)) (inr (still, fewer)) = inr (still ∙ same, omega (arith, few, fewer))
-
-pub spread-nearer : (s s' s'' : Records) (n n' n'' : ℕ) → HasSpread s n s' n' → IsNearer s' n' s'' n'' → IsNearer s n s'' n''
-spread-nearer s s' s'' n n' n'' (inl a) (inl b) = inl (further-still s s' s'' a b)
-spread-nearer s s' s'' n n' n'' (inl a) (inr (same, few)) = inl (subst (Advances s) (sym same) a)
-spread-nearer s s' s'' n n' n'' (inr (same, few)) (inl b) = inl (subst (λ z. Advances z s'') same b)
-spread-nearer s s' s'' n n' n'' (inr (same, few)) (inr (still, fewer)) = inr (still ∙ same, omega (arith, few, fewer))
-
-pub nearer-spread : (s s' : Records) (n n' : ℕ) → IsNearer s n s' n' → HasSpread s n s' n'
-nearer-spread s s' n n' (inl a) = inl a
-nearer-spread s s' n n' (inr (same, fewer)) = inr (same, omega (arith, fewer))
-
-pub turned-spread : (s s' : Records) (n n' : ℕ) (t : Turn) → HasTurned s n s' n' t → HasSpread s n s' n'
-turned-spread s s' n n' turn.Went h = nearer-spread s s' n n' h
-turned-spread s s' n n' turn.Rests h = inr h
 
 -- what is said of a result's value, weaker
 pub weaker : {X E : Type 0} (r : Result X E) (A B : X → Type 0) → ((x : X) → A x → B x) → IfOk r A → IfOk r B

@@ -13,9 +13,6 @@ module _ {X : Type 0} where
   pub grows_self : (xs : List X) → Grows xs xs
   grows_self xs = ([], sym (append-nil xs))
 
-  pub grows_last : (xs : List X) (x : X) → Grows xs (xs ++ x ∷ [])
-  grows_last xs x = (x ∷ [], refl)
-
   pub grows_both : (xs ys zs : List X) → Grows xs ys → Grows ys zs → Grows xs zs
   grows_both xs ys zs a b = (a.0 ++ b.0, b.1 ∙ ap (λ (l : List X). l ++ b.0) a.1 ∙ append_assoc xs a.0 b.0)
 

@@ -17,7 +17,7 @@ use Rattle.orc_schedules.specs.declared.lists.What.TheVariants.{Published, Call,
 use Rattle.orc_schedules.specs.Lists.{Linked, what_of, list_at, list_of, lists_from, lists, AreBehind, IsMade, AreMade}
 use Rattle.orc_schedules.specs.Seen.{Past, nothing_yet, values_of}
 use Rattle.orc_schedules.specs.Watch.{all_at}
-use Rattle.orc_schedules.proofs.Growing.{or_else, get_there, get_or_is, grows_or, grows_len}
+use Rattle.orc_schedules.proofs.Growing.{or_else, get_there, get_or_is, grows_or}
 
 published_both : (xs ys : List Happening) → all_published (xs ++ ys) ≡ all_published xs ++ all_published ys
 published_both [] ys = refl
@@ -165,10 +165,3 @@ lists_stay calls more grows ls [] all = refl
 lists_stay calls more grows ls (x ∷ xs) all =
     ap (λ (ws : List Occurrence). lists_from more (ls ++ record { happened = (list_at ls x.before).happened ++ all_at x.now ws; now = x.now } ∷ []) xs) (what_stays calls more x.what grows (all 0 x refl))
     ∙ lists_stay calls more grows (ls ++ list_of calls ls x ∷ []) xs (λ i y h. all (suc i) y h)
-
-pub made_stay : (calls more : List Occurrence) (xs : List Longer) → Grows calls more → AreMade calls xs → AreMade more xs
-made_stay calls more xs grows all i x h = go x.what (all i x h) where
-  go : (w : What) → IsMade (length calls) w → IsMade (length more) w
-  go (Published v) is = tt
-  go (Call n) is = let le = grows_len calls more grows in omega (arith, le, is)
-  go Nothing is = tt

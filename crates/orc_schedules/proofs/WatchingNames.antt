@@ -49,9 +49,6 @@ seen_on old new next more all now before = seen_behind new (old ++ next) more no
 pub no_more : (ss all : List Simple) → NameSame (ss ++ []) all → NameSame ss all
 no_more ss all before = λ w. ap (λ ts. is_named ts w) (sym (append-nil ss)) ∙ before w
 
-pub seen_no_more : (ss all : List Simple) → all_seen (ss ++ []) ≡ all_seen all → all_seen ss ≡ all_seen all
-seen_no_more ss all before = ap all_seen (sym (append-nil ss)) ∙ before
-
 -- first the one list, and then the other
 pub both_on : (old mid new first second : List Simple) → NameSame mid (old ++ first) → NameSame new (mid ++ second) → NameSame new (old ++ (first ++ second))
 both_on old mid new first second one other = λ w. other w ∙ same_behind mid (old ++ first) second one w ∙ ap (λ ss. is_named ss w) (append_assoc old first second)
