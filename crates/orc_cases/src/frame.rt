@@ -88,7 +88,8 @@ pub(crate) fn halts_of(
     Ok(halts)
 }
 
-// Whether a line with this choice is written: each line is, or, with `only_telling`, one that is off or takes an alternative with a range.
+// Whether a way's text has a line with this choice. With `only_telling` it has only the lines that tell the way from others: those that are off or
+// whose alternative has a range. Otherwise it has every line.
 fn is_shown(only_telling: bool, choice: &Choice) -> bool
     ensures { result ≡ is_shown only_telling (choice_of choice.now) }
 {

@@ -13,7 +13,7 @@ use orc_claims::claim::Slot;
 use orc_ways::test::{Service, ServiceLine};
 use std::alloc::{AllocError, Global};
 
-// Whether two patterns are equal. A service has no variables; the definition has a case for them, and so has this.
+// Whether two patterns are equal. A service's patterns have no variables, but the type `Slot` has them, so there is a case for two variables, too.
 fn same_pattern(a: Slot, b: Slot) -> bool
     ensures { result ≡ slot_eq a b }
 {

@@ -21,7 +21,8 @@ IsProgramOf source t l = (s : Source) × SpellsTree source s × Checks t.names s
 abbrev pub Loads : List ℕ → List ℕ → Type 0
 Loads source script = (l : Listing) × (t : Table) × Says script t × IsProgramOf source t l
 
--- why no program is loaded: this fault is one of the source's text, unless memory ran out; of the script, where the text is a program's; or of its names, where the script is one too
+-- why no program is loaded. A `Syntax` fault is one of the source's text, a `Script` fault one of the script if the source spells a program, and a
+-- `Scope` fault one of the names if the script is one, too. Refused memory is set aside.
 abbrev pub IsLoadFault : List ℕ → List ℕ → LoadFault → Type 0
 IsLoadFault source script (fault.Syntax f) = IfFault (Err f) (IsFault source)
 IsLoadFault source script (fault.Script f) = ((s : Source) × SpellsTree source s) × IsBad script f

@@ -35,7 +35,8 @@ pub record IsTooLarge (sites : List (List ℕ)) (s : Source) (f : ScopeFault) : 
 abbrev pub Blames : List (List ℕ) → Source → ScopeFault → Type 0
 Blames sites s f = (f.kind ≡ Memory) ⊎ (IsLeast (Some f) (program_faults sites s) ⊎ IsTooLarge sites s f)
 
--- a program without a fault is written out, by which it is lawful and no deeper than its source allows; any other is blamed
+-- the check answers a program only if it has no fault, as its written-out terms, which are lawful and no deeper than its source allows; any other
+-- program gets a fault of its own
 abbrev pub Checks : List (List ℕ) → Source → Result Listing ScopeFault → Type 0
 Checks sites s (Ok l) = IsSound sites s × IsWrittenOut (known_in sites s) (variables s) s l × IsLawful sites l × StaysShallow s l
 Checks sites s (Err f) = Blames sites s f

@@ -30,7 +30,7 @@ pub enum FaultKind {
     NoSite,
     /// C8: a parameter or argument behind `MOST_ARGUMENTS` others, or over `MOST_NODES` nodes in all terms.
     TooMany,
-    /// C9: a growth was refused. It says nothing of the program.
+    /// C9: memory was refused. This says nothing about the program.
     Memory,
 }
 

@@ -20,13 +20,13 @@ use std::alloc::{AllocError, Global};
 // In contracts `IsLeast result faults` says that the result is the least of these faults, or None where there are none; `waiting` is the stack of
 // tasks with the next one first, and `IsFit` says that each can still make its scope.
 
-/// A part that is to be looked at, with what becomes of the scope then: it keeps the names of the whole, without those that came into scope since in
-/// parts further right, and may gain one.
+/// A part that is still to be searched, and how to make its scope then: it keeps the first `depth` names in scope, drops the names after these, which
+/// belong to parts further right, and may add one.
 #[derive(Clone, Copy)]
 pub struct Task<'a> {
-    /// How many of the names in scope it keeps, the outermost ones.
+    /// How many names, counted from the outermost one, stay in scope in the part.
     pub depth: usize,
-    /// A name that it gains: the variable of the operator or `val` whose side it is.
+    /// The variable that comes into scope in the part, if the part is in the scope of an operator's or a `val`'s variable.
     pub bind: Option<&'a [u8]>,
     /// Of an argument its number, from 1. The task stands for the arguments before it, too. 0 for any other part.
     pub number: usize,
@@ -53,7 +53,7 @@ impl Drop for Looking<'_> {
     }
 }
 
-/// A fault of this kind at this place, as what was found there.
+/// `Some` of the fault of this kind at this place.
 pub fn one(kind: FaultKind, span: Span) -> Option<ScopeFault>
     ensures { IsLeast result (fault kind span ∷ []) }
 {

@@ -133,8 +133,8 @@ impl Writing {
         operands
     }
 
-    // Puts the node `root` into the pruning of the new variable `name`, whose right side is this argument, unless that is an operand. Gives the
-    // whole's node.
+    // The node of `root <name< piece`, where `name` is a new variable and `piece` the argument that it replaces; `root` itself if the argument is an
+    // operand and needs no pruning.
     fn pruning(&mut self, root: usize, name: u32, piece: Piece) -> Result<usize, AllocError>
         requires fine { IsFine (terms self.old.nodes) piece }
         requires within { root < length (terms self.old.nodes) }

@@ -1,4 +1,4 @@
-//! Where a worker can be held before a call, by a caller who wants an order of events, such as a test.
+//! A gate, by which the caller of a run can hold a worker before it makes a call. A test forces an order of events by it.
 
 ghost use Rattle.std.specs.Prelude.{◌≡◌, true};
 
@@ -11,7 +11,7 @@ pub trait Gate {
     /// Passes with the call of that number, from 1. It returns when the worker may go on.
     fn pass(&self, number: u64);
 
-    /// Whether `pass` may wait for what another thread does. Where nothing is said it may.
+    /// Whether `pass` may wait for something that another thread does. The default is true.
     fn may_wait(&self) -> bool {
         true
     }

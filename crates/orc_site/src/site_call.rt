@@ -30,7 +30,7 @@ pub enum State {
     Done(Answer),
 }
 
-/// A call under way. A task that polled it too early is woken when the due time comes, and no waker is kept then.
+/// A call that has been made, as a future. A task that polls it before its due time leaves a waker, which wakes the task once that time has come.
 #[derive(Drop)]
 pub struct SiteCall<'a> {
     answers: &'a Answers,

@@ -45,11 +45,11 @@ pub trait Sites {
     /// Begins a call. Its first moment is the time of the request. The error is refused memory.
     fn call(&self, request: &Request) -> Result<Self::Call, AllocError>;
 
-    /// Is told that the program has dropped the call of this number, from 1: a bind has cancelled it. That may come before the call is made.
+    /// The engine tells the sites that a bind has cancelled the call of this number, from 1. That may happen before the call is made.
     fn cancel(&self, number: u64);
 
-    /// Whether a call, a poll or a cancel may wait for what another thread does. Then the engine lets no other work wait behind it. Where nothing is
-    /// said it may.
+    /// Whether a call, a poll or a cancel may wait for something that another thread does. Then the engine lets no other work wait behind it. The
+    /// default is true.
     fn may_wait(&self) -> bool {
         true
     }

@@ -99,7 +99,7 @@ pub record Reduced : Type 0 where
 abbrev pub reduced : Operand → List Item → List Frame → Reduced
 reduced o ns k = record { operand = o; nodes = ns; frames = k }
 
--- joins what waits on top of the frames and binds at least as tightly as m, with the operand o as the right side of the topmost
+-- joins the operators on top of the frames that bind at least as tightly as m; the operand o is the right side of the topmost one
 abbrev pub reduce : ℕ → Operand → List Item → List Frame → Reduced
 reduce m o ns [] = reduced o ns []
 reduce m o ns (Before j start ∷ k) =
@@ -120,7 +120,7 @@ takes_val (Arguments x count ∷ k) = true
 takes_val (Bound x start ∷ k) = true
 takes_val (Body f ∷ k) = true
 
--- a definition can
+-- a definition can begin: only if nothing waits
 abbrev pub takes_def : List Frame → Bool
 takes_def [] = true
 takes_def (f ∷ k) = false

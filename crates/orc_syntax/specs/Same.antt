@@ -45,6 +45,6 @@ IsSame s t = bare_source s ≡ bare_source t
 abbrev pub SpellsSame : List ℕ → Source → Type 0
 SpellsSame text s = (t : Source) × IsSame t s × IsUtf8 text × SpellsTokens text t
 
--- What was appended does.
+-- The text that was appended to `old` spells the program, except for the places of its parts.
 abbrev pub AppendsSame : List ℕ → List ℕ → Source → Type 0
 AppendsSame old new s = (text : List ℕ) × (new ≡ old ++ text) × SpellsSame text s

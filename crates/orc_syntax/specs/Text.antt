@@ -59,7 +59,7 @@ pub record StopsAt (src : List ℕ) (at : ℕ) (what : What) : Type 0 where
   pub stuck : Begins (front ++ next ∷ []) → ⊥
   pub wanted : IsWanted what front
 
--- The tokens of the whole text begin a program, and are none.
+-- The tokens of the whole text begin a program, but the program isn't complete.
 pub record StopsAtEnd (src : List ℕ) (at : ℕ) (what : What) : Type 0 where
   pub front : List Lexeme
   pub cut : Cut src front (length src)

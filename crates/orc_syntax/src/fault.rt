@@ -24,7 +24,7 @@ pub enum SyntaxFault {
     Deep(usize),
     /// S7: the place of a `{-` that isn't closed.
     Comment(usize),
-    /// S8: a growth was refused. It says nothing of the text.
+    /// S8: memory was refused. This says nothing about the text.
     Memory,
 }
 

@@ -399,7 +399,7 @@ pub fn print(alloc: Global, ast: &Ast, out: &mut Vec<u8>) -> Result<(), AllocErr
     out.extend_from_slice(&text)
 }
 
-/// A law, with nothing to run: whatever the printed text of a program spells is that program, but for its places.
+/// A law; the function does nothing. If the printed text of a program spells a program, it is the same one, except for the places of its parts.
 pub fn printed_again()
     ensures { (src : List ℕ) (s t : Source) → SpellsText src s → SpellsText (printed s) t → IsSame t s }
 {}

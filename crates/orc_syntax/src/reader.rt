@@ -470,7 +470,8 @@ impl<'a> Reader<'a> {
         Ok(())
     }
 
-    // A token that begins an expression stands behind a whole one. So that was the G of a `val`, or the body of a `def`; else `wanted` was to come.
+    // A token that begins an expression comes after a complete expression. That is allowed if the complete one is the G of a `val` or the body of a
+    // `def`; otherwise the error says that `wanted` was expected.
     #[tactic(auto, using(crate::proofs::Views::stacks))]
     fn follow(&mut self, wanted: What, token: Token<'a>) -> Result<Mode<'a>, StepError>
         ensures { Leaves result self.new (machine.follow wanted (sort token.entry.kind) token.entry.span (context self.old) (nodes self.old) (stack self.old)) }
@@ -694,10 +695,10 @@ impl<'a> Reader<'a> {
         }
     }
 
-    /// Takes one more token behind `last`, which `Mode::Want` is at the start and else what this function gave for the token before. Gives what
-    /// the new token is.
+    /// Takes one more token and gives the mode after it. `last` is the mode before it: `Mode::Want` for the first token, and otherwise what this
+    /// function gave for the token before.
     ///
-    /// `Wanted` where no program goes on with this token, with what had to stand in its place; `Memory` where a growth was refused.
+    /// The error is `Wanted`, with what was expected, if no program goes on with this token, and `Memory` if memory was refused.
     #[inline(always)]
     pub fn advance(&mut self, last: Mode<'a>, token: Token<'a>) -> Result<Mode<'a>, StepError>
         ensures { Leaves result self.new (machine.advance (mode last.entry) (sort token.entry.kind) token.entry.span (context self.old) (nodes self.old) (stack self.old)) }

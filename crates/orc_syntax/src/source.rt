@@ -60,7 +60,7 @@ fn comes_before(fault: SyntaxFault, at: usize) -> bool
     }
 }
 
-// Takes one more token behind `last`. One that can't follow is refused as such, even where it is too deep as well.
+// Lets the reader take a token, and then counts it. A token that doesn't fit is reported as such (S4), even if it is also too deep (S5).
 #[inline(always)]
 fn take<'a>(
     reader: &mut Reader<'a>,
@@ -70,7 +70,7 @@ fn take<'a>(
 ) -> Result<Mode<'a>, StepError>
     ensures { Takes result reader.new (count_of depth.new) (context reader.old) (count_of depth.old) (sort token.entry.kind) (machine.advance (mode last.entry) (sort token.entry.kind) token.entry.span (context reader.old) (nodes reader.old) (stack reader.old)) }
 {
-    // That a definition is whole shows only at the first token behind it, which already counts to what follows.
+    // The reader completes a definition when it takes the first token after it. That token is the next part's, so the count starts again before it.
     let defined = reader.defined();
     let mode = reader.advance(last, token)?;
     depth.begin_part(defined, reader.defined());
@@ -109,7 +109,7 @@ fn read_text<'a>(alloc: Global, src: &'a [u8]) -> Result<Ast<'a>, SyntaxFault>
     }
 }
 
-// The fault of a text whose bytes stop being UTF-8 at a place, and that was read with this result: of the two faults the one that stands first.
+// The fault of a text that stops being UTF-8 at `at`: the fault that reading gave if that stands before `at`, and otherwise `Encoding`.
 fn first_fault(read: Result<Ast<'_>, SyntaxFault>, at: usize) -> SyntaxFault
     ensures { result ≡ first_of read.entry at }
 {

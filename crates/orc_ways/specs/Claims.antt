@@ -39,7 +39,7 @@ pub data Plain : Type 0 where
   in_any_order : List Value → Plain
   one_of : List Value → Plain
 
--- if all conditions are met, so the rest
+-- a claim: if a run meets all conditions, the rest must hold of it
 pub record Claim : Type 0 where
   pub conditions : List Condition
   pub plain : Plain
@@ -275,7 +275,7 @@ end_at (t ∷ ts) = option_map (λ e. (e, ts)) (end_in t)
 abbrev pub ends_by : Bool × Bool → List Token → Option Plain
 ends_by e ts = option_map (λ by. ends e.0 e.1 by) (time_at (codes "by") ts)
 
--- what one of both allows
+-- the ends that at least one of the two allows
 abbrev pub either : Bool × Bool → Bool × Bool → Bool × Bool
 either e f = (e.0 || f.0, e.1 || f.1)
 

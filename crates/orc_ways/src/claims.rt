@@ -44,7 +44,7 @@ fn count(event: Event, low: u64, most: Option<u64>, rest: &[Token<'_>]) -> Optio
     Some(Plain::Count(event, low, most, by))
 }
 
-// Whether this is a call that is made: `A(..)` or `A(..) called`.
+// Whether this is the event that a call is made: `A(..)` or `A(..) called`.
 fn is_call(simple: &Simple) -> bool
     ensures { result ≡ is_called (simple_of simple.now) }
 {
@@ -278,7 +278,7 @@ fn publishes(alloc: Global, tokens: &[Token<'_>]) -> Result<Option<Plain>, Alloc
     ensures { IfOk result (λ o. Gives plain_of o (publishes_at (tokens_of tokens.now))) }
 {
     if is_nothing_behind(tokens) {
-        // Nothing is no values in order.
+        // `publishes nothing` is a list of no values, in order.
         return Ok(Some(Plain::InOrder(Vec::new(alloc))));
     }
     let Some(more) = behind(b"one", tokens) else {

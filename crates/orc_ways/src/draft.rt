@@ -129,7 +129,7 @@ impl<'a> Draft<'a> {
     {
         match self.part {
             Part::Given => Some(None),
-            // In a case there is one at least, so nothing saturates.
+            // The section `Case` begins with a case, so there is at least one, and the subtraction doesn't saturate.
             Part::Case => Some(Some(self.test.cases.len().saturating_sub(1))),
             _ => None,
         }

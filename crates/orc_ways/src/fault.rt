@@ -9,7 +9,7 @@ use std::fmt;
 /// Why a test isn't read. Lines are counted from 1.
 #[derive(Clone, Copy, PartialEq, Eq, Debug)]
 pub enum TestFault {
-    /// T1: the first line that is none of a test, or that names one site too many.
+    /// T1: the first line that isn't a line of a test, or that names one site too many.
     Line(usize),
     /// T2: memory was refused.
     Memory,
@@ -21,7 +21,7 @@ pub enum TestFault {
     /// T5: the first line that names a site that no service has with so many arguments, and whose name neither a built-in site nor a line of the
     /// script has.
     Unknown(usize),
-    /// T6: the line of the first case with over `MOST_WAYS` ways. `read_test` never answers it: who counts the ways does.
+    /// T6: the line of the first case with over `MOST_WAYS` ways. `read_test` never gives this fault; the caller that counts the ways does.
     Ways(usize),
 }
 

@@ -5,7 +5,8 @@ ghost use Rattle.std.specs.Prelude.{◌<◌, ◌^◌, length};
 use crate::test::SiteName;
 use crate::token::Token;
 
-/// What the tokens of a line are read with. A site in a claim is its place among the sites, and a variable the place of its first token in the line.
+/// What the functions that read a line look names up in. A claim names a site by its place among the sites, and a variable by the place of its first
+/// token in the line.
 #[derive(Clone, Copy)]
 pub struct Scope<'t, 'a> {
     /// The sites that the lines up to this one name, this one included.
