@@ -21,7 +21,8 @@ use Rattle.orc_outcome.specs.declared.end.Summary.{Summary}
 abbrev pub context : Listing → Table → Context
 context l t = record { definitions = definitions l; sites = t.sites; cancels = true }
 
--- a run with this limit of entries, cancels not counted, ends so: Halted if its term has halted, Quiet by the definition of quiet, Limit with as many entries as the limit if it isn't quiet, Full only if a limit of the engine can have been reached
+-- a run with this limit of entries, cancels not counted, can end so: Halted if its term has halted; Quiet if it is quiet; Limit if it has as many
+-- entries as the limit and isn't quiet; Full only if a limit of the engine can have been reached
 abbrev pub EndsAt : Context → ℕ → List Entry → Place → End → Type 0
 EndsAt x limit es p ends.Halted = Halted (erase p.marked)
 EndsAt x limit es p ends.Quiet = IsQuiet x (moment p)
@@ -35,7 +36,8 @@ pub record Outcome : Type 0 where
   pub end : End
   pub now : ℕ
 
--- a run of the program with these sites: the journal has at most `limit` entries, cancels not counted, and leads by the rules from the program's term to a place where it ends so and no cancel is due
+-- the outcome is that of a run of the program with these sites: its journal has at most `limit` entries, cancels not counted, and leads by the rules
+-- from the program's term to a place where the run can end so and no cancel is due
 pub record IsRun (l : Listing) (t : Table) (limit : ℕ) (outcome : Outcome) : Type 0 where
   pub place : Place
   pub leads : Journal (context l t) (begin (source l)) outcome.journal place

@@ -27,7 +27,7 @@ impl Drop for Played {
 /// Why a program was not run to an end.
 #[derive(Clone, Copy, PartialEq, Eq, Debug)]
 pub enum PlayFault {
-    /// Memory was refused: before the run began, among the cancels of a bind, or while a run was looked for.
+    /// Memory was refused before the run began, while the cancels of a bind were recorded, or while the engine searched for a run.
     Memory,
     /// A mistake of the engine: the rules refused the entry that it chose, or it found no entry although the run is neither halted nor quiet.
     Broken,

@@ -43,7 +43,8 @@ abbrev pub one : Bool → ℕ
 one true = 1
 one false = 0
 
--- how many tokens can move, and how many sides have halted whose cell isn't lost yet or whose otherwise hasn't gone on to its right side
+-- how many tokens can move, plus how many sides have halted without effect so far: their cell isn't lost yet, or their `;` hasn't started its right
+-- side
 abbrev pub movable : List Definition → Marked → ℕ
 movable defs ended = 0
 movable defs (token s t) = one (can_move defs t)

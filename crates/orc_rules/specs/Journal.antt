@@ -12,7 +12,8 @@ use Rattle.orc_rules.specs.Step.{Act, calls, returns, binds, loses, publishes, s
 use Rattle.orc_rules.specs.Marked.{Marked, ended, token, in_call, in_par, in_seq, in_opened, in_other, erase, fill_marked, Replaces, Emits}
 use Rattle.orc_rules.specs.Timed.{Context, CallMade, Moment, IsDue, IsTick, CancelsAfter, Event, does, ticks, cancels, Does, Happens, Run, calls_after, cells_after}
 
--- where a journal stands: the marked term, the next mark, the time, the calls made and cells opened, the newest first, and the calls whose cancel is due
+-- a place: where a journal has led. It has the marked term, the next mark, the time, the calls that were made and the cells that were opened (the
+-- newest first), and the calls whose cancel is due.
 pub record Place : Type 0 where
   pub marked : Marked
   pub mark : ℕ

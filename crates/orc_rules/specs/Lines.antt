@@ -54,7 +54,8 @@ found ps places = lookup (λ k. patterns_eq ps k.items) places
 abbrev pub place_in : List (Vec (Option Value) × ℕ) → List Bool → List Value → Option ℕ
 place_in places shape args = if length shape == length args then found (filled shape args) places else None
 
--- an index of lines, unless they have too many shapes: their patterns have the place of the first line that has them, and each line's shape is among the shapes
+-- an index of lines is right, unless they have too many shapes, if it gives patterns the place of the first line that has them, and has each line's
+-- shape
 abbrev pub Indexes : List Line → List (Vec (Option Value) × ℕ) → List (Vec Bool) → Type 0
 Indexes ls places shapes = length shapes ≤ MOST_SHAPES → ((ps : List (Option Value)) → found ps places ≡ first_place ls ps) × AllByRecursion (λ l. is_among (shape_of l.patterns) shapes ≡ true) ls
 

@@ -9,7 +9,7 @@ use Rattle.orc_rules.specs.Marked.{Marked, ended, token, in_call, in_par, in_seq
 use Rattle.orc_rules.specs.Timed.{Context, IsTimely, IsTick, CancelsAfter, does, used, calls_after, cells_after}
 use Rattle.orc_rules.specs.Journal.{Place, moment, next, Journal, Leads, event_of, begin}
 
--- a term as a source has them, values and cells put in or not: nothing pends and nothing is opened
+-- a term that a source can have, perhaps with values and cells in place of variables: it has no pending call and no open pruning
 abbrev pub IsSource : Term → Type 0
 IsSource stop = Unit {0}
 IsSource (param p) = Unit {0}

@@ -6,7 +6,8 @@ use Rattle.orc_rules.specs.declared.param.Param.TheVariants.{Is}
 use Rattle.orc_rules.specs.Step.{Act, silent, publishes, binds, IsInner, within}
 use Rattle.orc_rules.specs.Term.{Term, stop, param, par, seq, other, pending, opened, put, fill}
 
--- a marked term: `stop` without a mark, a token's mark on a term, `?k`, `f | g`, `f >x> g`, `f <c< g`, and `f ; g` entered as otherwise n; what is under a mark is a plain term, so that no mark stands inside another
+-- a marked term: an ended part (`stop` without a mark), a token's mark on a term, a pending call `?k`, `f | g`, `f >x> g`, an open `f <c< g`, or an
+-- `f ; g` that was entered as the otherwise with mark n. Under a mark stands a plain term, so no mark is inside another.
 pub data Marked : Type 0 where
   ended : Marked
   token : ℕ → Term → Marked
@@ -16,7 +17,7 @@ pub data Marked : Type 0 where
   in_opened : Marked → ℕ → Marked → Marked
   in_other : ℕ → Marked → Term → Marked
 
--- the plain term
+-- the term without its marks
 abbrev pub erase : Marked → Term
 erase ended = stop
 erase (token s t) = t
@@ -46,7 +47,8 @@ pub data Replaces (x y : Marked) : Marked → List ℕ → Marked → Type 0 whe
   in_side : {f g g' : Marked} {c : ℕ} {cs : List ℕ} → Replaces x y g cs g' → Replaces x y (in_opened f c g) (c ∷ cs) (in_opened f c g')
   in_entered : {n : ℕ} {f f' : Marked} {g : Term} {cs : List ℕ} → Replaces x y f cs f' → Replaces x y (in_other n f g) cs (in_other n f' g)
 
--- token s publishes v: m becomes m', and the act says what took it: silent a `>x>`, which puts mark a on the copy of its right side; binds a pruning; publishes nothing
+-- token s publishes v, by which m becomes m'; the act says what takes v. It is silent if a `>x>` takes v, and then the new copy of its right side
+-- gets mark a; it binds a cell if a pruning takes v; and it publishes v if nothing in m takes it.
 pub data Emits (s a : ℕ) (v : Value) : Marked → Act → Marked → Type 0 where
   emits : Emits s a v (token s (param (Is v))) (publishes v) ended
   on_left : {f g f' : Marked} {b : Act} → Emits s a v f b f' → Emits s a v (in_par f g) b (in_par f' g)

@@ -77,6 +77,7 @@ used_up (Publish s v) = mark s ∷ []
 used_up (Tick t) = []
 used_up (Cancel k) = []
 
--- what an entry uses up never stands again: so a call returns once at most, a cell is bound or lost once at most, and a right side starts once at most
+-- what an entry uses up never comes back: so a call returns at most once, a cell is bound or lost at most once, and a right side starts at most
+-- once
 abbrev pub UsedUpForGood : Type 0
 UsedUpForGood = (x : Context) (p q r : Place) (e : Entry) (es : List Entry) (n : Name) → IsNumbered p → Leads x p e q → IsIn n (used_up e) → Journal x q es r → times n r.marked ≡ 0

@@ -26,7 +26,7 @@ IsInner (loses c) = Unit {0}
 IsInner silent = Unit {0}
 IsInner (opens c) = Unit {0}
 
--- a step of the right side of cell c, as the whole pruning does it: a call's label gains the cell, the outermost first
+-- an act of the right side of the pruning with cell c, as an act of the whole pruning: the label of a call gets c in front of its cells
 abbrev pub within : ℕ → Act → Act
 within c (calls k m args cs) = calls k m args (c ∷ cs)
 within c (returns k a) = returns k a
@@ -46,7 +46,7 @@ abbrev pub IsNew : ℕ → List ℕ → Type 0
 IsNew n [] = Unit {0}
 IsNew n (u ∷ used) = (n ≢ u) × IsNew n used
 
--- the eighteen rules: t does a, and u is left
+-- the eighteen rules of Orc, in which `Step defs used t a u` says that the term t can do the act a and becomes u
 pub data Step (defs : List Definition) (used : Used) : Term → Act → Term → Type 0 where
   value_rule : {v : Value} → Step defs used (param (Is v)) (publishes v) stop
   void_value : Step defs used (param Void) silent stop
@@ -67,7 +67,7 @@ pub data Step (defs : List Definition) (used : Used) : Term → Act → Term →
   other_value : {f g f' : Term} {v : Value} → Step defs used f (publishes v) f' → Step defs used (other f g) (publishes v) f'
   other_halt : {f g : Term} → Halted f → Step defs used (other f g) silent g
 
--- the rules that do something; ParLeft, ParRight, SeqOther, PruneLeft, PruneRight, OtherStep and OtherValue pass on what a part does
+-- the rules that begin a step; the other seven (ParLeft, ParRight, SeqOther, PruneLeft, PruneRight, OtherStep, OtherValue) pass on a part's step
 pub data Rule : Type 0 where
   ValueRule VoidValue SiteCall VoidCall ReturnRule DefRule SeqValue PruneOpen PruneBind PruneLost OtherHalt : Rule
 

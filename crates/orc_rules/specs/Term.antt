@@ -6,7 +6,8 @@ use Rattle.orc_rules.specs.declared.param.Param.TheVariants.{Name, Is, Cell, Voi
 use Rattle.orc_rules.specs.declared.value.Answer.{Answer}
 use Rattle.orc_rules.specs.declared.value.Answer.TheVariants.{Value as Gives, Halt}
 
--- a term: `stop`, a parameter, `M(p..)`, `E(p..)`, `f | g`, `f >x> g`, `f <x< g`, `f ; g`, and in a run `?k` and `f <c< g`; sites, definitions and variables are numbers
+-- a term: `stop`, a parameter, a call `M(p..)` of a site or `E(p..)` of a definition, `f | g`, `f >x> g`, `f <x< g`, `f ; g`; and, in a run only, a
+-- pending call `?k` and an open pruning `f <c< g` with its cell c. Sites, definitions and variables are numbers.
 pub data Term : Type 0 where
   stop : Term
   param : Param → Term

@@ -71,7 +71,7 @@ abbrev pub IsLater : List Site → Moment → Act → Type 0
 IsLater sites s (returns k a) = (b : Answer) (t : ℕ) → IsDue sites s.calls k b t → s.now < t
 IsLater sites s _ = ⊥
 
--- no rule can be used but later returns
+-- idle: the rules allow no step now except returns of calls that are due later or never
 abbrev pub IsIdle : Context → Moment → Type 0
 IsIdle x s = (a : Act) (u : Term) → Step x.definitions (used s) s.term a u → IsLater x.sites s a
 

@@ -30,7 +30,8 @@ pub record IsVerdict (x : Context) (t : Term) (es : List Entry) (state : State) 
   pub reached : IsAt x end state
   pub time : now ≡ end.now
 
--- the fault from p on, where the next entry is the one with this number: the first entry that is refused and its first reason, or one past the last where a cancel is due there
+-- the fault of entries from p on, where the next entry has the number n: the number of the first entry that is refused, with the first reason; or the
+-- number after the last entry, if a cancel is due there
 abbrev pub FaultFrom : Context → Place → ℕ → List Entry → ℕ → RuleFault → Type 0
 FaultFrom x p n [] at why = (at ≡ n) × (why ≡ reason.Cancel) × (p.to_cancel ≢ [])
 FaultFrom x p n (e ∷ es) at why = ((at ≡ n) × IsRefused x p e why) ⊎ ((mid : Place) × IsTaken x p e mid × FaultFrom x mid (suc n) es at why)

@@ -74,7 +74,8 @@ impl Entry {
     }
 }
 
-/// What an entry shows from outside: the label of its step, or that a call is cancelled. Moves of marks and ticks show nothing.
+/// What an observer sees of an entry: the label of its step, or that a call is cancelled. Ticks show nothing, nor do moves of marks (`end`, `fork`,
+/// `seq`, `other`), which use no rule of Orc.
 #[derive(Drop)]
 pub enum Label {
     /// Call K of a site with these arguments, inside the right sides of these cells, the outermost first.
@@ -100,7 +101,8 @@ pub enum RuleFault {
     Cancel,
     /// No such mark, pending call, cell or otherwise.
     Mark,
-    /// Another kind of term, name, argument or value, or what takes the publication is another: a `>x>`, a cell, or the whole.
+    /// The term, a name, an argument or the value isn't of the kind that the entry needs; or the publication isn't taken by what the entry says: a
+    /// `>x>`, a cell, or the program.
     Form,
     /// A new number that isn't the next one.
     Number,
@@ -108,7 +110,7 @@ pub enum RuleFault {
     Answer,
     /// A return not at its due time, or a tick that isn't allowed.
     Time,
-    /// The side hasn't halted.
+    /// The right side of the pruning (`lost`), or the left side of the otherwise (`right`), hasn't halted.
     Halted,
     /// The term after the entry would nest over `MOST_LEVELS` levels.
     Deep,

@@ -6,8 +6,9 @@
 //! programs as numbered nodes, entries and their kinds, the table of sites with the lines of those that a script answers, each
 //! as the definitions have it, and the limits.
 //!
-//! Words that all crates use: a *mark* is the number of a token, or of an `f ; g` whose left side runs; a *cell* stands for the variable of an
-//! `f <x< g` whose sides run, until it has a value or never will; a *side* is one operand of an operator.
+//! Words that all crates use: a *mark* is the number of a token, or of an `f ; g` whose left side runs. A *cell* stands for x in an `f <x< g` whose
+//! sides run, until x has a value or can't get one any more. A *side* without left or right is the right side of such a pruning, or the left side of
+//! such an `f ; g`.
 #![tactic(auto)]
 
 pub mod answers;

@@ -37,7 +37,7 @@ pub const MOST_TOKENS: usize = 65_536;
 /// side of a `;` that hasn't halted.
 pub const MOST_GROUPS: usize = 1_024;
 
-/// The most frames of a token: the right sides of `>x>` that wait for what it publishes, up to the next right side of a `<x<`.
+/// The most frames of a token: the left sides of `>x>` around it, counted outwards up to the innermost right side of a `<x<`.
 pub const MOST_FRAMES: usize = 4_096;
 
 /// The most workers of a run.

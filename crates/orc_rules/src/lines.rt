@@ -87,7 +87,7 @@ const FEW_LINES: usize = 8;
 // A call is looked up once for each shape. If there are more shapes, the lines are looked at one by one instead.
 const MOST_SHAPES: usize = 16;
 
-// Whether a line's patterns match these arguments, as many and each its own. It recurses once a pattern: a line has `MOST_ARGUMENTS` at most.
+// Whether there are as many patterns as arguments, and each matches its argument. It recurses once a pattern, so at most `MOST_ARGUMENTS` deep.
 fn is_match(patterns: &[Option<Value>], args: &[Value]) -> bool
     ensures { result ≡ matches patterns.now args.now }
 {
@@ -288,7 +288,7 @@ impl Lines {
             self.lines.push(line)?;
             return Ok(());
         }
-        // This line is the first that is too many: the lines so far are entered too.
+        // With this line there are more than `FEW_LINES`, so the index is needed from now on: it gets the lines so far first.
         if self.lines.len() == FEW_LINES {
             self.index = Index::of(alloc, &self.lines)?;
         }

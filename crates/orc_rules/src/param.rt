@@ -30,7 +30,7 @@ pub enum Operand {
 /// The operands of one call, `MOST_ARGUMENTS` at most. They are stored in place, so none of its calls asks for memory.
 #[derive(Drop)]
 pub struct Operands {
-    // From `len` on there is only filling.
+    // The elements from `len` on are unused.
     operands: [Operand; MOST_ARGUMENTS],
     len: usize,
 }

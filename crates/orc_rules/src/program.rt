@@ -123,7 +123,7 @@ impl Program {
         }
     }
 
-    // As `node`, with its first clause alone.
+    // What `node` gives, with only the first clause of its contract.
     fn node_or_stop(&self, id: usize) -> TermNode
         ensures { result ≡ node_of self.now.nodes id }
     {
