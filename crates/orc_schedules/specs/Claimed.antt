@@ -19,7 +19,8 @@ use Rattle.orc_schedules.specs.declared.claimed.Seen.{Seen}
 abbrev pub HoldsInAll : Listing → Table → List ClaimSite → Claim → ℕ → Type 0
 HoldsInAll l t sites c limit = (o : Outcome) → IsRun l t limit o → HasEnded o.end → holds c (happenings (map (renumbered sites) o.journal)) (state_of_end o.end) o.now ≡ true
 
--- it fails in a run that ended so, within a limit that is high enough, and of what it names this happened there, with times as far as it tells them apart
+-- the claim fails in a run that ended so, within some limit of entries; s has what happened in the run of what the claim names, with times as far
+-- as the claim tells them apart
 pub record FailsInOne (l : Listing) (t : Table) (sites : List ClaimSite) (c : Claim) (s : Seen) : Type 0 where
   pub limit : ℕ
   pub outcome : Outcome

@@ -43,7 +43,8 @@ abbrev pub time_of : Sight → ℕ
 time_of (happens h) = 0
 time_of (waits by) = by
 
--- a state to which early steps lead from one before this place in the list goes to s, in no more time than this, and with what is seen on the way it makes p
+-- s with p comes from a state before this place in the list: early steps lead from that state to one that goes to s, in at most `longest` units of
+-- time, and p is what was seen before with what is seen on the way
 pub record ComesFrom (defs : List SmallDefinition) (keep : Kept) (longest : ℕ) (rs : List Reached) (place : ℕ) (s : State) (p : Past) : Type 0 where
   pub at : ℕ
   pub before : at < place
@@ -70,7 +71,7 @@ pub record IsSaid (defs : List SmallDefinition) (keep : Kept) (rs : List Reached
   pub says : graph.ending defs ahead.term ≡ Some ending
   pub end : o.0 ≡ end_of ending
 
--- states that are found one from another, where the way to none of them comes to the last time, say only ends of runs
+-- if each state is the first one or comes from one before it, and no path to one of them reaches the time 2^64, they say only ends of runs
 abbrev pub FoundAreOfRuns : Type 0
 FoundAreOfRuns = (l : Listing) (t : Table) (names : List Simple) (sites : List ClaimSite) (latest longest : ℕ) (rs : List Reached) (o : EndSeen)
     → AreFoundFrom (small_definitions l) (kept names sites latest) longest (first l t) rs → length rs * longest < 2 ^ 64 → IsSaid (small_definitions l) (kept names sites latest) rs o

@@ -39,12 +39,12 @@ pub record IsExplored (l : Listing) (t : Table) (keep : Kept) (u : Tables) (all 
   pub found : AreFound (small_definitions l) keep (first l t) t.sites u
   pub done : all ≡ true → AreDone (small_definitions l) keep t.sites u (length u.states)
 
--- if the answer is that a claim fails, it does so at an end that was found, and no way to a state comes past the last time
+-- if the answer is that a claim fails, it fails at an end that was found, and no path to a state can reach the time 2^64
 abbrev pub IfFails : Tables → Claim → ClaimSearched → Type 0
 IfFails t c (Fails s) = IsIn {X = EndSeen} (end_seen s) (outcomes t) × (holds_by c (end_seen s) ≡ false) × (length t.states * t.longest < 2 ^ 64)
 IfFails t c _ = Unit {0}
 
--- if the answer is that a claim holds, all was explored, it holds at all ends, and no run within the limit comes past the last time
+-- if the answer is that a claim holds, all states were looked at, it holds at all ends, and no run within the limit can reach the time 2^64
 abbrev pub IfHolds : Tables → Bool → Claim → ℕ → ClaimSearched → Type 0
 IfHolds t all c limit (Holds states) = (all ≡ true) × ((o : EndSeen) → IsIn o (outcomes t) → holds_by c o ≡ true) × (suc limit * t.longest < 2 ^ 64)
 IfHolds t all c limit _ = Unit {0}

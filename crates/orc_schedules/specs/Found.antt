@@ -10,7 +10,8 @@ use Rattle.orc_schedules.specs.Reached.{Reached, EndSeen, first, AreAllSeen}
 use Rattle.orc_schedules.specs.Seen.{kept, nothing_yet}
 use Rattle.orc_schedules.specs.Tables.{IsLookedAt}
 
--- where the first state is among states that were all looked at, and no wait is so long that a run within the limit comes to the last time, each run of the program that ends has one of the ends that were told, with what of it is named
+-- if the first state is one of the states, all states were looked at, and waits are so short that no run within the limit reaches the time 2^64,
+-- then the ends that were found include the end of each run within the limit that ends by itself, with what of the run is named
 abbrev pub AllAreFound : Type 0
 AllAreFound = (l : Listing) (t : Table) (names : List Simple) (sites : List ClaimSite) (latest limit longest : ℕ) (rs : List Reached) (os : List EndSeen)
     → ((r : Reached) → IsIn r rs → IsLookedAt (small_definitions l) (kept names sites latest) rs longest os r) → IsIn {X = Reached} (first l t, nothing_yet) rs → suc limit * longest < 2 ^ 64

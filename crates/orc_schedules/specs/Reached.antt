@@ -37,7 +37,7 @@ HasEnded Memory = ⊥
 abbrev pub EndSeen : Type 0
 EndSeen = End × Past
 
--- each run of the program with these sites within the limit that has ended is among them, with what of it is named, and doesn't come to the last time
+-- each run of the program with these sites within the limit that has ended is among them, with what of it is named, and ended before the time 2^64
 abbrev pub AreAllSeen : Listing → Table → List Simple → List ClaimSite → ℕ → ℕ → List EndSeen → Type 0
 AreAllSeen l t names sites latest limit os = (o : Outcome) → IsRun l t limit o → HasEnded o.end → IsIn {X = EndSeen} (o.end, seen_of names sites latest o.journal o.now) os × (o.now < 2 ^ 64)
 

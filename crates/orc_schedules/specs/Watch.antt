@@ -145,7 +145,7 @@ IsWatchOf c None = is_watchable c ≡ false
 
 -- ---- what a claim depends on
 
--- all of it at this time
+-- these occurrences as happenings at this time
 abbrev pub all_at : ℕ → List Occurrence → List Happening
 all_at t ws = map (λ (w : Occurrence). record { time = t; what = w }) ws
 
@@ -162,7 +162,7 @@ abbrev pub named_until : List Simple → ℕ → List Happening → List Happeni
 named_until ss latest [] = []
 named_until ss latest (h ∷ hs) = add_happening (is_named ss h.what) (told_until latest h) (named_until ss latest hs)
 
--- all of it by this time
+-- all of these happened by this time
 abbrev pub HappenedBy : ℕ → List Happening → Type 0
 HappenedBy now [] = Unit {0}
 HappenedBy now (h ∷ hs) = (h.time ≤ now) × HappenedBy now hs

@@ -1,5 +1,6 @@
-//! Early steps that nobody sees: a search takes them first and alone, before it looks at all that may come of a state. So the orders of such steps
-//! make no states. Of an early step the sieve keeps nothing, and it leaves the calls to come as they are (`ahead_follows` in orc_search).
+//! Early steps that nobody sees. The search takes these steps of a state, and no others, before it lists what the state may do, so the orders of such
+//! steps make no states. The sieve keeps nothing of such a step, and the step leaves the answers of the calls to come as they are (`ahead_follows` in
+//! orc_search).
 
 ghost use Rattle.std.specs.Prelude.{◌≡◌, ◌<◌, length, true, IfOk, IfSome, OnOk};
 ghost use Rattle.orc_search.specs.Early.{IsHidden};
@@ -19,7 +20,7 @@ use orc_search::moves::Source;
 use orc_search::successor::Happening;
 use std::alloc::{AllocError, Global};
 
-// So many early steps are taken one after another at most, since a definition may call itself for ever. The rest of them make states as others do.
+// The most early steps that the search takes from one state, since a definition may call itself for ever. Later ones make states as all steps do.
 const MOST_EARLY: u64 = 1000;
 
 impl Tables {

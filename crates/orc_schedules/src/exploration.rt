@@ -67,8 +67,8 @@ fn number_of_source(
     }
 }
 
-// Whether no way of at most `steps` steps, and no run of at most so many entries, can come to a time past 2^64 by waits of at most `longest` units.
-// It has one wait more than steps at most.
+// Whether every path of at most `steps` steps, and every run of at most so many entries, stays below the time 2^64 if no wait is longer than
+// `longest` units. Such a path has at most one wait before each step, and one after the last.
 fn is_in_time(longest: u64, steps: u64) -> bool
     ensures { result ≡ true → suc steps * longest < 2 ^ 64 }
 {
@@ -204,8 +204,8 @@ pub fn search(
     Ok(Schedules::All(ended, states))
 }
 
-// The answer of a search for a claim whose tables these are; `all` says that it looked at all states. A failure counts even if there are more states,
-// as long as the way to it can't be too long; that it holds also needs all states and runs of `limit` entries that can't be.
+// The answer of a search for a claim, from its tables; `all` says that it looked at all states. `Fails` needs only that no path to a state that was
+// found can be too long. `Holds` also needs that all states were looked at, and that no run of `limit` entries can be too long.
 fn claimed(
     alloc: Global,
     tables: &Tables,

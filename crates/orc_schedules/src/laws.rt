@@ -4,12 +4,12 @@ ghost use Rattle.orc_schedules.specs.Ends.{FoundAreOfRuns};
 ghost use Rattle.orc_schedules.specs.Found.{AllAreFound};
 ghost use Rattle.orc_schedules.specs.Watch.{HoldsByWatched};
 
-/// Of states that are closed under all that may happen, with what was seen on the way to them, the ends are those of all runs.
+/// Take states, each with what was seen on the way to it, that are closed under all that may happen. Their ends include the end of every run.
 pub fn all_are_found()
     ensures { AllAreFound }
 {}
 
-/// States that are found one from another say only ends of runs: each end that is told is one to which a run of the program comes.
+/// If each state was found from the first state or from another state that was found, each end that a state says is the end of a run of the program.
 pub fn found_are_of_runs()
     ensures { FoundAreOfRuns }
 {}

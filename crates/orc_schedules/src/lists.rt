@@ -335,7 +335,7 @@ impl Lists {
         ensures kept { Grows (lists self.old) (lists self.new) }
     {
         let before = self.now(at);
-        // No time past 2^64 is told: the search checks that waits don't add up to one.
+        // The sum may saturate: the search answers `TooLong` if waits can add up to 2^64.
         let now = before.saturating_add(by).min(sieve.latest());
         if now == before {
             return Ok(at);

@@ -186,8 +186,8 @@ impl Tables {
         Ok(())
     }
 
-    // Adds the end that `from` is, if it is one: it has halted, or it is quiet, where `still` says that nothing can happen before time passes and no
-    // pending call will be answered. The error is refused memory.
+    // Adds an end if a run can end at `from`: Halted if the term has halted; Quiet if no pending call will be answered and `still` holds, by which
+    // the caller says that nothing can happen before time passes. The error is refused memory.
     fn tell(&mut self, from: Key, still: bool) -> Result<(), AllocError>
         requires all { AreKnown self.old }
         requires from { IsKnown self.old from }
@@ -289,8 +289,8 @@ impl Tables {
         Ok(())
     }
 
-    // Looks at each state in the order in which they were found, also at those that are found on the way: whether these were all, `most` at most.
-    // With more the search stops.
+    // Looks at the states in the order in which they were found, those too that it finds meanwhile, until it has looked at all or there are more than
+    // `most`. Says whether it has looked at all.
     pub(crate) fn look_at_all(
         &mut self,
         alloc: Global,

@@ -12,8 +12,8 @@ use orc_claims::happening::{Occurrence, Phase};
 use std::alloc::{AllocError, Global};
 use std::marker::Model;
 
-/// What a search keeps of what happens for a claim: what became of calls of the sites that the claim names, if it names such an end of them, and
-/// publications, if it names any. Arguments and values don't matter: what differs in them alone is kept too.
+/// What a search keeps for a claim. If the claim has `A(7) answered 1`, the search keeps every answer of A, whatever the arguments and the value, but
+/// neither its calls nor its halts; and if the claim names a publication, the search keeps all of them.
 #[derive(Drop)]
 pub struct Watch {
     // What the claim's events name, one after another; their slots are left out.

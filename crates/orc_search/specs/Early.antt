@@ -12,7 +12,9 @@ use Rattle.orc_search.specs.Moves.{Happening, called, answered, unseen, SmallDef
 use Rattle.orc_search.specs.Graphs.{Ending, ending}
 use Rattle.orc_search.specs.States.{State, Sight, happens, Coming, next_call, coming_after, Goes, Path, AreOf}
 
--- a step that may go first, where calls and answers count only if they are hidden: nothing that happens elsewhere can change it, but to leave it out; and it changes nothing elsewhere. A publication is one only where it is all that a `>x>` or a cell waits for
+-- an early step, which may go first: nothing that happens elsewhere changes it, except that its part may be dropped, and it changes nothing
+-- elsewhere. A call or an answer is early only if it is hidden, and a publication only if a `>x>` or a cell takes it and nothing else is left of
+-- its part.
 pub data Early (defs : List SmallDefinition) (ask : ℕ → List Value → Out) (Hidden : Happening → Type 0) : ℕ → Small → Small → Type 0 where
   void_value : {n : ℕ} → Early defs ask Hidden n (gives Void) nothing
   asked : {n m : ℕ} {ps : List Param} {args : List Value} → values_of ps ≡ Some args → Hidden (called m args) → Early defs ask Hidden n (asks m ps) (awaits (ask m args))
@@ -35,16 +37,16 @@ pub data Early (defs : List SmallDefinition) (ask : ℕ → List Value → Out) 
 abbrev pub IsHidden : (Happening → Bool) → Coming → Happening → Type 0
 IsHidden hides coming h = (hides h ≡ true) × (coming_after h coming ≡ coming)
 
--- the second term comes of the first by early steps alone
+-- early steps lead from the first term to the second
 pub data Leads (defs : List SmallDefinition) (hides : Happening → Bool) (coming : Coming) : Small → Small → Type 0 where
   stays : {f : Small} → Leads defs hides coming f f
   early : {f g k : Small} → Early defs (next_call coming) (IsHidden hides coming) 0 f g → Leads defs hides coming g k → Leads defs hides coming f k
 
--- the second state comes of the first by early steps alone
+-- the second state is ahead of the first: early steps lead to it, and they leave the answers of the calls to come as they are
 abbrev pub IsAhead : List SmallDefinition → (Happening → Bool) → State → State → Type 0
 IsAhead defs hides s t = Leads defs hides s.coming s.term t.term × (t.coming ≡ s.coming)
 
--- a state that is ahead takes part in what happens: that was one of its early steps, or it does the same, and is ahead again
+-- what a state that is ahead does when the state behind it goes to t: nothing, if that was an early step; or the same. Then it is ahead of t.
 pub data Follows (defs : List SmallDefinition) (hides : Happening → Bool) (ahead : State) (v : Sight) (t : State) : Type 0 where
   stands : (h : Happening) → v ≡ happens h → hides h ≡ true → IsAhead defs hides t ahead → Follows defs hides ahead v t
   goes : (u : State) → Goes defs ahead v u → IsAhead defs hides t u → Follows defs hides ahead v t

@@ -37,11 +37,11 @@ abbrev pub watched : (ℕ → Sight → ℕ) → ℕ → List Sight → ℕ
 watched sees w [] = w
 watched sees w (v ∷ vs) = watched sees (sees w v) vs
 
--- states with what a watcher may have seen on the way, by their numbers: with a pair its followers along each edge are among them
+-- pairs of a state's number and the number of what a watcher has seen: for each pair, the pairs to which the edges from its state lead are there, too
 abbrev pub AreWatched : List (List Edge) → (ℕ → Sight → ℕ) → List (ℕ × ℕ) → Type 0
 AreWatched edges sees pairs = (i w j : ℕ) (v : Sight) → IsIn {X = ℕ × ℕ} (i, w) pairs → IsIn {X = Edge} (v, j) (edges_of edges i) → IsIn {X = ℕ × ℕ} (j, sees w v) pairs
 
--- whatever watches a run, the state of its last moment is among them with what was seen
+-- the pair of the state of a run's last moment and of what a watcher has seen of the run is among such pairs
 abbrev pub RunIsWatched : Type 0
 RunIsWatched = (x : Context) (smalls : List SmallDefinition) (s s' : Moment) (es : List Event) (states : List State) (edges : List (List Edge)) (sees : ℕ → Sight → ℕ) (pairs : List (ℕ × ℕ)) (i w : ℕ)
     → AreOf smalls x → IsWell s → IsClosed smalls states edges → AreWatched edges sees pairs → slice_get states i ≡ Some (state_of x s) → IsIn {X = ℕ × ℕ} (i, w) pairs
@@ -52,7 +52,7 @@ pub data Ending : Type 0 where
   halted : Ending
   quiet : Ending
 
--- quiet, unless something can move, or a pending call has time left
+-- quiet, unless something can move now (the first argument) or some pending call will be answered (the second one)
 abbrev pub quiet_if : Bool → Option ℕ → Option Ending
 quiet_if false None = Some quiet
 quiet_if _ _ = None
@@ -61,7 +61,7 @@ quiet_if _ _ = None
 abbrev pub ending : List SmallDefinition → Small → Option Ending
 ending defs f = cond (is_over f) (Some halted) (quiet_if (moves_now defs f) (least_left f))
 
--- a run that has halted has done so by its small term
+-- if a run has halted, its small term says that it has halted
 abbrev pub HaltedIsEnding : Type 0
 HaltedIsEnding = (x : Context) (smalls : List SmallDefinition) (s : Moment) → Halted s.term → ending smalls (small_of x s) ≡ Some halted
 
@@ -69,6 +69,6 @@ HaltedIsEnding = (x : Context) (smalls : List SmallDefinition) (s : Moment) → 
 abbrev pub IsBeyond : Context → Moment → Type 0
 IsBeyond x s = (by : ℕ) × (least_left (small_of x s) ≡ Some by) × (2 ^ 64 ≤ s.now + by)
 
--- a run that is quiet is so by its small term, unless the next call that is out is due too late
+-- if a run is quiet, its small term says that it is quiet, unless the next due time is past the last time
 abbrev pub QuietIsEnding : Type 0
 QuietIsEnding = (x : Context) (smalls : List SmallDefinition) (s : Moment) → AreOf smalls x → IsWell s → IsQuiet x s → (ending smalls (small_of x s) ≡ Some quiet) ⊎ IsBeyond x s

@@ -45,7 +45,7 @@ IsOwn ask terms at (Becomes b) = (t : NodeTip) × (small_at terms at ≡ tip_of 
 IsOwn ask terms at (Enters e ps) = small_at terms at ≡ enters e ps.items
 IsOwn ask terms at (Joins j f g) = (f < at) × (g < at) × (small_at terms at ≡ joined j (small_at terms f) (small_at terms g))
 
--- the term of that number comes silently, or nothing does
+-- a silent step to the term of that number, if there is one
 abbrev pub silent_of : Option ℕ → List Numbered
 silent_of None = []
 silent_of (Some to) = record { happening = Unseen; to = to } ∷ []

@@ -48,7 +48,7 @@ IsPart terms root parts p = (p.spot.at < length terms) × IsInside terms root pa
 abbrev pub AreParts : List Small → ℕ → List Part → Type 0
 AreParts terms root parts = (i : ℕ) (p : Part) → slice_get parts i ≡ Some p → IsPart terms root parts p
 
--- the second term comes of the first by an early step with this happening, if it is one that can be seen
+-- an early step leads from the first term to the second, where a call or an answer counts as hidden only if it is the happening h
 abbrev pub EarlyBy : List SmallDefinition → (ℕ → List Value → Out) → ℕ → Happening → Small → Small → Type 0
 EarlyBy defs ask n h f g = Early defs ask (λ k. k ≡ h) n f g
 

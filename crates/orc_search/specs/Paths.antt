@@ -131,10 +131,10 @@ PathIsJournal = (l : Listing) (sites : List Site) (cancels : Bool) (vs : List Si
     → Path (small_definitions l) (state_of (record { definitions = definitions l; sites = sites; cancels = cancels }) (start (source l))) vs t
     → IsJournalOf (record { definitions = definitions l; sites = sites; cancels = cancels }) (source l) vs t
 
--- a moment at a state that says that it has halted has done so
+-- if the state of a moment says that the run has halted, it has
 abbrev pub EndingIsHalted : Type 0
 EndingIsHalted = (x : Context) (smalls : List SmallDefinition) (s : Moment) → ending smalls (small_of x s) ≡ Some halted → Halted s.term
 
--- and one at a state that says that it is quiet is so
+-- if the state of a moment says that the run is quiet, it is
 abbrev pub EndingIsQuiet : Type 0
 EndingIsQuiet = (x : Context) (smalls : List SmallDefinition) (s : Moment) → AreOf smalls x → IsWell s → ending smalls (small_of x s) ≡ Some quiet → IsQuiet x s

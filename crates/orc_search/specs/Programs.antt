@@ -11,7 +11,7 @@ use Rattle.orc_search.specs.Seen.{seen}
 use Rattle.orc_search.specs.Runs.{IsWell}
 use Rattle.orc_search.specs.States.{AreOf}
 
--- where no call is out
+-- for terms without pending calls: every number is that of a call that is never answered
 abbrev pub none_out : ℕ → Out
 none_out k = record { site = 0; args = []; rest = Never }
 

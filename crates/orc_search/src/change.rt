@@ -18,7 +18,7 @@ use std::alloc::{AllocError, Global};
 /// What happens to all of a term.
 #[derive(Clone, Copy)]
 pub enum Change {
-    /// The parameter is put for each name of this number that is free.
+    /// Substitution: the parameter replaces each free variable of this number.
     Put(Param, u32),
     /// A value, or void, is put for the cell of this number. Cells with a greater number get the next lower one, since one opened pruning fewer is
     /// around them.

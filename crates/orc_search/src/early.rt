@@ -1,6 +1,6 @@
-//! Early steps of a numbered term: those that may go first, since they leave all its other steps as they are (`Early` in `specs/Early.antt`). Such
-//! are all steps but publications, and of these one that is all that a `>x>` or a cell waits for. Calls and answers are only where nobody sees them,
-//! which the caller says.
+//! Early steps of a numbered term: a search may take them before all others, since they leave the term's other steps as they are (`Early` in
+//! `specs/Early.antt`). A publication is early only if a `>x>` or a cell takes it and nothing else is left of the part. A call or an answer is early
+//! only if nobody sees it, which the caller decides. All other steps are early.
 //!
 //! In contracts `own` is what the definitions let a part do by itself, `IsEarly` says that a step is early, and `Extends` that all terms stay.
 

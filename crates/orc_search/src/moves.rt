@@ -65,7 +65,7 @@ enum Own {
     Joins(Joint, usize, usize),
 }
 
-// A step that nobody sees to `stop`, if it happens.
+// The silent step to `stop` if `happens`, and otherwise no step.
 fn silently(happens: bool) -> Option<Becoming>
     ensures { becoming_of result ≡ silently happens nothing }
 {
@@ -119,7 +119,7 @@ fn values_of(params: &[Param]) -> Option<Args>
     Some(args)
 }
 
-// What the next call of a site with these arguments is answered, by the table, where `made` were made before. The error is that 2^64 - 1 were.
+// What the table answers to the next call of a site with these arguments, after the calls `made`. The error says that 2^64 - 1 of them were made.
 fn answer(source: &Source, made: &[Made], site: u32, args: &Args) -> Result<Found, AllocError>
     ensures { IfOk result (λ found. found ≡ coming_of_made source.now.answers.now.sites made.now site args.now 0) }
 {

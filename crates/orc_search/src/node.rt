@@ -63,8 +63,8 @@ pub struct Summary {
     pub left: Option<u64>,
 }
 
-// Whether both lists are equal, as all `is_same_..` and `are_same_..` here. Only their true is promised: an equal node that isn't found only costs a
-// copy.
+// Whether two lists are equal; the other `is_same_..` functions here are alike. Contracts promise only that `true` is right: a node that isn't
+// recognized as equal only costs a copy.
 fn are_same_params(a: &[Param], b: &[Param]) -> bool
     ensures { result ≡ true → a.now ≡ b.now }
 {

@@ -3,7 +3,7 @@
 use std::alloc::{AllocError, Global};
 use std::mem::replace;
 
-/// In place of its number in a slot that is free.
+/// The number in a free slot.
 const FREE: u32 = u32::MAX;
 
 /// How many slots there are at first.

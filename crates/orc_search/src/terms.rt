@@ -205,7 +205,7 @@ impl Terms {
         self.summaries.try_reserve(1)?;
         let at = self.nodes.len();
         self.nodes.push(node)?;
-        // There is room for it: the prover is shown that, and nothing is asked when it runs.
+        // There is room for it, which the next line shows to the prover. At run time it tests nothing.
         let pushed = self.summaries.push(summary);
         prove!(pushed.is_ok());
         Ok(at)
