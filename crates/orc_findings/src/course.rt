@@ -16,7 +16,7 @@ use std::alloc::{AllocError, Global};
 pub(crate) enum Standing {
     /// It ended so.
     Ended(End),
-    /// It may go on: the journal is of a run that nobody ended.
+    /// The run hasn't ended: at the end of the journal it is neither halted nor quiet.
     Running,
 }
 

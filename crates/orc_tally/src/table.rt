@@ -18,8 +18,8 @@ pub struct CaseReport {
     pub tried: u64,
     /// How many runs were cut: by the limit, or by one of the engine's.
     pub cut: u64,
-    /// What is reported of each claim over the ways that were tried, be it one of the case or not. The last one may have no line in the test: then it
-    /// is `ends Halted or Quiet`.
+    /// What is reported of each claim of the test over the ways that were tried, those of other cases too. There may be one claim more than the test
+    /// has lines of claims: the last one is then `ends Halted or Quiet`.
     pub told: Vec<Told>,
 }
 
@@ -56,7 +56,7 @@ pub enum Searched {
 pub enum Counterexample {
     /// A run in some order.
     Trial(Shown),
-    /// A schedule that no order took which was tried.
+    /// A schedule that a search found; none of the orders that were tried took it.
     Schedule(Broken),
 }
 
@@ -337,7 +337,7 @@ fn is_end(claim: &Claim) -> bool
     claim.conditions.len() == 0 && is_of_end(&claim.plain)
 }
 
-// Whether one of these claims says so of the runs of the case at this place. Each has a line, in the same order.
+// Whether one of these claims says how the runs of the case at this place end. `lines` has the line of each claim, in the same order.
 fn has_end(case: usize, claims: &[Claim], lines: &[ClaimLine<'_>]) -> bool
     ensures { result ≡ has_end case claims.now lines.now }
 {
@@ -373,7 +373,7 @@ fn add_end(
     if has_end(case, claims, lines) {
         return Ok(());
     }
-    // The claim behind those that have a line.
+    // The place of `ends Halted or Quiet`, which comes after the claims that have a line.
     let claim = lines.len();
     match shown_in(Some(case), claim, cases) {
         Some(shown) => {
@@ -632,7 +632,7 @@ impl Report<'_, '_> {
         Ok(())
     }
 
-    // In what a claim fails: ways of cases, or a schedule.
+    // Where a claim fails: in how many ways of which cases, or in a schedule.
     fn write_share(
         &self,
         alloc: Global,

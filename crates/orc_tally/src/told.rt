@@ -23,7 +23,7 @@ pub struct Failure {
 pub struct Told {
     /// In how many ways it fails in some order: a way counts once.
     pub failing: u64,
-    /// The first failure: no way before it has one, nor its way in an order before.
+    /// The first failure: the claim fails in no earlier way, and in no earlier order of the same way.
     pub first: Option<Failure>,
     /// Whether it was put to the test in some trial. A claim that holds and wasn't may be mistyped.
     pub tested: bool,
@@ -58,7 +58,7 @@ impl Told {
                 first: self.first,
                 tested,
             },
-            // One way is 1, in however many orders it fails.
+            // The way counts as 1, in however many orders the claim fails in it.
             verdict => Told {
                 failing: 1,
                 first: first_of(
