@@ -21,7 +21,7 @@ abbrev pub up_to : Option ℕ → ℕ → Bool
 up_to None t = true
 up_to (Some most) t = leb t most
 
--- a happening counts that meets the event, up to the time
+-- whether a happening counts: it meets the event, and isn't later than `by`
 abbrev pub counts : Event → Option ℕ → Happening → Bool
 counts e by h = is_met e h && up_to by h.time
 
@@ -29,13 +29,13 @@ counts e by h = is_met e h && up_to by h.time
 abbrev pub number : Event → Option ℕ → List Happening → ℕ
 number e by hs = count_by (counts e by) hs
 
--- a call that is made and meets the event is one more that pends, and one less where such a call ends
+-- how many calls that meet the event pend: one more than n if such a call is made, one less if such a call ends
 abbrev pub out_by : Event → ℕ → Happening → Occurrence → ℕ
 out_by e n h (what.Call m args phase.Called) = cond (is_met e h) (suc n) n
 out_by e n h (what.Call m args p) = cond (is_met e (record { time = h.time; what = what.Call m args phase.Called })) (n - 1) n
 out_by e n h (what.Published v) = n
 
--- how many pend after one happening more
+-- how many calls that meet the event pend after h, where n did before it
 abbrev pub out_after : Event → ℕ → Happening → ℕ
 out_after e n h = out_by e n h h.what
 
@@ -44,7 +44,7 @@ abbrev pub out : Event → ℕ → List Happening → ℕ
 out e n [] = n
 out e n (h ∷ hs) = out e (out_after e n h) hs
 
--- one of these meets the event with these values, so long after this time at most
+-- one of these happenings meets the event with these values, at most `most` units after the time `since`
 abbrev pub any_meets : Event → List Bound → ℕ → Option ℕ → List Happening → Bool
 any_meets e given since most [] = false
 any_meets e given since most (h ∷ hs) = (is_some (meets e h given) && up_to most (h.time - since)) || any_meets e given since most hs
@@ -61,28 +61,28 @@ any_forbids e h f (x ∷ xs) = is_met_with e h (meets f x []) || any_forbids e h
 
 -- What a form of claim asks of a happening h, with those before it and those behind it.
 
--- it doesn't count, or with it there are not too many
+-- h doesn't count, or no more than `most` happenings count up to h
 abbrev pub is_counted : Event → Option ℕ → Option ℕ → List Happening → Happening → List Happening → Bool
 is_counted e most by before h behind = not (counts e by h) || up_to most (suc (number e by before))
 
--- with it not too many pend
+-- no more than `most` calls pend after h
 abbrev pub is_uncrowded : Event → ℕ → List Happening → Happening → List Happening → Bool
 is_uncrowded e most before h behind = leb (out_after e (out e 0 before) h) most
 
--- where an event is met, this is true of the values
+-- true if an event isn't met, otherwise what p says of the values with which it is met
 abbrev pub if_met : Option (List Bound) → (List Bound → Bool) → Bool
 if_met None p = true
 if_met (Some given) p = p given
 
--- where it meets e, one before it met f with its values
+-- if h meets e, one before it met f with the same values
 abbrev pub is_prepared : Event → Event → List Happening → Happening → List Happening → Bool
 is_prepared e f before h behind = if_met (meets e h []) (λ given. any_meets f given 0 None before)
 
--- none before it met f with values with which it meets e
+-- none before h met f with values with which h meets e
 abbrev pub is_allowed : Event → Event → List Happening → Happening → List Happening → Bool
 is_allowed e f before h behind = not (any_forbids e h f before)
 
--- where it meets e, one behind it meets f with its values, so much later at most
+-- if h meets e, one behind it meets f with the same values, at most `within` units later
 abbrev pub is_followed : Event → Event → Option ℕ → List Happening → Happening → List Happening → Bool
 is_followed e f within before h behind = if_met (meets e h []) (λ given. any_meets f given h.time within behind)
 

@@ -25,7 +25,7 @@ abbrev pub made_as : ℕ → List Made → Option Made
 made_as zero made = None
 made_as (suc k) made = slice_get made k
 
--- this became of a call that was made; of none, nothing
+-- one happening more: this became of the call; nothing changes where there is no such call
 abbrev pub becomes : Told → Option Made → Phase → Told
 becomes t None p = t
 becomes t (Some m) p = record t { happened = t.happened ++ record { time = t.time; what = what.Call m.site m.args p } ∷ [] }

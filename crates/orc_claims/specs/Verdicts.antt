@@ -49,7 +49,7 @@ abbrev pub is_none_at_all : Option ℕ → Bool
 is_none_at_all (Some zero) = true
 is_none_at_all _ = false
 
--- a happening meets what the claim is about; a claim that there is none, and one on the end or on all that is published, is always put to the test
+-- whether the run tests the claim: a happening meets what it is about, or it says that something never happens, or is on the end or publications
 abbrev pub tests_plain : Plain → List Happening → Bool
 tests_plain (Count e low most by) hs = is_none_at_all most || any_meets e [] 0 by hs
 tests_plain (AtOnce e most) hs = any_meets e [] 0 None hs

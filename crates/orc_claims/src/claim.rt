@@ -13,7 +13,7 @@ pub enum Slot {
     Variable(u32),
 }
 
-/// What is wanted to become of a call.
+/// What an event wants to become of a call.
 #[derive(Clone, Copy, PartialEq, Eq, Debug)]
 pub enum Wanted {
     /// It is made.
@@ -35,7 +35,7 @@ pub enum Simple {
     Published(Slot),
 }
 
-/// An event: one of these happens. The first of them that a happening meets gives the variables their values.
+/// An event: one of these alternatives happens. The first alternative that a happening meets gives the variables their values.
 #[derive(Drop)]
 pub struct Event {
     pub alternatives: Vec<Simple>,
@@ -57,11 +57,11 @@ pub enum Plain {
     Count(Event, u64, Option<u64>, Option<u64>),
     /// `at most 2 E at once`: the greatest number of calls that meet the event and are pending at one moment.
     AtOnce(Event, u64),
-    /// `E only after F`: before each happening that meets E one met F with its values.
+    /// `E only after F`: before each happening that meets E, one met F with the same values of the variables.
     OnlyAfter(Event, Event),
-    /// `no E after F`: behind each happening that meets F none meets E with its values.
+    /// `no E after F`: behind each happening that meets F, none meets E with the same values of the variables.
     NoneAfter(Event, Event),
-    /// `each E then F within 5`: behind each happening that meets E one meets F with its values, so much later at most.
+    /// `each E then F within 5`: behind each happening that meets E, one meets F with the same values of the variables, at most this much later.
     EachThen(Event, Event, Option<u64>),
     /// `ends Halted or Quiet by 30`: whether it may end as Halted, whether as Quiet, and by when.
     Ends(bool, bool, Option<u64>),

@@ -55,8 +55,8 @@ impl Event {
         Ok(number)
     }
 
-    /// The place, from 0, of the first happening that meets the event up to the time `by` and is one more than `most`; None if they are not too many.
-    /// The error is refused memory.
+    /// The place, from 0, of the happening that is one too many: of those up to the time `by` that meet the event, the one behind the first `most`.
+    /// None if there is no such happening. The error is refused memory.
     #[tactic(auto, using(crate::proofs::Placed::goes_on, crate::proofs::Placed::stops, crate::proofs::Placed::done))]
     pub(crate) fn first_too_many(
         &self,
@@ -80,7 +80,7 @@ impl Event {
         Ok(None)
     }
 
-    // How many calls that meet the event are pending after one happening more, of `out` before it. The error is refused memory.
+    // How many calls that meet the event are pending after a happening, if `out` of them were pending before it. The error is refused memory.
     fn out_after(
         &self,
         out: u64,

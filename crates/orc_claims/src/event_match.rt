@@ -38,7 +38,7 @@ fn value_in(given: &[Bound], variable: u32) -> Option<Value>
     }
 }
 
-// Whether these are the same variables with the same values, in the same order. Only true is promised to mean it.
+// Whether these are the same variables with the same values, in the same order. The contract promises nothing of the answer false.
 fn are_same(one: &[Bound], other: &[Bound]) -> bool
     ensures { result ≡ true → one.now ≡ other.now }
 {
@@ -118,7 +118,7 @@ fn fit_all(slots: &[Slot], values: &[Value], given: &mut Vec<Bound>) -> Result<b
 }
 
 impl Wanted {
-    // Whether this became of a call that was wanted; the value that was answered can stand in its slot.
+    // Whether what became of a call is what is wanted. The value of an answer must also fit its slot.
     fn fit(self, phase: Phase, given: &mut Vec<Bound>) -> Result<bool, AllocError>
         ensures { IfOk result (λ fits. fit_phase self phase given.old.items ≡ cond fits (Some given.new.items) None) }
     {
@@ -133,7 +133,7 @@ impl Wanted {
 }
 
 impl Simple {
-    // Whether what happened is this. If so, `given` has the values of the variables.
+    // Whether what happened is what this describes. If so, `given` has the values that its variables had before, and those that they got by this.
     fn meets(&self, what: &Occurrence, given: &mut Vec<Bound>) -> Result<bool, AllocError>
         ensures { IfOk result (λ met. meets_one self.now what.now given.old.items ≡ cond met (Some given.new.items) None) }
     {

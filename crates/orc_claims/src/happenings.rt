@@ -58,8 +58,8 @@ impl Happenings {
         self.time
     }
 
-    // Tells what became of the call of this number; nothing for a number of no call, which no accepted journal has. The error is refused memory, and
-    // then nothing changes.
+    // Adds a happening: what became of the call of this number. It adds nothing if there is no such call, which no accepted journal has. The error is
+    // refused memory, and then nothing changes.
     fn become_of(&mut self, call: u64, phase: Phase) -> Result<(), AllocError>
         ensures told { OnOk result (self.new ≡ becomes self.old (made_as call self.old.made) phase) }
         ensures refused { OnErr result (self.new ≡ self.old) }
@@ -77,7 +77,7 @@ impl Happenings {
         Ok(())
     }
 
-    // Tells that a call is made, which gets the next number. The error is refused memory, and then nothing changes.
+    // Adds the happening that a call is made. The call gets the next number. The error is refused memory, and then nothing changes.
     fn make(&mut self, site: u32, args: &Args) -> Result<(), AllocError>
         ensures told { OnOk result (self.new ≡ calls self.old site args.now) }
         ensures refused { OnErr result (self.new ≡ self.old) }
@@ -94,7 +94,7 @@ impl Happenings {
         Ok(())
     }
 
-    // Tells that a value is published. The error is refused memory, and then nothing changes.
+    // Adds the happening that a value is published. The error is refused memory, and then nothing changes.
     fn publish(&mut self, value: Value) -> Result<(), AllocError>
         ensures told { OnOk result (self.new ≡ publishes self.old value) }
         ensures refused { OnErr result (self.new ≡ self.old) }

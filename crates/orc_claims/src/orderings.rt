@@ -40,8 +40,8 @@ impl Event {
         }
     }
 
-    // Whether a happening doesn't meet the event, or one of those before it met the other with its values. `known` has values with which some
-    // happening before met the other; those that are found are added, so that the same values aren't looked for again. The error is refused memory.
+    // Whether a happening doesn't meet the event, or an earlier one met the other event with the same values of the variables. `known` lists values
+    // with which an earlier one met the other event; what is found is added, so that it isn't looked for again. The error is refused memory.
     fn is_prepared(
         &self,
         alloc: Global,
@@ -69,8 +69,8 @@ impl Event {
         Ok(true)
     }
 
-    /// The place, from 0, of the first happening that meets the event while none before it met the other with its values; None if there is none. The
-    /// error is refused memory.
+    /// The place, from 0, of the first happening that meets the event though none before it met the other event with the same values of the
+    /// variables; None if there is no such happening. The error is refused memory.
     #[tactic(auto, using(crate::proofs::Placed::goes_on, crate::proofs::Placed::stops, crate::proofs::Placed::done, crate::proofs::Known::still_met))]
     pub(crate) fn first_unprepared(
         &self,
@@ -90,7 +90,7 @@ impl Event {
         Ok(None)
     }
 
-    // Whether one of the happenings before met the other event with values with which this one meets the event. The error is refused memory.
+    // Whether one of the happenings before met the other event with values with which this happening meets this event. The error is refused memory.
     fn any_forbids(
         &self,
         alloc: Global,
@@ -137,8 +137,8 @@ impl Event {
         Ok(None)
     }
 
-    // Whether a happening doesn't meet the event, or one of those behind it meets the other with its values, `within` units later at most. The error
-    // is refused memory.
+    // Whether a happening doesn't meet the event, or a later one meets the other event with the same values of the variables, at most `within` units
+    // later. The error is refused memory.
     fn is_followed(
         &self,
         alloc: Global,
@@ -157,8 +157,8 @@ impl Event {
         other.any_meets(given.as_slice(), happening.time, within, behind, &mut found)
     }
 
-    /// The place, from 0, of the first happening that meets the event while none behind it meets the other with its values, `within` units later at
-    /// most; None if there is none. The error is refused memory.
+    /// The place, from 0, of the first happening that meets the event though none behind it meets the other event with the same values of the
+    /// variables, at most `within` units later; None if there is no such happening. The error is refused memory.
     #[tactic(auto, using(crate::proofs::Placed::goes_on, crate::proofs::Placed::stops, crate::proofs::Placed::done))]
     pub(crate) fn first_unfollowed(
         &self,

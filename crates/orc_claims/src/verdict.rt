@@ -25,11 +25,11 @@ pub enum Verdict {
 #[derive(Clone, Copy, PartialEq, Eq, Debug)]
 pub struct Judged {
     pub verdict: Verdict,
-    /// Whether it was put to the test: something happened that it is about. A claim that holds and wasn't may be mistyped.
+    /// Whether the run put the claim to the test: something happened that it is about. A claim that holds untested may have a typing mistake.
     pub tested: bool,
 }
 
-// Whether a run ended in an allowed way: as Halted or as Quiet, where that is. One that was cut did in neither.
+// Whether a run ended in an allowed way: `halted` allows Halted, `quiet` allows Quiet. A run that was cut is Running, which is never allowed.
 fn ends_so(halted: bool, quiet: bool, end: State) -> bool
     ensures { result ≡ ends_so halted quiet end }
 {
@@ -119,8 +119,8 @@ impl Plain {
         Ok(Verdict::FailsAtEnd)
     }
 
-    // Whether the run puts a claim to the test whose conditions are met: something happened that it is about. One that something never happens, on
-    // the end, or on all that is published always is. The error is refused memory.
+    // Whether the run puts a claim, whose conditions are met, to the test: something happened that the claim is about. Every run tests a claim that
+    // something never happens, one on the end, and one on all publications. The error is refused memory.
     fn is_tested(&self, alloc: Global, happenings: &[Happening]) -> Result<bool, AllocError>
         ensures { IfOk result (λ tested. tested ≡ tests_plain self.now happenings.now) }
     {

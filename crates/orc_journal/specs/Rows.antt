@@ -26,7 +26,7 @@ abbrev pub last_of : Kind → ℕ → ℕ
 last_of kinds.Open third = third + 1
 last_of _ third = 0
 
--- what a place gives that isn't there; no row of a journal names one
+-- the parts that are read at a place where there are none; no row of a journal names such a place
 abbrev pub no_parts : Parts
 no_parts = record { kind = kinds.End; first = 0; second = 0; third = 0; fourth = 0 }
 
@@ -67,7 +67,7 @@ given kinds.Bind a b v = Bind a b v
 given kinds.Publish a b v = Publish a v
 given _ a b v = Send a b v
 
--- the entry with these numbers, whose third is a place for a value or a call
+-- the entry of this kind with these numbers; if it has a value, or is a call, the third number is a place in the tables
 abbrev pub entry_by : Contents → Kind → ℕ → ℕ → ℕ → ℕ → Entry
 entry_by t kinds.Send a b c d = given kinds.Send a b (value_at t.values c)
 entry_by t kinds.Return a b c d = given kinds.Return a b (value_at t.values c)

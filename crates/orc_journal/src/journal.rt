@@ -70,7 +70,7 @@ impl Journal {
         self.rows.len()
     }
 
-    /// The number that one entry more would have, from 1.
+    /// The number that the next entry will have. Entries count from 1.
     pub fn next_number(&self) -> u64
         ensures { result ≡ length self.now.entries + 1 }
     {
@@ -88,7 +88,7 @@ impl Journal {
     }
 
     /// Adds an entry at the end. The error is refused memory, and then nothing changes.
-    // Inlined, so that a caller which knows the entry's kind makes one call, and no `Entry`. 0 fills the numbers that a kind hasn't.
+    // Inlined, so that a caller which knows the entry's kind makes one call and builds no `Entry`. A number that the kind doesn't have is 0.
     #[inline(always)]
     pub fn push(&mut self, entry: &Entry) -> Result<(), AllocError>
         ensures added { OnOk result (self.new ≡ record { version = self.old.version; entries = self.old.entries ++ entry.now ∷ [] }) }
@@ -235,8 +235,8 @@ impl Journal {
         pushed
     }
 
-    /// Puts the entry at a place, counted from 0, into `entry`: whether there is one. If not, `entry` stays as it was. It is overwritten and not
-    /// returned, since it has room for a call's arguments: to copy it takes longer than to write its line.
+    /// Writes the entry at a place, counted from 0, into `entry`, and returns whether there is one. If not, `entry` stays as it was. The entry itself
+    /// isn't returned, since an `Entry` has room for a call's arguments: to copy it takes longer than to write its line.
     pub fn read(&self, at: usize, entry: &mut Entry) -> bool
         ensures read { result ≡ true → slice_get self.now.entries at ≡ Some entry.new }
         ensures none { result ≡ false → slice_get self.now.entries at ≡ None }
@@ -253,7 +253,7 @@ impl Journal {
     pub fn get(&self, at: usize) -> Option<Entry>
         ensures { result ≡ slice_get self.now.entries at }
     {
-        // Any entry: `read` overwrites it.
+        // A placeholder, which `read` overwrites.
         let mut entry = Entry::Tick(0);
         if self.read(at, &mut entry) {
             Some(entry)

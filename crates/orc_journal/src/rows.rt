@@ -196,8 +196,8 @@ impl Tables {
         self.add_parts(numbered(kind, first, second, third, fourth))
     }
 
-    // The place of a value. It is put behind the others, unless the last one equals it: an answer is mostly sent on next, and then a call's argument.
-    // The error is refused memory.
+    // The place of a value. A value that equals the one stored last isn't stored again: most often a `send` follows a `return` with its value, and
+    // then a call has that value as its argument. The error is refused memory.
     #[inline(always)]
     fn place(&mut self, value: Value) -> Result<usize, AllocError>
         ensures kept { Keeps self.old self.new }
@@ -313,7 +313,7 @@ impl Tables {
         value_at(&self.values, at)
     }
 
-    // Overwrites `entry` with a call: mark `s`, call `k`, and what the call at this place has.
+    // Overwrites `entry` with a `call`: the token's mark `s`, the number `k`, and the site and arguments of place `at` among the calls.
     fn read_call(&self, s: u64, k: u64, at: u64, entry: &mut Entry)
         requires { HasCall self.now at }
         ensures { entry.new ≡ call_by self.now.values s k (slice_index_or self.now.calls at no_call) }

@@ -18,13 +18,13 @@ use std::alloc::AllocError;
 #[derive(Clone, Copy)]
 pub struct Shift {
     pub token: u32,
-    /// To its other marks.
+    /// Added to its marks from 2 on.
     pub marks: u32,
     pub calls: u32,
     pub cells: u32,
-    /// To the places of its values.
+    /// Added to the places of its values.
     pub values: u32,
-    /// To the places of its calls, of which each has a site and arguments.
+    /// Added to the places of its calls, where each call's site and arguments are.
     pub called: u32,
 }
 
@@ -40,8 +40,8 @@ impl Shift {
         self.marks.checked_add(own)
     }
 
-    // Makes a part's row that of the moved entry. None for a wide row, if a number doesn't fit 32 bits, or if an `open` has mark 1 among its new
-    // marks, which wouldn't follow one another then; some of the row's numbers may be moved by then.
+    // Rewrites a part's row for the same entry under the enclosing run's numbers. None for a wide row, if a number doesn't fit 32 bits, or if an
+    // `open` has mark 1 among its new marks, since these would no longer follow one another. At None some numbers may have been rewritten.
     #[inline(always)]
     fn move_row(self, row: &mut Row) -> Option<()>
         ensures moved { OnSome result (row.new ≡ row_by self row.old) }
@@ -102,7 +102,7 @@ impl Shift {
         Some(())
     }
 
-    // A call of the part's, whose arguments have places behind the values that were there. None if the place doesn't fit 32 bits.
+    // The site and arguments of a part's call, once the part's values stand behind the enclosing run's. None if a place doesn't fit 32 bits.
     #[inline(always)]
     fn called(self, called: Called) -> Option<Called>
         ensures { IfSome result (λ c. c ≡ called_by self called) }
@@ -116,7 +116,7 @@ impl Shift {
     }
 }
 
-// Makes a part's rows those of the moved entries. None if one of them can't be; then some may be moved.
+// Rewrites a part's rows, each by `move_row`. None if one of them can't be rewritten; the rows before it have been by then.
 fn move_rows(rows: &mut [Row], shift: Shift) -> Option<()>
     ensures len { length rows.new ≡ length rows.old }
     ensures moved { OnSome result (rows.new ≡ map (row_by shift) rows.old) }

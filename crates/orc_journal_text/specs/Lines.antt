@@ -26,7 +26,7 @@ pub record HasRead (names : List (List ℕ)) (text : List ℕ) (l : Left) (es : 
   pub number : l.read ≡ length es
   pub counts : l.counted ≡ count es
 
--- how many bytes may still be read, a bound that no text reaches
+-- 2^64 less the bytes that are used: each entry that is read makes it smaller, so a loop over the entries ends
 abbrev pub to_read : Left → ℕ
 to_read l = 2 ^ 64 - (l.coming.came - length l.coming.rest)
 
@@ -42,7 +42,7 @@ IsUnfilled came (Text Memory) = ⊤
 IsUnfilled came Unread = ⊤
 IsUnfilled came f = ⊥
 
--- of the text that has come the lines of more entries were read than a journal may have
+-- the text that has come begins with a header and the lines of more entries than a journal may have
 abbrev pub HasTooMany : List (List ℕ) → List ℕ → Version → Type 0
 HasTooMany names text v = (es : List Entry) × (rest : List ℕ) × (text ≡ header v ++ (entry_lines names es ++ rest)) × AreOf names v es × (MOST_ENTRIES < count es)
 

@@ -13,7 +13,7 @@ pub record Coming : Type 0 where
 abbrev pub comes_with : Coming → List ℕ → Option (List ℕ) → Coming
 comes_with c piece left = record { rest = c.rest ++ piece; left = left; came = c.came + length piece }
 
--- it is used, but for this rest
+-- of the bytes that have come, all but this rest are used
 abbrev pub with_rest : Coming → List ℕ → Coming
 with_rest c rest = record { rest = rest; left = c.left; came = c.came }
 

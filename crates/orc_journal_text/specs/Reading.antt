@@ -33,7 +33,7 @@ both first second bytes = do
   y ← second x.1
   Some ((x.0, y.0), y.1)
 
--- what f makes of what is read
+-- a reading, with f applied to what it gives
 abbrev pub made : {A B : Type 0} → (A → B) → (List ℕ → Option (A × List ℕ)) → List ℕ → Option (B × List ℕ)
 made f read bytes = option_map (λ x. (f x.0, x.1)) (read bytes)
 
@@ -77,7 +77,7 @@ value_at bytes = or_else (constant (Truth true) (after (codes "true") bytes))
     (or_else (constant Signal (after (codes "signal") bytes))
     (signed_from bytes (after (codes "-") bytes))))
 
--- fields: a space, and what the field holds
+-- each field of a line is a space and what the field holds: here a number, below other things
 unfoldable pub number_field : List ℕ → Option (ℕ × List ℕ)
 number_field bytes = after (codes " ") bytes >>= number_at
 
@@ -127,7 +127,7 @@ call_field names bytes = do
   vs ← arguments_at s.1
   Some ((s.0, vs.0), vs.1)
 
--- the kinds by their words: a line that begins with `return` may be of either kind
+-- all kinds but one, in the order in which their words are tried; a line that begins with `return` is read as Return, whether it halts or not
 abbrev pub all_kinds : List Kind
 all_kinds = kinds.Call ∷ kinds.Return ∷ kinds.Send ∷ kinds.Fork ∷ kinds.Publish ∷ kinds.Seq ∷ kinds.End ∷ kinds.Open ∷ kinds.Bind ∷ kinds.Def ∷ kinds.Void ∷ kinds.Other ∷ kinds.Lost ∷ kinds.Right ∷ kinds.Tick ∷ kinds.Cancel ∷ []
 

@@ -7,7 +7,7 @@ use orc_rules::answers::Answers;
 use orc_rules::entry::Entry;
 use orc_rules::value::Value;
 
-// Facts for the proof of `has_line`; nothing in them runs. `Fits` asks of each field that it fits 64 bits, which its type already says.
+// The three functions below do nothing when they run: `has_line` calls them to show the prover that each field fits 64 bits, as `Fits` asks.
 
 // A u64 is below 2^64: the prover knows that once a function looks at the number.
 fn number_fits(number: u64)
@@ -27,7 +27,7 @@ fn value_fits(value: Value)
     }
 }
 
-// So has that of each of these values.
+// Each of these values has that, too.
 fn values_fit(list: &[Value])
     ensures { AreValues list.now }
 {

@@ -187,7 +187,7 @@ impl<R: Read + Drop> Lines<R> {
         let Some(behind) = next_entry(self.version, self.pieces.rest(), answers, entry) else {
             return Ok(false);
         };
-        // The line is used by keeping what is behind it.
+        // Drops the line: only the bytes behind it are kept.
         let left = behind.len();
         let counted = count_with(self.counted, entry);
         if counted > MOST_ENTRIES {

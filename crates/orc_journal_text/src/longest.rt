@@ -26,8 +26,8 @@ fn are_names_within(answers: &Answers, most: usize) -> bool
     true
 }
 
-/// Whether there are surely as many bytes as the longest line of an entry of the table's sites has. If no line is at their front, no further bytes
-/// make one.
+/// Whether these are surely as many bytes as the longest line can have, with the sites that the table names. If they don't begin with a line, no
+/// further byte can make one.
 pub(crate) fn is_longest(bytes: &[u8], answers: &Answers) -> bool
     ensures some { result ≡ true → 0 < length bytes.now }
     ensures longest { result ≡ true → (e : EntryOf) → Fits answers.now.names e → length (line answers.now.names e) ≤ length bytes.now }

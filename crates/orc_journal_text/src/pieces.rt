@@ -59,7 +59,7 @@ fn read_some<R: Read>(source: &mut R, room: &mut [u8]) -> Option<usize>
     None
 }
 
-// Reads into `room` from place `at` on, as `read_some` does; what is before stays. Some place is free, so that 0 means the end.
+// Reads into `room` from place `at` on, as `read_some` does; the bytes before it stay. `at` is in the room, so that 0 means the end of the text.
 fn read_at<R: Read>(source: &mut R, room: &mut [u8], at: usize) -> Option<usize>
     requires { at < length room.old }
     ensures front { take at room.new ≡ take at room.old }

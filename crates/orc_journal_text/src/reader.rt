@@ -88,7 +88,7 @@ fn number_at(bytes: &[u8]) -> Option<(u64, &[u8])>
     }
 }
 
-// Minus this number. By way of the number one less, since -2^63 is an i64 and 2^63 isn't.
+// The negative of this number. It is computed from the number less one, since -2^63 is an i64 and 2^63 isn't.
 fn negated(number: u64) -> i64
     requires some { 0 < number }
     requires fits { number - 1 < 2 ^ 63 }
@@ -127,7 +127,7 @@ fn value_at(bytes: &[u8]) -> Option<(Value, &[u8])>
     None
 }
 
-// A field is a space and what it holds. This one holds a number.
+// A number field. Each field of a line is a space and what it holds.
 #[inline(always)]
 #[tactic(auto, unfolding(crate::specs::Reading::number_field))]
 fn number_field(bytes: &[u8]) -> Option<(u64, &[u8])>
@@ -272,7 +272,7 @@ fn values_at<'a>(bytes: &'a [u8], args: &mut Args) -> Option<&'a [u8]>
     None
 }
 
-// The word of this kind: the kind itself.
+// This kind, if its word is at the front.
 #[inline(always)]
 fn word_at(kind: Kind, bytes: &[u8]) -> Option<(Kind, &[u8])>
     ensures { Gives (λ x. (x.0, x.1.now)) result (kind_from (kind ∷ []) bytes.now) }
@@ -283,7 +283,7 @@ fn word_at(kind: Kind, bytes: &[u8]) -> Option<(Kind, &[u8])>
     }
 }
 
-// The word of one of two kinds: which of them it is.
+// The one of two kinds whose word is at the front.
 #[inline(always)]
 fn either_at(kind: Kind, other: Kind, bytes: &[u8]) -> Option<(Kind, &[u8])>
     ensures { Gives (λ x. (x.0, x.1.now)) result (kind_from (kind ∷ other ∷ []) bytes.now) }
@@ -294,7 +294,7 @@ fn either_at(kind: Kind, other: Kind, bytes: &[u8]) -> Option<(Kind, &[u8])>
     }
 }
 
-// The word with which a line begins: its kind. The first letter leaves two kinds at most. `return` gives Return, whether its line halts or not.
+// The kind whose word is at the front. The first letter leaves two kinds at most. The word `return` gives Return, even if ` halt` comes later.
 #[inline(always)]
 fn kind_at(bytes: &[u8]) -> Option<(Kind, &[u8])>
     ensures { Gives (λ x. (x.0, x.1.now)) result (kind_from all_kinds bytes.now) }

@@ -51,7 +51,7 @@ impl Tail {
         &self.room[self.start..]
     }
 
-    /// Puts a text before it. There must be room for both.
+    /// Puts a text before what the tail has. There must be room for both.
     #[inline(always)]
     pub(crate) fn put(&mut self, text: &[u8])
         requires { length text.now + length self.old ≤ ROOM }
@@ -63,7 +63,7 @@ impl Tail {
         self.room[self.start..end].copy_from_slice(text);
     }
 
-    // Puts a number before it: 20 digits at most.
+    // Puts a number's digits, 20 at most, before what the tail has.
     #[inline(always)]
     fn put_digits(&mut self, n: u64)
         requires { 20 + length self.old ≤ ROOM }

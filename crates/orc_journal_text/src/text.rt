@@ -73,7 +73,7 @@ pub fn write_header(out: &mut Vec<u8>, version: Version) -> Result<(), AllocErro
     }
 }
 
-// The fault of a text in memory, which can always be read: `Unread` never comes. J4 stands for it: it claims nothing of the text.
+// The fault of a text in memory. Such a text can always be read, so `Unread` never comes; it becomes J4, which claims nothing of the text.
 fn fault_of(fault: LinesFault) -> JournalFault
     ensures { result ≡ journal_fault_of fault }
 {
@@ -99,7 +99,7 @@ pub fn read_journal(alloc: Global, text: &[u8], answers: &Answers) -> Result<Jou
         Err(fault) => return Err(fault_of(fault)),
     };
     let mut journal = Journal::new(alloc, lines.version());
-    // Any entry: `next` overwrites it.
+    // A placeholder, which `next` overwrites.
     let mut entry = Entry::Tick(0);
     loop {
         match lines.next(answers, &mut entry) {

@@ -33,7 +33,7 @@ pub fn write_journal<W: Write>(
     if write_header(&mut piece, journal.version()).is_err() {
         return Err(WriteFault);
     }
-    // Any entry: `read` overwrites it.
+    // A placeholder, which `read` overwrites.
     let mut entry = Entry::Tick(0);
     for at in 0..journal.len() {
         // There is an entry at each place below the length.

@@ -11,18 +11,19 @@ use Rattle.orc_rules.specs.Nodes.{Listing, code, definitions}
 use Rattle.orc_subrun.specs.declared.numbers.Numbering.{Numbering}
 use Rattle.orc_subrun.specs.Moved.{moved, moved_marked, AreLocal, AreSilent, IsStill, AreStill}
 
--- m becomes m' where one x in it becomes y, which only sides of `|` and left sides of opened prunings enclose: the whole publishes all that x publishes
+-- m' is m with y in the place of one x that nothing encloses but sides of `|` and left sides of opened prunings: so the whole publishes all that x
+-- publishes
 pub data Branches (x y : Marked) : Marked → Marked → Type 0 where
   whole : Branches x y x y
   on_left : {f g f' : Marked} → Branches x y f f' → Branches x y (in_par f g) (in_par f' g)
   on_right : {f g g' : Marked} → Branches x y g g' → Branches x y (in_par f g) (in_par f g')
   on_main : {f g f' : Marked} {c : ℕ} → Branches x y f f' → Branches x y (in_opened f c g) (in_opened f' c g)
 
--- m becomes m' where x in it becomes y: anywhere if the entries publish nothing, else where the whole publishes all that x publishes
+-- m' is m with y in the place of x. Unless the entries publish nothing, x stands where the whole publishes all that x publishes
 abbrev pub Hangs : List Entry → Marked → Marked → Marked → Marked → Type 0
 Hangs es x y m m' = Branches x y m m' ⊎ (AreSilent es × (cs : List ℕ) × Replaces x y m cs m')
 
--- the part's numbers are those that come next at a place
+-- the part's numbers go on from those that have been given out at a place
 pub record Follows (n : Numbering) (p : Place) : Type 0 where
   pub mark : n.mark ≡ p.mark
   pub calls : n.calls ≡ length p.calls

@@ -10,11 +10,11 @@ use Rattle.orc_rules.specs.Term.{Term, stop, param, site, call, par, seq, prune,
 use Rattle.orc_rules.specs.Marked.{Marked, ended, token, in_call, in_par, in_seq, in_opened, in_other}
 use Rattle.orc_subrun.specs.declared.numbers.Numbering.{Numbering}
 
--- the mark 1 of the part's own run is the token's; the others are the next ones
+-- the mark in the enclosing run for one of the part: mark 1 becomes the token's, and those from 2 on the enclosing run's next ones
 abbrev pub mark_in : Numbering → ℕ → ℕ
 mark_in n own = cond (nat_eq own 1) n.token (n.mark + own - 2)
 
--- the part's cells are the next ones
+-- the cell in the enclosing run for one of the part: the part's cells are counted on behind those opened before
 abbrev pub cell_in : Numbering → ℕ → ℕ
 cell_in n own = n.cells + own
 
