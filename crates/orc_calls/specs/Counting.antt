@@ -34,7 +34,7 @@ key m args = m ∷ words_of args
 abbrev pub entry_of : Vec ℕ × ℕ → List ℕ × ℕ
 entry_of e = (e.0.items, e.1)
 
--- the next calls without arguments of the sites from m on, one site after another, as a map would have them; 0 is none
+-- the entries that a map would have for the next calls without arguments, of the sites from m on; a site with 0 has none
 abbrev pub bare_entries : ℕ → List ℕ → List (List ℕ × ℕ)
 bare_entries m [] = []
 bare_entries m (n ∷ ns) = cond (nat_eq n 0) (bare_entries (suc m) ns) ((m ∷ [], n) ∷ bare_entries (suc m) ns)

@@ -6,7 +6,7 @@ ghost use Rattle.orc_calls.specs.Counting.{IsSetAt};
 use std::alloc::{AllocError, Global};
 use std::marker::Model;
 
-/// By a site's number, which call without arguments the next one of the site is, from 1; 0 where there was none yet.
+/// For each site, by its number, which of its calls without arguments is the next one: 2 after the first such call. 0 stands for a site without one.
 #[derive(Drop)]
 pub(crate) struct BareCounts {
     next: Vec<u64>,
@@ -38,7 +38,7 @@ impl BareCounts {
         Ok(BareCounts { next })
     }
 
-    /// The next call of a site; 0 where there was none yet.
+    /// Which call of a site without arguments is the next one; 0 where there was none yet.
     #[inline(always)]
     pub(crate) fn get(&self, site: u32) -> u64
         ensures { result ≡ slice_index_or self.now site 0 }
@@ -49,7 +49,7 @@ impl BareCounts {
         }
     }
 
-    // There is a place for this site. Where memory is refused nothing changes.
+    // Makes the list long enough to have a place for this site. If memory is refused, nothing changes.
     fn reach(&mut self, site: usize) -> Result<(), AllocError>
         ensures same { (n : ℕ) → slice_index_or self.new n 0 ≡ slice_index_or self.old n 0 }
         ensures there { OnOk result (site < length self.new) }

@@ -18,7 +18,7 @@ use std::marker::Model;
 pub struct Counts {
     // The calls without arguments, for which nothing has to be hashed.
     bare: BareCounts,
-    // The others, by the key of a site with its arguments: which such call is the next one, from 1. Without a key it is the first.
+    // The calls with arguments, by the key of a site with its arguments: which such call is the next one, from 1; the first, if the key isn't there.
     next: HashMap<Vec<u64>, u64, BuildHasherDefault<FoldHasher>>,
     alloc: Global,
 }

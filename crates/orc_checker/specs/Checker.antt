@@ -36,7 +36,7 @@ numbers (suc n) = suc n ∷ numbers n
 abbrev pub AreCells : List ℕ → List Bound → Type 0
 AreCells opened cells = (n : ℕ) × (length cells ≡ suc n) × (opened ≡ numbers n) × AreOwn cells
 
--- the nodes, the scopes and the cells draw a marked term
+-- m is the marked term that the nodes, the scopes and the cells of s describe
 pub record Draws (code : ℕ → Term) (s : State) (m : Marked) : Type 0 where
   pub tree : Tree
   pub holds : Holds s.nodes (length s.scopes) 0 tree
@@ -46,7 +46,7 @@ pub record Draws (code : ℕ → Term) (s : State) (m : Marked) : Type 0 where
   pub marked : m ≡ spelled code (env_of s.cells s.scopes) tree
   pub flags : HasFlags code s.nodes s.halts s.flags tree
 
--- the state spells a place of a journal, over the program's terms
+-- s describes the place p of a journal; `code` gives the program's term at each of its nodes
 pub record Spells (x : Context) (code : ℕ → Term) (s : State) (p : Place) : Type 0 where
   pub drawn : Draws code s p.marked
   pub mark : p.mark ≡ length s.marks
@@ -54,7 +54,7 @@ pub record Spells (x : Context) (code : ℕ → Term) (s : State) (p : Place) : 
   pub cells : AreCells p.cells s.cells
   pub rest : Keeps x p.now p.calls p.to_cancel s.rest
 
--- what a run of the program goes by
+-- the context of a run: the program's definitions, the table's sites, and whether cancels are recorded
 abbrev pub context : Listing → Table → Bool → Context
 context l t cancels = record { definitions = definitions l; sites = t.sites; cancels = cancels }
 

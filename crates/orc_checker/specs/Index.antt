@@ -1,4 +1,4 @@
--- Where the tables say that the nodes with names are.
+-- The tables that say at which node each mark, call and cell is.
 use Rattle.std.specs.Prelude.{◌≡◌, ◌⊎◌, ℕ, zero, suc, List, Bool, false, Option, Some, None, cond, nat_eq, slice_get, option_map}
 use Rattle.orc_rules.specs.Numbered.{Name, mark, call, cell}
 use Rattle.orc_env.specs.declared.names.Bound.{Bound}
@@ -34,7 +34,7 @@ pub record Tables : Type 0 where
   pub calls : List Called
   pub cells : List Bound
 
--- the tables say that a name is at a place; the cell of a pruning that stands isn't bound
+-- the tables say that node i has the name; if the name is a cell, the cell is neither bound nor lost
 abbrev pub IsPut : Tables → Name → ℕ → Type 0
 IsPut t (mark s) i = slice_get t.marks s ≡ Some i
 IsPut t (call k) i = call_place t.calls k ≡ Some i
@@ -44,7 +44,7 @@ IsPut t (cell c) i = (slice_get t.prunings c ≡ Some i) × (slice_get t.cells c
 pub record AreIndexed (nodes : List Node) (t : Tables) : Type 0 where
   pub put : (i : ℕ) (n : Name) → name_of (kind_at nodes i) ≡ Some n → IsPut t n i
 
--- a node has a name afterwards only if it had it before, or if this is so of the name and the node
+-- a node has a name afterwards only if it had it before, or if New holds of the name and the node
 pub record Renames (New : Name → ℕ → Type 0) (nodes nodes' : List Node) : Type 0 where
   pub before : (i : ℕ) (n : Name) → name_of (kind_at nodes' i) ≡ Some n → (name_of (kind_at nodes i) ≡ Some n) ⊎ New n i
 

@@ -60,13 +60,13 @@ Offers x p s (next.Publish v) = Fits x p (entry.Publish s v)
 Offers x p s (next.Call m args) = (k : ℕ) → Fits x p (entry.Call s k m args)
 Offers x p s next.Wait = Waits x p s
 
--- what a value does that this one takes
+-- what a token on a value does, by what takes its publication
 abbrev pub taken : Taker → Value → Next
 taken Whole v = next.Publish v
 taken (Fed i) v = next.Send v
 taken (To c i) v = next.Bind c v
 
--- this is what a value at node i does, by what takes it
+-- this is what a token on a value at node i does
 abbrev pub IsPublished : List Node → ℕ → Value → Next → Type 0
 IsPublished nodes i v n = (w : Taker) × IsTaker nodes i w × (n ≡ taken w v)
 

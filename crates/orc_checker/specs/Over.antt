@@ -31,7 +31,7 @@ abbrev pub IsHalted : Place → Side → Type 0
 IsHalted p (Right c) = RightIs p c true
 IsHalted p (Left n) = LeftIs p n true
 
--- no pruning or otherwise whose side has halted
+-- true of all but a pruning or an otherwise whose side has halted
 abbrev pub RunsOn : Marked → Type 0
 RunsOn (in_opened f c g) = has_halted (erase g) ≡ false
 RunsOn (in_other n f g) = has_halted (erase f) ≡ false

@@ -39,7 +39,7 @@ impl Due {
         Ok(Due { nodes })
     }
 
-    /// Puts a node in, where there is a time. The error is refused memory; what was in it stays.
+    /// Notes a node with a time; does nothing if there is no time. The error is refused memory; the notes so far stay.
     #[inline(always)]
     fn put(&mut self, time: Option<u64>, node: u32) -> Result<(), AllocError>
         ensures noted { OnOk result (IfSome time (λ t. IsNoted self.new t node)) }
@@ -71,7 +71,7 @@ impl Due {
         }
     }
 
-    /// Drops the first.
+    /// Drops the note with the earliest time.
     pub(crate) fn drop_first(&mut self)
         ensures { Drops self.old self.new }
     {

@@ -6,8 +6,8 @@ use crate::rest::Called;
 use orc_rules::value::{Answer, Found, Value};
 use std::marker::Model;
 
-// A call in one enum: its node first, then when it was made, and the delay of its answer. With a variant for each kind of value no call takes more
-// than 32 bytes.
+// A call and what the table says of it, in one enum with a variant for each kind of answer, so that no call takes more than 32 bytes: first its node,
+// then when it was made, the delay of its answer, and the value.
 #[derive(Clone, Copy)]
 enum Flat {
     Never(u32, u64),

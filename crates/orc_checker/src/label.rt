@@ -16,7 +16,7 @@ use orc_term::arena::{Double, Kind};
 use orc_term::nodes::Nodes;
 use std::alloc::{AllocError, Global};
 
-/// Adds the cell of the node above, where the node at `place` is its right side. The error is refused memory.
+/// Adds the cell of the node above, if that is an opened pruning with the node at `place` as its right side. The error is refused memory.
 fn push_cell(cells: &mut Vec<u64>, above: Kind, place: u32) -> Result<(), AllocError>
     ensures { OnOk result (cells.new.items ≡ cells.old.items ++ cell_above above place) }
 {

@@ -20,7 +20,7 @@ pub(crate) fn node_by(nodes: &Nodes, places: &Vec<u32>, number: u64) -> Option<(
     }
 }
 
-/// What token `s` stands on, if the node is it.
+/// What token `s` stands on, if this is the token's node.
 pub(crate) fn tip_with(kind: Kind, s: u64) -> Option<Tip>
     ensures { result ≡ tip_with kind s }
 {
@@ -53,7 +53,7 @@ pub(crate) fn pruning_with(kind: Kind, c: u64) -> Option<(u32, u32)>
     }
 }
 
-/// Of otherwise `s`, if the node is it: the node of its left side, and its right side, which is a node of the program in a scope.
+/// If this is the node of otherwise `s`: the node of its left side, and its right side, which is a node of the program in a scope.
 pub(crate) fn otherwise_with(kind: Kind, s: u64) -> Option<(u32, u32, u32)>
     ensures { result ≡ otherwise_with kind s }
 {

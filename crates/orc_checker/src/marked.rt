@@ -36,7 +36,7 @@ pub struct Marked {
     pub(crate) nodes: Nodes,
     /// Scope n is the n-th record; scope 0 has no names.
     pub(crate) scopes: Vec<StoredScope>,
-    /// What each cell has become; an unbound one is itself. There is no cell 0.
+    /// What has become of each cell, by its number; a cell that is neither bound nor lost has its own number here. There is no cell 0.
     pub(crate) cells: Vec<Bound>,
     /// The node on which each mark was put, even if it is used up; there is no mark 0.
     pub(crate) marks: Vec<u32>,
@@ -145,7 +145,8 @@ fn value_of(
 }
 
 impl Marked {
-    /// Mark 1 on the whole of a program's term, at time 0; `cancels` says whether the cancels of a bind are recorded. The error is refused memory.
+    /// The beginning of a run, at time 0: token 1 is on the whole of the program's term. `cancels` says whether the journal records the cancels of a
+    /// bind. The error is refused memory.
     pub fn new(alloc: Global, program: &Program, cancels: bool) -> Result<Self, AllocError>
         ensures { IfOk result (λ m. Begins program.now cancels m (begin (source program.now))) }
     {

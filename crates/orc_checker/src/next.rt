@@ -22,22 +22,28 @@ use orc_rules::value::{Args, Value};
 use orc_term::arena::Tip;
 use orc_term::walk::{Taker, way_up};
 
-/// What a token can do next: the entry of that name, without the numbers that it gives out.
+/// What a token can do next: make the entry of that name, whose new numbers are left out here; or wait. docs/orc.md, *Journals*, lists the entries.
 #[derive(Drop)]
 pub enum Next {
+    /// It stands on a `stop`, and ends.
     End,
+    /// It stands on `f | g`, and gives way to a token on each side.
     Fork,
+    /// It stands on `f >x> g`, and gives way to a token on f.
     Seq,
+    /// It stands on `f ; g`, and gives way to a token on f.
     Other,
+    /// It stands on a call of a definition, and gives way to a token on the body.
     Def,
     /// It stands on void, or on a call of a site with a void argument.
     Void,
+    /// It stands on `f <x< g`, and gives way to a token on each side.
     Open,
-    /// It publishes to a `>x>`.
+    /// It publishes this value, and a `>x>` takes it.
     Send(Value),
-    /// It publishes to the right side of this cell.
+    /// It publishes this value from the right side of this cell's pruning, which binds the cell to it.
     Bind(u64, Value),
-    /// Nothing takes its publication.
+    /// It publishes this value, and nothing takes it: so the whole program publishes it.
     Publish(Value),
     /// It calls the site of this number.
     Call(u32, Args),

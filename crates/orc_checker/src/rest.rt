@@ -1,4 +1,4 @@
-//! What of a journal isn't in its term: the time, the calls made, and the cancels due.
+//! What the checker keeps of a journal besides the marked term: the time, the calls made, and the cancels due.
 
 ghost use Rattle.std.specs.Prelude.{◌≡◌, ◌∷◌, List, [], true, false, reverse, length, slice_get, ℕ, Some, IfOk, IfErr, IfSome, IfNone, OnOk, OnErr};
 ghost use Rattle.orc_calls.specs.Counting.{CountsCall, NextFound};

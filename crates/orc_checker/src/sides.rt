@@ -14,7 +14,7 @@ use orc_rules::value::{Answer, Found};
 use orc_term::arena::{Double, Kind, Single};
 use orc_term::candidates::ended_side;
 
-/// A side of an opened pruning or of an entered otherwise that is dropped once it has halted.
+/// A side: the part of an opened pruning or of an entered otherwise that an entry drops once it has halted.
 #[derive(Clone, Copy)]
 pub enum Side {
     /// The right side of the pruning of this cell: `lost` drops it.

@@ -1,8 +1,8 @@
 //! Which tokens of a marked term can move.
 //!
-//! A token is on a node of the program whose parts have no tokens of their own yet, though a rule can be used in one of them: `(1 | f()) >x> g` can
-//! move since `1` can. So a question about a node goes down to its parts. It uses no recursion: each node stands behind its parts, so a loop from the
-//! node down to 0 meets each part after what it is a part of. `active` flags the parts that the loop has to look at.
+//! A token may stand on a node of the program in whose parts a rule can be used, though they have no tokens of their own yet: `(1 | f()) >x> g` can
+//! move since `1` can. So a question about a node goes down to its parts. It doesn't recur: a part has a lower number than the node, so a loop from
+//! the node's number down to 0 comes to each node before its parts. `active` flags the parts that the loop has to look at.
 
 ghost use Rattle.std.specs.Prelude.{◌≡◌, ◌≤◌, ◌||◌, ℕ, true, false, List, length, is_some};
 ghost use Rattle.orc_rules.specs.Idle.{is_ready, has_void};

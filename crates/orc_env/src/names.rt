@@ -9,13 +9,13 @@ use crate::stored::StoredScope;
 use orc_rules::param::Operand;
 use orc_rules::value::Value;
 
-/// What a name means, and what has become of a cell.
+/// What a name stands for in a scope. The table of cells says with the same type what has become of each cell.
 #[derive(Clone, Copy)]
 pub enum Bound {
     Is(Value),
-    /// A cell, by its number from 1. In the table of cells a cell that isn't bound has itself.
+    /// A cell, by its number from 1. In the table of cells, a cell that is neither bound nor lost has its own number.
     Cell(u64),
-    /// It will never have a value.
+    /// Nothing: the cell was lost, so there will never be a value.
     Void,
 }
 

@@ -8,7 +8,7 @@ use std::alloc::AllocError;
 use std::marker::Model;
 use std::mem::size_of;
 
-// A `Bound` with its value in one enum and not in two, so that it takes 16 bytes.
+// A `Bound` with a variant for each kind of value, so that it takes 16 bytes.
 #[derive(Clone, Copy)]
 enum Put {
     Number(i64),
@@ -37,7 +37,7 @@ impl Model for StoredScope {
 
     ghost view = { λ s. record { name = s.name; bound = bound_in s.put; outer = s.outer } };
 
-    // `Copy` needs it: how a `Scope` is stored is a function of it.
+    // A type with a model may be `Copy` only with this: how a scope is stored is a function of the scope.
     ghost inverse = { λ s. record { name = s.name; outer = s.outer; put = put_for s.bound } };
 
     ghost inverse_ok = { λ s h. λ i. record { name = s.name; outer = s.outer; put = is_again s.put i } };
@@ -71,7 +71,7 @@ impl StoredScope {
         self.name
     }
 
-    /// What the name means: if it is a cell, perhaps one that has been bound since.
+    /// What was put for the name. A cell stays here when it is bound or lost: the table of cells says what has become of it.
     #[inline(always)]
     pub fn bound(&self) -> Bound
         ensures { result ≡ self.now.bound }

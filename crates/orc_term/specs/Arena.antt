@@ -14,7 +14,7 @@ use Rattle.orc_env.specs.Scopes.{Env, close, without}
 use Rattle.orc_rules.specs.Term.{Term, param}
 use Rattle.orc_rules.specs.Marked.{Marked, ended, token, in_call, in_par, in_seq, in_opened, in_other}
 
--- how the nodes hang together: each place with what stands there
+-- a marked term as a tree of numbered nodes: each constructor has the node's number, its kind and its parts
 pub data Tree : Type 0 where
   leaf : ℕ → Tip → Tree
   one : ℕ → Single → Tree → Tree
@@ -36,12 +36,12 @@ count u (leaf i k) = hits u i
 count u (one i k t) = hits u i + count u t
 count u (two i k t v) = hits u i + (count u t + count u v)
 
--- the scope that a node names is there, with n scopes
+-- if a node without parts names a scope, it is one of the first n
 abbrev pub TipIn : ℕ → Tip → Type 0
 TipIn n (Token s f e) = e ≤ n
 TipIn n _ = Unit {0}
 
--- the same of a node with one part
+-- if a node with one part names a scope, it is one of the first n
 abbrev pub SingleIn : ℕ → Single → Type 0
 SingleIn n (Feeds x g e) = e ≤ n
 SingleIn n (Entered m g e) = e ≤ n
@@ -51,7 +51,7 @@ SingleIn n Passed = Unit {0}
 abbrev pub at : List Node → ℕ → ℕ → Kind → Type 0
 at nodes p i k = slice_get nodes i ≡ Some (record { kind = k; parent = p })
 
--- the nodes hang together as the tree, below node p, with n scopes
+-- the numbered nodes are those of the tree, whose top node is below node p; there are n scopes
 abbrev pub Holds : List Node → ℕ → ℕ → Tree → Type 0
 Holds nodes n p (leaf i k) = at nodes p i (Leaf k) × TipIn n k
 Holds nodes n p (one i k t) = at nodes p i (One k (place t)) × SingleIn n k × Holds nodes n i t
@@ -62,7 +62,7 @@ abbrev pub living_kind : Kind → ℕ
 living_kind (Leaf Gone) = 0
 living_kind _ = 1
 
--- the same of a node that may not be there, 0 where it isn't
+-- 1 if there is a node and it isn't gone, else 0
 abbrev pub living : Option Node → ℕ
 living (Some n) = living_kind (Node.kind n)
 living None = 0
@@ -71,7 +71,7 @@ living None = 0
 abbrev pub StandOnce : List Node → Tree → Type 0
 StandOnce nodes t = (u : ℕ) → count u t ≡ living (slice_get nodes u)
 
--- what a tree spells, over the program's terms and the scopes' environments
+-- the marked term that a tree spells, given the program's term at each of its nodes and the environment of each scope
 module _ (code : ℕ → Term) (env : ℕ → Env) where
   abbrev pub of_tip : Tip → Marked
   of_tip Gone = ended
@@ -94,12 +94,12 @@ module _ (code : ℕ → Term) (env : ℕ → Env) where
   spelled (one i k t) = of_single k (spelled t)
   spelled (two i k t u) = of_double k (spelled t) (spelled u)
 
--- the tree's node is one that only means its part
+-- the tree's top node is one that means just its part, as node 0 is
 abbrev pub IsTopped : Tree → Type 0
 IsTopped (one i Passed t) = Unit {0}
 IsTopped _ = ⊥
 
--- a tree around a hole, the innermost node first
+-- one node of a tree with a hole in place of one of its parts
 pub data Frame : Type 0 where
   on_one : ℕ → Single → Frame
   on_left : ℕ → Double → Tree → Frame
@@ -111,7 +111,7 @@ fit (on_one i k) t = one i k t
 fit (on_left i k u) t = two i k t u
 fit (on_right i k u) t = two i k u t
 
--- the frames around a tree, from the innermost on
+-- a tree put into the hole of the innermost frame, that one into the next, and so on
 abbrev pub plug : List Frame → Tree → Tree
 plug [] t = t
 plug (f ∷ k) t = plug k (fit f t)

@@ -27,7 +27,7 @@ parts_of (Leaf k) = []
 parts_of (One s i) = i ∷ []
 parts_of (Two d i j) = i ∷ j ∷ []
 
--- the list has each place of the part at this place, as often as it stands there
+-- the list has exactly the nodes of the part whose top node is `root`, each as often as the part has it
 abbrev pub AreNodesOf : List Node → ℕ → List ℕ → Type 0
 AreNodesOf nodes root found = (n p : ℕ) (t : Tree) → Holds nodes n p t → place t ≡ root → (w : ℕ → ℕ) → weight w found ≡ weigh w t
 

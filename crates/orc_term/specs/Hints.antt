@@ -1,5 +1,5 @@
--- The nodes as their own type keeps them: with a hint for each, by which a walk upward leaves out what lets everything through, and a list of
--- those with tokens.
+-- The indexes that are kept with the nodes: a hint for each, by which a walk upward leaves out the nodes that let publications through, and a list
+-- of the nodes with tokens.
 use Rattle.std.specs.Prelude.{◌≡◌, ◌<◌, ◌⊎◌, ◌+◌, ℕ, zero, suc, List, Bool, true, false, nat_eq, length, Some, slice_get, slice_set, slice_index_or}
 use Rattle.orc_term.specs.declared.arena.Node.{Node}
 use Rattle.orc_term.specs.declared.arena.Kind.{Kind}
@@ -16,7 +16,7 @@ pub record Stock : Type 0 where
   pub items : List Node
   pub room : ℕ
 
--- whether a node lets through what its part i publishes, and stays as it is; a node that is gone has no parts, and none is kept from it
+-- whether what part i of a node publishes goes through the node and leaves it as it is; true of a node that is gone, which has no parts
 abbrev pub lets : Kind → ℕ → Bool
 lets (Leaf Gone) i = true
 lets (Leaf k) i = false
@@ -25,16 +25,16 @@ lets (One s p) i = false
 lets (Two Both p q) i = true
 lets (Two (Side c) p q) i = nat_eq p i
 
--- so many nodes above node i is node j, and each on the way lets through what comes from below it
+-- node j is m steps above node i, and each node on the way, with j, lets through what comes from below
 abbrev pub Skips : List Node → ℕ → ℕ → ℕ → Type 0
 Skips nodes zero i j = i ≡ j
 Skips nodes (suc m) i j = (x : Node) × (y : Node) × (slice_get nodes i ≡ Some x) × (slice_get nodes x.parent ≡ Some y) × (lets y.kind i ≡ true) × Skips nodes m x.parent j
 
--- node j is node i, or above it with only such nodes on the way
+-- node j is node i, or a node above it to which what node i publishes goes through unchanged
 abbrev pub IsAbove : List Node → ℕ → ℕ → Type 0
 IsAbove nodes i j = (m : ℕ) × Skips nodes m i j
 
--- each node has a hint, which is above it
+-- each node has a hint: itself, or a node above it to which its publications go through unchanged
 pub record AreHints (nodes : List Node) (hints : List ℕ) : Type 0 where
   pub len : length hints ≡ length nodes
   pub each : (i j : ℕ) → slice_get hints i ≡ Some j → IsAbove nodes i j
@@ -49,15 +49,15 @@ restless _ = false
 abbrev pub IsListed : ℕ → List ℕ → Type 0
 IsListed i list = (k : ℕ) × (k < length list) × (slice_index_or list k 0 ≡ i)
 
--- each such node is in the list
+-- each node with a token is in the list
 abbrev pub AreListed : List Node → List ℕ → Type 0
 AreListed nodes list = (i : ℕ) → restless (kind_at nodes i) ≡ true → IsListed i list
 
--- a new node's hint is itself, or that of the node above, which lets through what it publishes
+-- a hint for a new node: the node itself, or the hint of the node above, if that lets through what the new node publishes
 abbrev pub IsHintBelow : List Node → List ℕ → ℕ → ℕ → ℕ → Type 0
 IsHintBelow nodes hints i parent hint = (hint ≡ i) ⊎ ((y : Node) × (slice_get nodes parent ≡ Some y) × (lets y.kind i ≡ true) × (hint ≡ slice_index_or hints parent parent))
 
--- a node becomes another: it stays below the same one, and goes on to let through what it let through
+-- node x may become y: y has the same parent, and lets through all that x let through
 pub record Follows (x y : Node) : Type 0 where
   pub parent : y.parent ≡ x.parent
   pub passes : (i : ℕ) → lets x.kind i ≡ true → lets y.kind i ≡ true
@@ -70,11 +70,11 @@ CanWake nodes i y = (x : Node) → slice_get nodes i ≡ Some x → Follows x y
 abbrev pub CanBecome : List Node → ℕ → Node → Type 0
 CanBecome nodes i y = (x : Node) → slice_get nodes i ≡ Some x → Follows x y × (restless y.kind ≡ true → restless x.kind ≡ true)
 
--- node j is a `|` that stands below the same node as node i, before which it was made
+-- node j, newer than node i, is a `|` with the same parent and with node i as its left part; its right part is node j + 1
 abbrev pub IsBeside : List Node → ℕ → ℕ → Type 0
 IsBeside nodes i j = (i < j) × (slice_get nodes j ≡ Some (record { kind = Two Both i (j + 1); parent = Node.parent (slice_index_or nodes i nowhere) }))
 
--- node i goes below node j, which comes in its place
+-- the nodes after node j took the place of node i, which is now below node j
 abbrev pub lifted : List Node → ℕ → ℕ → List Node
 lifted nodes i j =
     let x = slice_index_or nodes i nowhere in

@@ -35,11 +35,11 @@ AreRanked nodes ranks most = AreRankedBut nodes ranks most []
 abbrev pub AreKept : List Node → Ranks → Type 0
 AreKept nodes r = r.are_kept ≡ true → AreRanked nodes r.numbers.items r.most
 
--- no node of the list stands below node n, of which it is to be a part, and n isn't its own part
+-- node i, which is to be a part of the new node n, isn't n, and doesn't name n as its parent yet
 abbrev pub StandsApart : List Node → ℕ → ℕ → Type 0
 StandsApart nodes n i = (i ≡ n → ⊥) × ((x : Node) → slice_get nodes i ≡ Some x → x.parent ≡ n → ⊥)
 
--- where node i stands below node j it has a greater rank
+-- if node i names node j as its parent, it has a greater rank
 abbrev pub IsRankedBelow : List Node → List ℕ → ℕ → ℕ → Type 0
 IsRankedBelow nodes ranks j i = (x : Node) → slice_get nodes i ≡ Some x → x.parent ≡ j → rank ranks j < rank ranks i
 

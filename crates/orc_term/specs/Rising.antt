@@ -12,7 +12,7 @@ use Rattle.orc_term.specs.declared.walk.Taker.{Taker}
 use Rattle.orc_term.specs.declared.walk.Taker.TheVariants.{Whole, Fed, Bound}
 use Rattle.orc_term.specs.Arena.{Tree, one, two, place, Holds, StandOnce, Frame, on_one, on_left, on_right, plug}
 
--- what takes a publication from the hole
+-- what takes a publication of the part in the hole
 abbrev pub takes : List Frame → Taker
 takes [] = Whole
 takes (on_one i (Feeds x g e) ∷ k) = Fed i
@@ -22,13 +22,13 @@ takes (on_left i d t ∷ k) = takes k
 takes (on_right i Both t ∷ k) = takes k
 takes (on_right i (Side c) t ∷ k) = Bound c i
 
--- a publication of this value that this one takes
+-- the effect of a publication of this value that this taker takes
 abbrev pub act_of : Taker → Value → Act
 act_of Whole v = publishes v
 act_of (Fed i) v = silent
 act_of (Bound c i) v = binds c v
 
--- what is around the part that it comes to: what takes it, and all above
+-- the frames that a publication doesn't pass: the one that takes it, and all above it
 abbrev pub rest : List Frame → List Frame
 rest [] = []
 rest (on_one i (Feeds x g e) ∷ k) = on_one i (Feeds x g e) ∷ k
@@ -38,7 +38,7 @@ rest (on_left i d t ∷ k) = rest k
 rest (on_right i Both t ∷ k) = rest k
 rest (on_right i (Side c) t ∷ k) = on_right i (Side c) t ∷ k
 
--- the part that it comes to, before it: below what takes it
+-- the part directly below what takes the publication, as it is before the publication
 abbrev pub under : List Frame → Tree → Tree
 under [] t = t
 under (on_one i (Feeds x g e) ∷ k) t = t
@@ -48,7 +48,7 @@ under (on_left i d u ∷ k) t = under k (two i d t u)
 under (on_right i Both u ∷ k) t = under k (two i Both u t)
 under (on_right i (Side c) u ∷ k) t = t
 
--- the part that it comes to, after it: each otherwise between has lost its right side
+-- that part as it is after the publication: each otherwise on the way has lost its right side
 abbrev pub risen : List Frame → Tree → Tree
 risen [] t = t
 risen (on_one i (Feeds x g e) ∷ k) t = t
@@ -71,13 +71,13 @@ pass_node x = record { kind = pass_kind (Node.kind x); parent = Node.parent x }
 abbrev pub nowhere : Node
 nowhere = record { kind = Leaf Gone; parent = 0 }
 
--- whether the node above takes what node i publishes
+-- node j, of this kind, as the taker of what node i below it publishes; none if it lets the publication through
 abbrev pub up : Kind → ℕ → ℕ → Option Taker
 up (One (Feeds x g e) p) i j = Some (Fed j)
 up (Two (Side c) l r) i j = cond (nat_eq l i) None (Some (Bound c j))
 up _ i j = None
 
--- the nodes hang together around a part at this place
+-- the numbered nodes are those of a tree whose part at node i is t, with the frames k around it
 pub record Stands (nodes : List Node) (n i : ℕ) (k : List Frame) (t : Tree) : Type 0 where
   pub holds : Holds nodes n 0 (plug k t)
   pub once : StandOnce nodes (plug k t)
@@ -94,10 +94,10 @@ TakesThere nodes (Bound c i) = (left right : ℕ) × (Node.kind (slice_index_or 
 TakesThere nodes (Fed i) = (x g e part : ℕ) × (Node.kind (slice_index_or nodes i nowhere) ≡ One (Feeds x g e) part)
 TakesThere nodes Whole = Unit {0}
 
--- a publication has gone up from the place
+-- the nodes after a publication of node i: they are those of the tree in which each otherwise that it passed has lost its right side
 abbrev pub Rises : List Node → ℕ → List Node → Type 0
 Rises nodes i nodes' = (n : ℕ) (k : List Frame) (t : Tree) → Stands nodes n i k t → Holds nodes' n 0 (plug (rest k) (risen k t)) × StandOnce nodes' (plug (rest k) (risen k t))
 
--- each node stays, or is an otherwise that is left
+-- each node stays as it is, or is what a publication makes of it when it passes
 abbrev pub Passes : List Node → List Node → Type 0
 Passes nodes nodes' = (u : ℕ) → (slice_get nodes' u ≡ slice_get nodes u) ⊎ (slice_get nodes' u ≡ option_map pass_node (slice_get nodes u))

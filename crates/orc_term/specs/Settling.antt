@@ -51,7 +51,7 @@ module _ (halts : List Bool) where
   FlaggedAround flags (on_left i d u ∷ o) b = (flag flags i ≡ (b && flag flags (place u))) × Flagged flags u × FlaggedAround flags o (flag flags i)
   FlaggedAround flags (on_right i d u ∷ o) b = (flag flags i ≡ (flag flags (place u) && b)) × Flagged flags u × FlaggedAround flags o (flag flags i)
 
--- a part at place i that hadn't halted gets the flag b, and what is around it follows
+-- if the part at node i, which hadn't halted, gets the flag b, the new flags are right for the whole tree around it
 abbrev pub Settles : List Node → List Bool → ℕ → Bool → List Bool → Type 0
 Settles nodes flags i b flags' = (halts : List Bool) (n : ℕ) (k : List Frame) (t : Tree) → Stands nodes n i k t → FlaggedAround halts flags k false → Flagged halts (slice_set flags i b) t → flag flags i ≡ false → Flagged halts flags' (plug k t)
 
@@ -63,11 +63,11 @@ parent_at nodes i = Node.parent (slice_index_or nodes i nowhere)
 abbrev pub kind_at : List Node → ℕ → Kind
 kind_at nodes i = Node.kind (slice_index_or nodes i nowhere)
 
--- p is the node above, which has no flag yet and halts with its parts
+-- p is the node above node i; its flag isn't set yet, and it has halted by the flags of its parts
 abbrev pub HaltsNext : List Node → List Bool → ℕ → ℕ → Type 0
 HaltsNext nodes flags i p = (p ≡ parent_at nodes i) × (flag flags p ≡ false) × (inner_flag flags (kind_at nodes p) ≡ true)
 
--- the node above has a flag already, or doesn't halt
+-- the flag of the node above node i is set already, or that node hasn't halted by the flags of its parts
 abbrev pub EndsAt : List Node → List Bool → ℕ → Type 0
 EndsAt nodes flags i = (flag flags (parent_at nodes i) ≡ true) ⊎ (inner_flag flags (kind_at nodes (parent_at nodes i)) ≡ false)
 

@@ -13,7 +13,7 @@ pub record Places : Type 0 where
   pub all : Bool
   pub listed : List ℕ
 
--- the place is one of them
+-- node p is a candidate
 abbrev pub MayBe : Places → ℕ → Type 0
 MayBe c p = (c.all ≡ true) ⊎ IsIn p c.listed
 
@@ -49,6 +49,6 @@ pub record AreKnown (nodes : List Node) (flags : List Bool) (c : Places) : Type 
 pub record NoNewSides (n : ℕ) (nodes nodes' : List Node) : Type 0 where
   pub before : (p : ℕ) → p < n → is_side_at nodes' p ≡ true → is_side_at nodes p ≡ true
 
--- a side whose flag comes is among the places
+-- a side whose flag has been set since is among the candidates
 pub record AreFlagged (nodes : List Node) (flags flags' : List Bool) (c : Places) : Type 0 where
   pub before : (p : ℕ) → is_set flags' p ≡ true → is_side_at nodes p ≡ true → (is_set flags p ≡ true) ⊎ MayBe c p

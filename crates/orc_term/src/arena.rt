@@ -7,29 +7,30 @@ ghost use Rattle.std.specs.Prelude.{◌≡◌};
 
 use orc_rules::value::Value;
 
-/// A node without parts: nothing, a `stop`, a token, or a call that pends.
+/// A node without parts. Each but `Gone` is a part of the term: a `stop` without a token, a token, or a pending call.
 #[derive(Clone, Copy)]
 pub enum Tip {
-    /// The node was dropped with a side, and is no part of the term any more.
+    /// No part of the term: the node was dropped with a side. Its number stays its own.
     Gone,
-    /// A `stop` on which no token is.
+    /// A `stop` without a token: a token has ended here, or a call has halted.
     Ended,
-    /// A token, by its mark, on a node of the program in a scope.
+    /// A token: its mark, the node of the program on which it stands, and the scope that says what the names mean there.
     Token(u64, u32, u32),
-    /// A token, by its mark, on a value that a call gave.
+    /// A token that bears the answer of a call: its mark, and the value.
     Bears(u64, Value),
-    /// The call of this number pends here; no token is on it.
+    /// A pending call, by its number. No token is on it until it returns.
     Waits(u64),
 }
 
 /// A node with one part. Right sides that haven't started are no parts: they are nodes of the program in a scope.
 #[derive(Clone, Copy)]
 pub enum Single {
-    /// `f >x> g` with f as its part: the name x, and g with its scope.
+    /// `f >x> g`, whose part f feeds its publications to copies of g: the name x, the node of the program for g, and g's scope.
     Feeds(u32, u32, u32),
-    /// `f ; g` with f as its part: the otherwise's number, which is the mark of the token that entered it, and g with its scope.
+    /// `f ; g`, whose part f was entered and hasn't published: the mark of the token that entered it, which is the otherwise's number, the node of
+    /// the program for g, and g's scope.
     Entered(u32, u32, u32),
-    /// The node means the same as its part: an otherwise that has published, a pruning whose cell is bound or lost, or node 0.
+    /// A node that means just its part: an otherwise whose left side has published, a pruning whose cell is bound or lost, or node 0.
     Passed,
 }
 
@@ -38,15 +39,18 @@ pub enum Single {
 pub enum Double {
     /// `f | g`
     Both,
-    /// `f <c< g`, an opened pruning with cell c.
+    /// `f <x< g`, opened, so that both are its parts: the cell that stands for x in f. Its right part g is a *side*.
     Side(u64),
 }
 
 /// A node's kind with the numbers of its parts, the left one first.
 #[derive(Clone, Copy)]
 pub enum Kind {
+    /// No parts.
     Leaf(Tip),
+    /// One part, by its number.
     One(Single, u32),
+    /// Two parts, by their numbers.
     Two(Double, u32, u32),
 }
 

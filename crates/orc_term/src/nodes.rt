@@ -17,8 +17,8 @@ use std::marker::Model;
 #[derive(Drop)]
 pub struct Nodes {
     items: Vec<Slot>,
-    /// Each node's *hint*: itself, or a node above it such that this one and all between let through what is published below them, and stay as they
-    /// are. A walk upward goes from hint to hint, so that its cost doesn't grow with the number of `|` on its way.
+    /// Each node's *hint*: the node itself, or a node above it such that this one and all between let through what is published below them, and don't
+    /// change by it. A walk upward goes from hint to hint, so that its cost doesn't grow with the number of `|` on its way.
     hints: Vec<u32>,
     /// The numbers of all *restless* nodes, those with a token, which can move now or later, and of some without. The question whether a token can
     /// move looks at these alone, so that its cost doesn't grow with what has ended or waits for a call.
@@ -67,8 +67,8 @@ fn set_item(items: &mut Vec<Slot>, i: usize, node: Node)
     }
 }
 
-// Whether a node lets through what its part publishes, and stays as it is. One that is gone has no parts; true of it means that any node can become
-// gone and the hints that go past it stay right.
+// Whether what a node's part publishes goes through the node and leaves it as it is. A node that is gone has no parts; the answer true for it keeps
+// the hints right that lead past a node when it becomes gone.
 fn lets_through(kind: Kind, part: u32) -> bool
     ensures { result ≡ lets kind part }
 {
@@ -106,8 +106,8 @@ fn keep_restless(items: &Vec<Slot>, list: &mut Vec<u32>)
     }
 }
 
-// Room for two more in a list of those with tokens. A full list forgets the others first, and grows where half of it or more stays. So it has room for
-// four times the tokens at one time at most, and not for all nodes that there were; and between two looks at the whole list half of it is filled.
+// Makes room for two more in the list of nodes with tokens. A full list first drops the nodes without one, and grows only if half of its room or more
+// stays taken. So it has room for at most four times the tokens that there are at one time, and half of it is filled between two looks at all of it.
 fn reserve_listed(items: &Vec<Slot>, list: &mut Vec<u32>) -> Result<(), AllocError>
     ensures listed { AreListed items.now.items list.old.items → AreListed items.now.items list.new.items }
     ensures room { IfOk result (λ _. vec_len list.new + 2 ≤ vec_capacity list.new) }
@@ -271,8 +271,8 @@ impl Nodes {
         hint_at(&self.hints, i)
     }
 
-    /// Replaces a node's hint by the hint of the node above it, if that one lets through what comes from below. Walks that do so at each hint on
-    /// their way halve the way for later ones, as in a union-find. Callers see no change.
+    /// Moves a node's hint further up, to the hint of the node above it, if that node lets through what comes from below. Walks that call it at each
+    /// hint on their way halve the way for later ones, as in a union-find. Callers see no change.
     pub(crate) fn shorten(&mut self, i: u32)
         ensures { self.new ≡ self.old }
     {
@@ -290,7 +290,7 @@ impl Nodes {
         &self.restless
     }
 
-    /// At most so many nodes are one below another under node 0. None while ranks aren't kept, after memory or a rank was refused.
+    /// A bound on how many nodes are one below another under node 0. None if memory or a rank was refused, until the ranks are renewed.
     pub fn levels_below(&self) -> Option<usize>
         ensures { IfSome result (AreLevelsAtMost self.now.items) }
     {
@@ -340,11 +340,11 @@ impl Nodes {
         self.ranks.add(&self.items, node);
         push_within(&mut self.items, Slot::new(node));
         push_within(&mut self.hints, hint);
-        // With a token or not; those without are taken out later.
+        // Whether the node has a token isn't asked here: nodes without one are taken out later.
         push_within(&mut self.restless, number);
     }
 
-    /// Replaces a node by one below the same parent that lets through what it let through, and has a token only if it had one.
+    /// Replaces a node. The new one has the same parent, lets through all that the old one let through, and has a token only if that had one.
     #[inline(always)]
     pub fn write_node(&mut self, i: usize, node: Node)
         requires { CanBecome self.old.items i node }
@@ -355,8 +355,8 @@ impl Nodes {
         set_item(&mut self.items, i, node);
     }
 
-    /// Replaces a node by one below the same parent that lets through what it let through, and may have a token. It uses up room for one node, since
-    /// the list of restless nodes gets one more.
+    /// Replaces a node as `write_node` does, but the new one may have a token though the old one had none. It uses up room for one node, since the
+    /// list of restless nodes gets one more.
     #[inline(always)]
     pub fn wake(&mut self, i: u32, node: Node)
         requires room { 1 ≤ self.old.room }

@@ -17,7 +17,7 @@ use std::alloc::{AllocError, Global};
 pub struct Ranks {
     /// Each node's rank, by the node's number.
     pub numbers: Vec<u32>,
-    /// No rank is greater.
+    /// At least as great as every rank.
     pub most: u32,
     /// False once memory or a rank of 32 bits was refused. Then nothing is known of the ranks until `renew`.
     pub are_kept: bool,
@@ -66,8 +66,8 @@ fn rank_below(numbers: &Vec<u32>, node: Node) -> Option<u32>
     rank_at(numbers, node.parent as usize).checked_add(step_below(node.kind))
 }
 
-// Whether a part of node `number`, which is added next, doesn't name it as its parent yet. Only then is it free to have any rank: it gets a greater
-// one when it is added or lifted.
+// Whether `part`, a part of node `number`, which is added next, doesn't name that node as its parent yet. Only then may the new node get any rank:
+// the part gets a greater one when it is added or lifted.
 #[inline(always)]
 fn stands_apart(items: &Vec<Slot>, number: usize, part: usize) -> bool
     ensures { result ≡ true → StandsApart items.now.items number part }
@@ -81,7 +81,7 @@ fn stands_apart(items: &Vec<Slot>, number: usize, part: usize) -> bool
     }
 }
 
-// Whether that holds of all parts of the node.
+// Whether `stands_apart` holds of all parts of node `number`.
 #[inline(always)]
 fn stand_apart(items: &Vec<Slot>, number: usize, kind: Kind) -> bool
     ensures { result ≡ true → (i : ℕ) → IsPart kind i → StandsApart items.now.items number i }
@@ -109,7 +109,7 @@ fn is_ranked_below(items: &Vec<Slot>, numbers: &Vec<u32>, above: usize, part: us
     }
 }
 
-// Whether that holds of all parts of the node.
+// Whether `is_ranked_below` holds of all parts of node `above`.
 #[inline(always)]
 fn are_ranked_below(items: &Vec<Slot>, numbers: &Vec<u32>, above: usize, kind: Kind) -> bool
     ensures { result ≡ true → (i : ℕ) → IsPart kind i → IsRankedBelow items.now.items numbers.now.items above i }
@@ -144,7 +144,7 @@ struct Gap {
     step: u32,
 }
 
-// By how much a part's rank is to be greater than that of the node above it: 1 but for the node of the gap.
+// By how much a part's rank is to exceed the rank of the node above it: by 1, but by the gap's `step` for the node of the gap.
 #[inline(always)]
 fn step_to(part: usize, gap: Gap) -> u32
     ensures { 0 < result }
@@ -201,7 +201,7 @@ impl Ranks {
         ensures { AreKept items.now.items self.old → AreKept (items.now.items ++ node ∷ []) self.new }
     {
         let were_kept = self.are_kept;
-        // Until the node has its rank, so that each early return leaves it so.
+        // Set to true once the node has its rank, so that each early return leaves it false.
         self.are_kept = false;
         if !were_kept || !stand_apart(items, items.len(), node.kind) {
             return;
@@ -218,7 +218,8 @@ impl Ranks {
         }
     }
 
-    /// Node `i` is about to become `node`, below the same parent. No rank changes; ranks aren't kept if a part has none that is greater.
+    /// Node `i` is about to become `node`, below the same parent. No rank changes. If a part of `node` doesn't have a greater rank than node `i`, the
+    /// ranks aren't kept any longer.
     #[inline(always)]
     pub fn write(&mut self, items: &Vec<Slot>, i: usize, node: Node)
         ensures { ((x : NodeOf) → slice_get items.now.items i ≡ Some x → Follows x node) → AreKept items.now.items self.old → AreKept (slice_set items.now.items i node) self.new }
@@ -247,8 +248,8 @@ impl Ranks {
         }
     }
 
-    // The nodes below `both` get greater ranks where they need them. Above node `i` as many stay free as `|` are there: the room doubles each time,
-    // so that many sends to one `>x>` seldom need this.
+    // Gives greater ranks to the nodes below `both` that need them. Above node `i` it leaves as many ranks free as there are `|` above it: the room
+    // doubles each time, so many sends to one `>x>` seldom come here.
     fn make_room(&mut self, items: &Vec<Slot>, i: usize, both: usize)
         ensures { AreRankedBut items.now.items self.old.numbers.items self.old.most (both ∷ []) → AreKept items.now.items self.new }
     {
@@ -320,13 +321,13 @@ impl Ranks {
         }
     }
 
-    // Does so for all nodes of the list, the last one first, and for those that are put on it. False if memory or a rank is refused.
+    // Calls `settle_parts` for all nodes of the list `late`, the last one first, and for those that it adds. False if memory or a rank is refused.
     fn settle(&mut self, items: &Vec<Slot>, late: Vec<usize>, gap: Gap) -> bool
         ensures { result ≡ true → AreRankedBut items.now.items self.old.numbers.items self.old.most late.items → AreRankedBut items.now.items self.new.numbers.items self.new.most [] }
     {
         let mut late = late;
-        // A node comes at most once from the list and once because its rank grew, which is after those above it grew. A vector has less than 2^63
-        // items, so that twice their number is no overflow.
+        // A node has at most two turns: one as the list has it, and one when its rank has grown, which is after those above it grew. A vector has
+        // fewer than 2^63 items, so twice their number doesn't overflow.
         for _step in 0..=2 * items.len() {
             let Some(above) = late.pop() else {
                 return true;

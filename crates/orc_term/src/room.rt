@@ -32,7 +32,7 @@ pub fn reserve(
     Ok(())
 }
 
-/// Whether a number has the 32 bits in which a node keeps it. The error is a greater one, which no journal within the limits reaches.
+/// Checks that a number fits the 32 bits in which a node keeps it. The error stands for a greater number, which no journal within the limits reaches.
 pub fn fits(number: usize) -> Result<(), AllocError>
     ensures { IfOk result (λ _. number < 2 ^ 32) }
 {

@@ -31,7 +31,7 @@ pub fn passed(node: Node) -> Node
     }
 }
 
-/// Whether the node above, of kind `above` at `parent`, takes what the node at `place` publishes.
+/// The node at `parent`, of kind `above`, as the taker of what the node at `place` below it publishes. None if it lets the publication through.
 pub(crate) fn taker_here(above: Kind, place: usize, parent: u32) -> Option<Taker>
     ensures { result ≡ up above place parent }
 {

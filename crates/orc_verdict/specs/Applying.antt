@@ -14,7 +14,8 @@ use Rattle.orc_checker.specs.Labelling.{IsLabel}
 use Rattle.orc_verdict.specs.Deepening.{deepening}
 use Rattle.orc_verdict.specs.Heights.{AreHeights, AreAtMost}
 
--- the entry has this label, and is taken at each place that s spells and that a journal of the program and its sites leads to; s' spells the place after it
+-- at each place that s spells and a journal of the program and its sites leads to, the entry has this label and is taken, and s' spells the place
+-- after it
 abbrev pub ShowsTaken : Listing → Table → Entry → State → State → Option Label → Type 0
 ShowsTaken l t e s s' label = (cancels : Bool) (p : Place) → IsReached (context l t cancels) (source l) p → Spells (context l t cancels) (code l) s p → IsLabel p e label × ((q : Place) × IsTaken (context l t cancels) p e q × Spells (context l t cancels) (code l) s' q)
 

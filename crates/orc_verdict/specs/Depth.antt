@@ -22,7 +22,7 @@ own_levels levels (One (Entered n g e) i) = height levels g
 own_levels levels (One Passed i) = 0
 own_levels levels (Two d i j) = 0
 
--- how many levels lower than the node that term and the parts stand
+-- by how many levels that term, and the parts, are deeper than the node
 abbrev pub step_down : Kind → ℕ
 step_down (Leaf k) = 0
 step_down (One Passed i) = 0
@@ -33,6 +33,6 @@ step_down (Two d i j) = 1
 abbrev pub with_levels : ℕ → List ℕ → List (ℕ × ℕ)
 with_levels above is = map (λ i. (i, above)) is
 
--- what a state spells has no more than d levels, where no term of the program has more than `most`, and a checked term may have as many
+-- if no term of the program has more than `most` levels, no place that s spells has more than d; and a checked term may have d levels
 abbrev pub IsAllowed : State → ℕ → ℕ → Type 0
 IsAllowed s most d = ((x : Context) (l : Listing) (p : Place) (heights : List ℕ) → AreHeights (code l) heights → AreAtMost heights most → Spells x (code l) s p → depth (erase p.marked) ≤ d) × (d ≤ MOST_LEVELS)

@@ -22,7 +22,7 @@ use Rattle.orc_checker.specs.Checker.{State, Spells, context, IsReached}
 use Rattle.orc_verdict.specs.declared.reasons.Asked.{Asked}
 use Rattle.orc_verdict.specs.declared.reasons.Asked.TheVariants.{Token, Call, Cell, TokenAndCell, Otherwise, Nothing}
 
--- it is so at each place that the state spells and that a journal of the program and its sites leads to
+-- `so` holds at each place that s spells and that a journal of the program and its sites leads to
 abbrev pub AtEach : Listing → Table → State → (Context → Place → Type 0) → Type 0
 AtEach l t s so = (cancels : Bool) (p : Place) → IsReached (context l t cancels) (source l) p → Spells (context l t cancels) (code l) s p → so (context l t cancels) p
 
@@ -42,7 +42,7 @@ IsWhy l t e s r = RefusedFor l t e s r ⊎ ((r ≡ reason.Memory) × MeetsAll l 
 abbrev pub Tests : Listing → Table → Entry → State → RuleFault → Bool → Type 0
 Tests l t e s r b = AtEach l t s (λ x p. Decides b (Meets x p e r))
 
--- the truth value says whether it is so at each numbered place that the state spells, whatever the program
+-- b says whether `so` holds, at each numbered place that s spells, whatever the program
 abbrev pub Says : State → Bool → (Context → Place → Type 0) → Type 0
 Says s b so = (x : Context) (l : Listing) (p : Place) → IsNumbered p → Spells x (code l) s p → Decides b (so x p)
 

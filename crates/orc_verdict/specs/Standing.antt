@@ -29,7 +29,8 @@ are_these [] (w ∷ args) = false
 are_these (p ∷ ps) [] = false
 are_these (p ∷ ps) (w ∷ args) = is_this p w && are_these ps args
 
--- what a term is: of a site call whether an argument is void, and whether the arguments are these; of a definition's call whether there is such a definition
+-- what a token stands on whose term this is. Of a call of a site it says whether an argument is void, and whether the arguments are these; of a call
+-- of a definition whether there is such a definition
 abbrev pub summary : List Definition → List Value → Term → Standing
 summary defs args stop = Stop
 summary defs args (param p) = On p

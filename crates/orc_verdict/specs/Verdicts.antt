@@ -19,7 +19,8 @@ abbrev pub records_cancels : Version → Bool
 records_cancels One = false
 records_cancels Two = true
 
--- the entry is taken at each place that s spells, that a journal of the program and its sites leads to and that has at most so many levels; s' spells the place after it, with its levels
+-- at each place that s spells, that a journal of the program and its sites leads to and that has at most `levels` levels, the entry is taken; s'
+-- spells the place after it, which has at most `levels'` levels
 abbrev pub Takes : Listing → Table → Entry → State → ℕ → State → ℕ → Type 0
 Takes l t e s levels s' levels' = (cancels : Bool) (p : Place) → IsReached (context l t cancels) (source l) p → Spells (context l t cancels) (code l) s p → depth (erase p.marked) ≤ levels
     → (q : Place) × IsTaken (context l t cancels) p e q × Spells (context l t cancels) (code l) s' q × (depth (erase q.marked) ≤ levels')
@@ -29,7 +30,7 @@ abbrev pub IsStopped : Context → Place → Entry → RuleFault → Type 0
 IsStopped x p e Memory = (r : RuleFault) → Meets x p e r
 IsStopped x p e why = IsRefused x p e why
 
--- so it is at each place that s spells and that a journal of the program and its sites leads to
+-- `IsStopped` holds at each place that s spells and that a journal of the program and its sites leads to
 abbrev pub Stops : Listing → Table → Entry → State → RuleFault → Type 0
 Stops l t e s why = (cancels : Bool) (p : Place) → IsReached (context l t cancels) (source l) p → Spells (context l t cancels) (code l) s p → IsStopped (context l t cancels) p e why
 

@@ -30,7 +30,7 @@ fn kind_of(nodes: &[Slot], i: usize) -> Kind
     }
 }
 
-// The levels of the program's term that a node holds, its own or that of its right side; 1 for a leaf without one, 0 for any other node without one.
+// The levels of the program's term that a node holds: a token's, or that of a right side that hasn't started. Without one, 1 for a leaf, otherwise 0.
 fn own_levels(heights: &Heights, kind: Kind) -> usize
     ensures { result ≡ own_levels heights.now kind }
 {
@@ -44,7 +44,7 @@ fn own_levels(heights: &Heights, kind: Kind) -> usize
     }
 }
 
-// How many levels deeper than the node its parts are, and the term that it holds: none where the node means just its part.
+// By how many levels a node's parts, and the program's term that it holds, are deeper than the node: 0 if the node means just its part.
 fn step_down(kind: Kind) -> usize
     ensures { result ≡ step_down kind }
 {

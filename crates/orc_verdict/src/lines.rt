@@ -22,7 +22,7 @@ use orc_rules::program::Program;
 use std::alloc::Global;
 use std::io::Read;
 
-/// Why a text has no verdict. A fault of the text goes before one of its journal, wherever they are.
+/// Why a text has no verdict. If the text has a fault and its journal has one, the text's is given, even if it comes later.
 #[derive(Clone, Copy, PartialEq, Eq, Debug)]
 pub enum TextFault {
     /// It is not the text of a journal.
@@ -51,7 +51,7 @@ pub struct Checked {
     pub verdict: Verdict,
 }
 
-// The fault of a text whose journal is refused for `fault`. It reads the lines that are left, since a fault of theirs goes before.
+// The fault of a text whose journal is refused for `fault`. It reads the lines that are left: a fault in them is given instead.
 fn refused<R: Read + Drop>(lines: &mut Lines<R>, answers: &Answers, fault: CheckFault) -> TextFault
     ensures { (l : Listing) (text : List ℕ) (es : List EntryOf) → HasRead answers.now.names text lines.old es → ((more : List EntryOf) → IsRefusedAt l answers.now lines.old.version (es ++ more) fault) → (piece : List ℕ) × MayCome lines.old.coming.left piece × IsTextFault l answers.now (text ++ piece) result }
 {

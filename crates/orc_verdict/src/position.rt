@@ -16,20 +16,26 @@ use orc_rules::value::Value;
 use orc_term::arena::{Kind, Tip};
 use orc_term::walk::Taker;
 
-/// What a token stands on, as far as an entry asks.
+/// What a token stands on, as far as an entry's condition depends on it.
 #[derive(Clone, Copy)]
 pub(crate) enum Standing {
     /// There is no token.
     Nothing,
+    /// `stop`.
     Stop,
+    /// A value, a cell that has none yet, void, or a name.
     On(Param),
     /// A call of this site: whether an argument is void, and whether the arguments are the values that the entry names.
     Site(u32, bool, bool),
     /// A call of a definition: whether there is such a definition.
     Call(bool),
+    /// `f | g`.
     Par,
+    /// `f >x> g`.
     Seq,
+    /// `f <x< g`.
     Prune,
+    /// `f ; g`.
     Other,
 }
 

@@ -21,7 +21,7 @@ use orc_rules::program::Program;
 use orc_rules::value::Answer;
 use orc_term::arena::Kind;
 
-/// What an entry names, which has to be in the term.
+/// What an entry has to find in the term, by its number: a token by its mark, a pending call, a cell, or an otherwise by its mark.
 #[derive(Clone, Copy)]
 enum Asked {
     Token(u64),
@@ -32,7 +32,7 @@ enum Asked {
     Nothing,
 }
 
-/// What an entry names, which has to be in the term.
+/// What an entry has to find in the term.
 fn asks_for(entry: &Entry) -> Asked
     ensures { result ≡ asked_by entry.now }
 {
@@ -169,7 +169,7 @@ fn fits(marked: &Marked, program: &Program, answers: &Answers, entry: &Entry) ->
     }
 }
 
-/// Whether `b` is the number after `a`. It doesn't add, since a journal has any numbers of 64 bits.
+/// Whether `b` is the number after `a`. It subtracts, since `a + 1` may overflow: the numbers of a journal are any of 64 bits.
 fn is_after(b: u64, a: u64) -> bool
     ensures { result ≡ nat_eq b (suc a) }
 {
