@@ -14,7 +14,7 @@ const SHOWN: usize = 18;
 /// The longest left side that is shown whole, in columns.
 const LONGEST: usize = 19;
 
-/// What the labels are made of.
+/// What is needed to write labels.
 #[derive(Clone, Copy)]
 pub(crate) struct Texts<'s, 'a> {
     pub alloc: Global,
@@ -49,7 +49,7 @@ impl Texts<'_, '_> {
         page.finish()
     }
 
-    // Writes the source of a left side with one blank for all between two words, cut where it is long.
+    // Writes the source of an otherwise's left side, with one blank for each run of blanks and line ends. If it is long, its end becomes `..`.
     fn left_side(&self, page: &mut Page, place: Span) {
         let mut line = Page::new(self.alloc);
         let text = self

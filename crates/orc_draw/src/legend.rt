@@ -20,16 +20,21 @@ pub(crate) struct Legend {
 /// What a sign stands for.
 #[derive(Clone, Copy)]
 enum Sign {
+    /// The bar of a call that was answered with a value.
     Answered,
+    /// The bar of a call that halted.
     Halted,
+    /// The bar of a call that was cancelled.
     Cancelled,
-    /// A call of Rwait.
+    /// The lower bar of a call of `Rwait`, however it ended.
     Pause,
-    /// A call that is still pending.
+    /// The bar of a call that is still pending when the journal ends.
     Out,
+    /// The end of a pruning whose cell was bound to a value.
     Bound,
+    /// The end of a pruning whose right side halted without a value.
     Lost,
-    /// The right side of an otherwise begins.
+    /// The end of an otherwise's left side, where the right side begins.
     Resumed,
 }
 
@@ -77,7 +82,7 @@ const SIGNS: [(Sign, &str, &str); 8] = [
     ),
 ];
 
-// Whether a sign occurs in a picture: whether a row has a span of this kind that ended so. The first arm that fits says.
+// Whether a sign occurs in a picture: whether a row's span is of the sign's kind and ended in the sign's way. The first arm that fits decides.
 fn occurs(picture: &Picture, sign: Sign) -> bool {
     for row in &picture.rows.rows {
         if let Some(span) = picture.span(row) {

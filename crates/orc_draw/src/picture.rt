@@ -138,8 +138,8 @@ impl<'a> Picture<'a> {
         self.story.spans.get(row.span).copied()
     }
 
-    /// Of the row of a pruning that was bound to a call's answer: the place of that call's row, its span, and when the pruning was bound. None for any
-    /// other row, and where the call has none.
+    /// The call that won the pruning of a row, that is, whose answer bound it: the place of the call's row, the call's span, and when the pruning was
+    /// bound. None for any other row, and if the call has no row.
     pub(crate) fn winner(&self, row: &Row) -> Option<(usize, Span<'a>, Moment)> {
         match self.span(row)?.end? {
             (End::Bound(_, Some(call)), at) => {
@@ -152,7 +152,7 @@ impl<'a> Picture<'a> {
     }
 }
 
-// The most values that the summary shows, and the most of one time.
+// How many values the summary shows at most. Of one time all values are shown if they are no more than this, otherwise only how many they are.
 const FEW: u64 = 6;
 
 // The summary: how many entries there are, the state of the run and its time, and the first values that were published.

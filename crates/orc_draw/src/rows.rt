@@ -24,8 +24,8 @@ pub(crate) struct Rows {
     of_span: Vec<Option<usize>>,
 }
 
-// The spans as a tree: for each the first one that stands directly in it, and the next one that stands in the same one; and the first one that stands
-// in none.
+// The spans as a tree: for each span the first of those directly in it (`inner`), and its next sibling (`next`); and the first span that is in no
+// other (`first`).
 #[derive(Drop)]
 struct Tree {
     inner: Vec<Option<usize>>,
@@ -40,8 +40,8 @@ struct Ahead {
     depth: u64,
 }
 
-// For each span whether it is worth a row, by itself or since something in it is: each call, and each pruning that got its value, or ended, later
-// than it was opened. The error is refused memory.
+// For each span whether it is worth a row. A call is, and a pruning that ended at a later time than that at which it was opened; so is each span in
+// which another one is worth a row. The error is refused memory.
 fn kept_spans(alloc: Global, spans: &[Span]) -> Result<Vec<bool>, AllocError> {
     let mut kept = Vec::new(alloc);
     for span in spans {
@@ -103,7 +103,7 @@ impl Tree {
         Ok(tree)
     }
 
-    // Makes a span the first one in another, or of all, and gives the one that was the first.
+    // Puts a span before all others in its outer span, or before all that are in no other. Gives the one that was the first there.
     fn put_first(&mut self, outer: Option<usize>, span: usize) -> Option<usize> {
         match outer {
             None => self.first.replace(span),

@@ -1,7 +1,7 @@
 //! The width of a picture, shared among its times.
 //!
-//! A time is a band as wide as its slots; between two bands is a gap. Gaps are in proportion to the time between, where the longest is at most
-//! 25 times the shortest; otherwise to the number of binary digits of the time between.
+//! A time is a band as wide as its slots; between two bands is a gap. If the longest time between is at most 25 times the shortest, gaps are in
+//! proportion to the time between; otherwise to the number of its binary digits and one more.
 
 ghost use Rattle.std.specs.Prelude.{◌≤◌};
 

@@ -35,7 +35,7 @@ pub(crate) struct Called {
     pub is_pause: bool,
 }
 
-/// What a span is of.
+/// Whether a span is a call, a pruning or an otherwise, and what a picture shows of it.
 #[derive(Clone, Copy)]
 pub(crate) enum Kind<'a> {
     Call(Called),
@@ -54,7 +54,7 @@ pub(crate) enum End {
     Halted,
     /// A call is dropped with the side in which it stands.
     Cancelled,
-    /// A pruning gets its value; with the span of the call whose answer that is, if it is one that is shown.
+    /// A pruning's cell is bound to this value; with the span of the call whose answer the value is, if that call is shown.
     Bound(Value, Option<usize>),
     /// A pruning's right side has halted without a value.
     Lost,
@@ -75,8 +75,8 @@ pub(crate) struct Span<'a> {
     pub end: Option<(End, Moment)>,
     /// The place of the innermost span that it stands in: of a pruning, in its right side, or of an otherwise. None where it stands in none.
     pub outer: Option<usize>,
-    // The spans directly in this one are a list from the newest back: its head, and for a span in it the one before. What was dropped is taken out of
-    // it.
+    // The spans directly in this one are a linked list from the newest back: `newest` is the list's head, and `before` links this span to the one
+    // before it in the list of its outer span. Dropped spans are taken out of their list.
     newest: Option<usize>,
     before: Option<usize>,
 }
@@ -302,8 +302,8 @@ impl<'a> Story<'a> {
         self.trail.token(mark).map_or(0, |token| token.step)
     }
 
-    // What a token publishes goes outwards to the nearest `>x>` or pruning, or out of the whole. Each otherwise whose left side it leaves on the way
-    // ends.
+    // A publication of a token goes outwards to the nearest `>x>` or right side of a pruning, or out of the whole. On the way it ends each otherwise
+    // whose left side it leaves.
     fn leave(&mut self, mark: u64, at: Moment) {
         let mut number = self.step_of(mark);
         for _step in 0..self.trail.steps().len() {
@@ -327,8 +327,8 @@ impl<'a> Story<'a> {
         }
     }
 
-    // The innermost span in which a step stands. An otherwise whose left side has published is none: what is left of that side stands in the span
-    // round it.
+    // The innermost span in which a step stands. An otherwise whose left side has published doesn't count: what is left of that side stands in the
+    // span that encloses the otherwise.
     fn span_round(&self, from: usize) -> Option<usize> {
         let mut number = from;
         for _step in 0..self.trail.steps().len() {
@@ -379,7 +379,7 @@ impl<'a> Story<'a> {
         span
     }
 
-    // Makes another span the newest in a span, and gives the one that was.
+    // Makes `newest` the head of a span's list, and gives the head that was.
     fn set_newest(&mut self, span: usize, newest: Option<usize>) -> Option<usize> {
         match self.spans.get_mut(span) {
             Some(outer) => {

@@ -36,7 +36,7 @@ struct Size {
     row: u64,
     bar: u64,
     letter: u64,
-    // How far each level stands in, in parts.
+    // By how much a row is indented for each row that it stands in, in parts.
     indent: u64,
 }
 
@@ -53,7 +53,7 @@ struct Sheet<'a> {
     // The width of the whole sheet.
     width: u64,
     scale: Scale,
-    // For each row: if its call's answer won, where the pruning that it won was bound; otherwise 0.
+    // For each row: if it is a call whose answer won a pruning, how far across that pruning was bound, in parts; otherwise 0.
     wins: Vec<u64>,
 }
 
@@ -170,7 +170,7 @@ impl<'a> Sheet<'a> {
         Ok(sheet)
     }
 
-    // Notes of each row whose call won a pruning that has a row where that was bound.
+    // Fills `wins`: for each pruning with a row that a call with a row has won.
     fn find_wins(&mut self) {
         for row in &self.picture.rows.rows {
             if let Some((won, _call, at)) = self.picture.winner(row) {
@@ -631,7 +631,7 @@ fn inner_rows(rows: &[Row], at: usize, depth: u64) -> u64 {
     count
 }
 
-// The class of a call's bar, by how the call ended. That of the words behind it has one `t` more.
+// The class in the style sheet of a call's bar, by how the call ended. The class of the words behind the bar has one more `t`.
 fn class_of(span: &Span) -> &'static str {
     match span.end {
         Some((End::Answered(_), _)) => "ok",

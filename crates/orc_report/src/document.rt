@@ -22,8 +22,8 @@ impl<'a> Document<'a> {
     }
 }
 
-/// The bytes of the part with this number, from 0, of a text that this byte divides into parts: it stands between them, and in none. An empty span at
-/// the text's end where there are fewer parts.
+/// The bytes of the part with this number, from 0, of a text that `divider` bytes cut into parts, as line feeds cut a text into lines. An empty span
+/// at the text's end where there are fewer parts.
 pub fn part_at(text: &[u8], divider: u8, number: usize) -> Span {
     let mut part: usize = 0;
     let mut start: usize = 0;

@@ -38,7 +38,7 @@ fn is_blank(byte: u8) -> bool {
     matches!(byte, b' ' | b'\t' | b'\r')
 }
 
-/// How many columns of a line are left out in front where a place at this column, from 1, is shown with at most 60 columns before it.
+/// How many columns are left out at the front of a line, so that at most 60 are shown before this column, which counts from 1.
 pub fn left_out(column: u64) -> u64 {
     column.saturating_sub(BEFORE).saturating_sub(1)
 }
@@ -85,8 +85,8 @@ impl Page {
         self.say_number(", column ", place.column as u64, "");
     }
 
-    // Writes a blank and the columns of a line behind the first so many, or ` ..` in place of those. The byte at the place is a column of its own,
-    // even in the middle of a character: a fault may be there. Blanks are written only once something follows them, so no line ends with one.
+    // Writes the columns of a line without its `first` ones: a blank before them, or ` ..` if columns are left out. The byte at `place` is a column
+    // of its own, even in the middle of a character: a fault may be there. Blanks wait until something follows them, so no line ends with one.
     fn columns(&mut self, line: &[u8], first: u64, place: usize) {
         let mut blanks: u64 = 1;
         if first > 0 {

@@ -1,4 +1,4 @@
-//! A text that is written piece by piece. Its methods write at its end what their comments name.
+//! A text that is written piece by piece. A method whose comment only names something writes that at the end of the text.
 
 ghost use Rattle.std.specs.Prelude.{◌≡◌, true, false};
 
@@ -68,7 +68,7 @@ impl Page {
         }
     }
 
-    /// Counts memory that was refused to another text as refused to this one, which is to hold it.
+    /// If memory was refused while `other` was written, notes this as refused here, too: this text is to contain the other one.
     pub fn heed(&mut self, other: &Page)
         ensures refused { other.now.is_refused ≡ true → self.new.is_refused ≡ true }
         ensures kept { other.now.is_refused ≡ false → self.new ≡ self.old }
@@ -201,7 +201,7 @@ impl Page {
         }
     }
 
-    /// A number of things, `1 call` or `2 calls`: their name takes an `s` but for one of them.
+    /// A number of things, as `1 call` or `2 calls`: the name gets an `s` unless the number is 1.
     pub fn count(&mut self, number: u64, name: &str) {
         self.number(number);
         self.say(" ");

@@ -52,8 +52,8 @@ fn edits(alloc: Global, a: &[u8], b: &[u8]) -> Result<Option<usize>, AllocError>
 }
 
 impl<'n> Near<'n> {
-    /// Begins the search for what this name may have meant. It takes a name at most two edits away; one where `name` has 2 to 5 bytes; none where it
-    /// has one byte. Nothing is near a name of over 64 bytes.
+    /// Begins the search for what this name may have meant. It takes a name that differs in capitals alone, or is at most two edits away; one edit if
+    /// `name` has 2 to 5 bytes, and none if it has one byte. Nothing is near a name of over 64 bytes.
     pub fn new(alloc: Global, name: &'n [u8]) -> Near<'n>
         ensures { result ≤ 2 }
     {
@@ -71,8 +71,8 @@ impl<'n> Near<'n> {
         }
     }
 
-    /// Shows one more name to the search: whether it takes it, being near enough and nearer than those before. One that differs in capitals alone is
-    /// the nearest, and the last one taken. It takes nothing more once memory was refused to it.
+    /// Shows one more name to the search. True if the search takes the name: it is near enough, and nearer than all that were taken before. A name
+    /// that differs in capitals alone is the nearest, so it is the last one taken. After refused memory the search takes nothing more.
     pub fn takes(&mut self, candidate: &[u8]) -> bool
         ensures { self.new ≤ self.old }
     {
@@ -110,7 +110,7 @@ impl<'n> Near<'n> {
 }
 
 impl Page {
-    /// Counts memory that was refused to the search for a name as refused to this text, which is to say what was found.
+    /// If memory was refused to the search for a name, notes this as refused here, too: this text is to say what was found.
     pub fn heed_search(&mut self, near: &Near) {
         if near.is_refused {
             self.refuse();

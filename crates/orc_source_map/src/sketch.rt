@@ -41,7 +41,7 @@ pub enum Shape<'a> {
 struct Pending {
     spot: usize,
     span: Span,
-    // A value or a name, which is no pruning where it is an argument.
+    // Whether it is a value or a variable: as an argument of a call it needs no pruning.
     is_simple: bool,
 }
 
@@ -128,7 +128,7 @@ impl<'a> Sketch<'a> {
         self.read_expression(&ast.main)
     }
 
-    // Reads an expression, after which its whole alone is pending.
+    // Reads an expression. Its nodes become spots, and the spot of the whole expression is left pending.
     fn read_expression(&mut self, expression: &Expr<'a>) -> Result<(), AllocError> {
         for node in &expression.nodes {
             self.read_node(*node)?;
@@ -168,7 +168,7 @@ impl<'a> Sketch<'a> {
         }
     }
 
-    // A call; round it stands a pruning for each argument that is an expression, that of the first one innermost.
+    // Reads a call. Each argument that is an expression becomes a pruning round the call, the first argument's innermost.
     fn read_call(&mut self, name: Name<'a>, count: usize, span: Span) -> Result<(), AllocError> {
         let first = self.pending.len().saturating_sub(count);
         let definition = self.definitions.get(name.text).copied();

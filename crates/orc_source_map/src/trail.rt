@@ -28,7 +28,7 @@ pub struct Step {
     pub way: Way,
     /// The number of the step round it, which is less than its own.
     pub outer: usize,
-    /// The innermost step at or round it that leads into a pruning or an otherwise; 0 where there is none.
+    /// This step if it leads into a pruning or an otherwise, else the innermost enclosing step that does; 0 where none does.
     pub home: usize,
 }
 
@@ -138,7 +138,7 @@ impl Trail {
                 let _gone = self.tokens.remove(s);
                 Ok(())
             }
-            // Neither moves a token. What a `lost` drops holds at most tokens on a `stop`.
+            // Neither moves a token: in the side that a `lost` drops, there are at most tokens on a `stop`.
             Entry::Lost(_) | Entry::Tick(_) => Ok(()),
         }
     }
