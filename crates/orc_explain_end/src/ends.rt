@@ -1,8 +1,8 @@
 //! How a run ended: who waits for what, what could go on, or what looks like a mistake though it has halted.
 //!
-//! Of a quiet run (`quiet`) it says which calls never return and which parts wait for them; of a run that was cut (`cut`) what could come next; and
-//! of one for which the engine had no more room (`room`) how far each of the engine's limits is used up. `remarks.rt` has what it says of a halted
-//! one.
+//! Of a quiet run an explanation says which calls never return and which parts wait for them (`quiet`); of a run that was cut, what could come next
+//! (`cut`); and of one for which the engine had no more room, how far each of the engine's limits is used up (`room`). `remarks.rt` has what it says
+//! of a halted run.
 
 use crate::ended::Ended;
 use crate::moves::{Moves, Wait};
@@ -129,8 +129,8 @@ impl Scene<'_, '_> {
         page.say("\n");
     }
 
-    // What could give a value from inside these steps, which are those of the right side of a cell's pruning: its pending calls, or else a token in
-    // it that waits itself.
+    // What could give a cell its value. `inside` flags the steps in the right side of the cell's pruning: the pending calls there, or, if there are
+    // none, a token there that waits itself.
     fn giver(&self, page: &mut Page, moves: &Moves, inside: &[bool]) {
         if !self.calls_inside(page, inside) {
             self.waiting_inside(page, moves, inside);
@@ -275,7 +275,7 @@ impl Scene<'_, '_> {
         page.say("\n");
     }
 
-    // The whole explanation. That of a halted run is empty where nothing looks like a mistake, so it writes its first line itself.
+    // The whole explanation. `halted` writes its own first line, since the explanation of a halted run may be empty.
     fn end(&self, page: &mut Page, moves: &Moves) {
         if self.ended.summary.end == End::Halted {
             return self.halted(page);
@@ -309,9 +309,9 @@ pub fn explain_refused_memory(alloc: Global, summary: Summary) -> Result<String,
     page.finish()
 }
 
-/// The text that explains how a run of these files ended, by its journal: a first line on its end, and lines below it; empty for a halted run in
-/// which nothing looks like a mistake. `subject` has the source and the script of the run. The error is refused memory, or a journal that the rules
-/// don't take, which no run writes.
+/// The text that explains how a run of these files ended, by its journal: a first line on its end, and lines below it; empty for a halted run that
+/// has published something and in which nothing looks like a mistake. `subject` has the source and the script of the run. The error is refused
+/// memory, or a journal that the rules don't take, which no run writes.
 pub fn explain_end(alloc: Global, subject: &Subject, ended: &Ended) -> Result<String, AllocError> {
     // The source was read before: only memory can be refused here.
     let Ok(ast) = parse(alloc, subject.source.text) else {

@@ -17,19 +17,20 @@ pub(crate) struct Wait {
     /// How many tokens wait for it, and the mark of the first of them, which is the least; 0 where none does.
     pub tokens: u64,
     pub first: u64,
-    // The mark of the one that was counted last: a call may wait for one cell in several arguments, and counts once.
+    // The mark of the token that was counted last: a token on a call may wait for this cell in several arguments, and is to count once.
     last: u64,
 }
 
 /// What can come next in a run.
 pub(crate) struct Moves {
-    /// The first few entries that can: those of tokens by their numbers, `lost` and `right`, returns, or else a tick.
+    /// The first few entries that can come next: those of tokens in the order of their marks, `lost` and `right`, returns; a tick only if none of
+    /// these can.
     pub entries: Vec<Entry>,
     /// How many entries can come in all.
     pub count: u64,
     /// How many tokens there are.
     pub tokens: u64,
-    /// The marks of those that wait for a cell, in ascending order.
+    /// The marks of the tokens that wait for a cell, in ascending order.
     pub waiting: Vec<u64>,
     /// One for each cell, cell 1 first, also for those for which no token waits.
     pub waits: Vec<Wait>,
@@ -114,7 +115,7 @@ impl Moves {
         Ok(())
     }
 
-    // A token waits for the cells that have no value yet of its variable or its call's arguments.
+    // Notes a token that waits, and for which cells: those of its variable, or of its call's arguments, that have no value yet.
     fn wait(&mut self, program: &Program, replay: &Replay, token: u64) -> Result<(), AllocError> {
         self.waiting.push(token)?;
         for position in 0..MOST_ARGUMENTS {

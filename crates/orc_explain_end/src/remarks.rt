@@ -29,7 +29,7 @@ struct Group {
 /// Groups of calls, one for each spot, in the order of their first calls.
 struct Groups {
     list: Vec<Group>,
-    // By its spot the place of each group in the list.
+    // The place in the list of each spot's group.
     places: HashMap<usize, usize>,
 }
 
@@ -142,8 +142,8 @@ fn differences(patterns: &[Option<Value>], args: &[Value]) -> (u64, Option<(u64,
     (count, first)
 }
 
-// The line of a site that is nearest to a call which none answers: of those for as many arguments the one with the fewest other values, else the
-// first. None where no line names the site.
+// The script's line that is nearest to a call which no line answers: of the site's lines with as many patterns as the call has arguments, the one
+// with the fewest patterns that don't fit; if there is no such line, the site's first. None if no line names the site.
 fn nearest<'a>(lines: &ScriptLines<'a>, name: &[u8], args: &[Value]) -> Option<ScriptLine<'a>> {
     let mut nearest: Option<ScriptLine<'a>> = None;
     let mut least: u64 = 0;
@@ -271,8 +271,8 @@ impl Remarks {
         count
     }
 
-    // Whether nothing is to be said of a run that has published something. Calls that were answered with halt don't count then: an otherwise may be
-    // meant for them.
+    // Whether nothing is to be said of the calls and the script of a run that has published something. A call that was answered with halt is no
+    // mistake in such a run: an otherwise may be meant for it.
     fn is_empty(&self) -> bool {
         self.wrong.list.is_empty() && self.unanswered.list.is_empty() && self.unused() == 0
     }
@@ -300,7 +300,8 @@ fn say_others(page: &mut Page, count: u64, name: &str) {
 }
 
 impl Scene<'_, '_> {
-    /// The whole explanation of a run that has halted: its first line, and what looks like a mistake. Nothing at all where nothing does.
+    /// The whole explanation of a run that has halted: its first line, and what looks like a mistake. Nothing at all if the run has published
+    /// something and nothing looks like a mistake.
     pub(crate) fn halted(&self, page: &mut Page) {
         let Ok(lines) = ScriptLines::new(self.alloc, self.subject.script_text()) else {
             page.refuse();
@@ -312,7 +313,8 @@ impl Scene<'_, '_> {
         }
     }
 
-    // The explanation, from what was noted of the calls. Answers that were halt, and losses, are told only where nothing was published.
+    // The explanation, from what was noted of the calls. It tells of calls that were answered with halt, and of lost values, only if nothing was
+    // published.
     fn remarks(&self, page: &mut Page, remarks: &Remarks, lines: &ScriptLines) {
         let is_silent = self.ended.summary.published == 0;
         if !is_silent && remarks.is_empty() && !self.hides_a_site() {

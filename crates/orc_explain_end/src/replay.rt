@@ -1,6 +1,7 @@
 //! A journal that is replayed on a program's sketch: where its tokens, its calls and its cells stand in the source.
 //!
-//! A spot is a numbered place of the program's tree, and a step is a side of the running term in which something stands (`orc_source_map`).
+//! A spot is a numbered place of the program's tree, and a step leads from the running term into one of its sides (`orc_source_map`). Each token and
+//! call has a spot and a step.
 
 use crate::ended::Ended;
 use orc_checker::Marked;
@@ -32,7 +33,7 @@ pub(crate) struct Made {
 #[derive(Clone, Copy)]
 pub(crate) struct Loss {
     pub spot: usize,
-    /// The cell from which the first of them would have had its value. None where it was lost before a definition was called with it.
+    /// The cell that would have given the first of them its value. None if that cell was lost before a definition was called with it.
     pub cell: Option<u64>,
     /// How many such tokens there were.
     pub count: u64,
@@ -206,7 +207,7 @@ impl<'a> Replay<'a> {
 
     // The cell that was put for an operand, whatever has become of it.
     fn cell_of(&self, operand: Operand, scope: usize) -> Option<u64> {
-        // No cell has a value here, so a cell that was bound or lost is still one.
+        // With an empty table of cells, `meaning` gives the cell itself, even if it has been bound or lost.
         match meaning(self.marked.scopes(), &[], operand, scope) {
             Some(Bound::Cell(cell)) => Some(cell),
             _ => None,
@@ -282,7 +283,7 @@ impl<'a> Replay<'a> {
         Ok(most)
     }
 
-    // For each step, from 0 on, how many such left sides are round a token in it. The error is refused memory.
+    // For each step, from 0 on, how many left sides of `>x>` enclose a token in it, counted as `frames` says. The error is refused memory.
     fn step_frames(&self, alloc: Global) -> Result<Vec<u64>, AllocError> {
         // A step comes behind the one round it, so one pass is enough.
         let mut frames: Vec<u64> = Vec::new(alloc);

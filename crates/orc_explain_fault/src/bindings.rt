@@ -1,4 +1,4 @@
-//! Where a program's variables are named, and where they are known.
+//! Where a program's variables are named, and in which part of the source each is known (its scope).
 //!
 //! An expression's nodes are listed with each operator behind its parts, so a stack of the parts' places is enough to find the scope of each
 //! variable.

@@ -6,9 +6,13 @@ use orc_rules::value::Value;
 /// The arguments that a built-in site takes.
 #[derive(Clone, Copy)]
 enum Taken {
+    /// Two numbers.
     Numbers,
+    /// Two values of any kind.
     Values,
+    /// One truth value.
     Truth,
+    /// One number, of units of time.
     Time,
 }
 
@@ -23,7 +27,7 @@ impl Taken {
         }
     }
 
-    // Whether these arguments are that.
+    // Whether these arguments are of the kinds and the number that a site takes.
     fn fits(self, args: &[Value]) -> bool {
         match self {
             Taken::Numbers => matches!(args, [Value::Number(_), Value::Number(_)]),
@@ -33,7 +37,7 @@ impl Taken {
         }
     }
 
-    // That in words.
+    // The arguments that a site takes, in words.
     fn words(self) -> &'static str {
         match self {
             Taken::Numbers => "two numbers",
@@ -67,7 +71,7 @@ pub(crate) fn purpose(site: Builtin) -> &'static str {
     }
 }
 
-/// What a built-in site takes, in words. None where it takes these arguments.
+/// The arguments that a built-in site takes, in words, if these are others. None if it takes these.
 pub fn wanted_by(site: Builtin, args: &[Value]) -> Option<&'static str> {
     let taken = Taken::of(site);
     if taken.fits(args) {
@@ -77,7 +81,7 @@ pub fn wanted_by(site: Builtin, args: &[Value]) -> Option<&'static str> {
     }
 }
 
-/// Why a call of a built-in site halts that has the arguments that it takes. None where no such call halts.
+/// Why a call of a built-in site halts though the site takes its arguments. None if no such call of this site halts.
 pub fn why_halted(site: Builtin) -> Option<&'static str> {
     match site {
         Builtin::Add => Some("the sum is out of range"),

@@ -15,13 +15,13 @@ use std::alloc::{AllocError, Global};
 /// A fault that was found in the files of a command line, or in doing what it asks for.
 #[derive(Clone, Copy)]
 pub enum Fault {
-    /// Of the source's text.
+    /// A fault of the source's text.
     Syntax(SyntaxFault),
-    /// Of the source's names.
+    /// A fault of the source's names.
     Scope(ScopeFault),
-    /// Of the script.
+    /// A fault of the script's text.
     Script(ScriptFault),
-    /// Of the journal's text.
+    /// A fault of the journal's text.
     Journal(JournalFault),
     /// The limit of a run is out of its range, 1 to `MOST_ENTRIES`.
     Range,

@@ -80,7 +80,7 @@ enum Test {
     Word(&'static [u8]),
     /// A name that isn't reserved.
     Name,
-    /// Such a name with a bracket behind it.
+    /// A name that isn't reserved, with a bracket behind it.
     Site,
     /// A number in range without a sign.
     Digits,
@@ -329,8 +329,8 @@ const LINE_WAYS: [Way; 7] = [
     (Place::LineEnd, Test::End, Next::Done),
 ];
 
-// What may follow at a place, in words. Where the walk may also go on without a piece (`Test::Else`, and behind an event), those of the next place
-// are said behind these.
+// What may follow at a place, in words. If the walk may also go on without a piece (`Test::Else`, and behind an event), the explanation adds the
+// words of the next place.
 fn wanted(place: Place) -> &'static str {
     match place {
         Place::Bracket | Place::Open => "`(`",
@@ -464,7 +464,7 @@ pub(crate) struct Walk {
 }
 
 impl Walk {
-    /// Walks over a line, which is looked at where the walk ends: at the piece that can't stand there. None where each piece can.
+    /// Walks over a line, up to the first piece that can't stand where it stands, and leaves the line at that piece. None if each piece can.
     pub(crate) fn over(line: &mut Line) -> Option<Walk> {
         let has_equals = line.pieces.iter().any(|piece| piece.is(b"="));
         let mut walk = Walk {

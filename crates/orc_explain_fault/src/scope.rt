@@ -119,7 +119,7 @@ fn has_too_many(ast: &Ast) -> bool {
     has_wide_call(&ast.main)
 }
 
-// The nearest variable, if one is near. The three functions below go on with the same search, which takes only ever nearer names.
+// The nearest variable, if one is near. The three functions below continue the same search, which takes only nearer names than it took before.
 fn near_variable<'a>(near: &mut Near, bindings: &Bindings<'a>) -> Option<Name<'a>> {
     let mut nearest = None;
     for binding in bindings.list.iter() {
@@ -271,7 +271,7 @@ fn say_perhaps_site(page: &mut Page, name: &[u8]) {
     }
 }
 
-// C2: a definition or a site that isn't called.
+// C2: a definition or a site that is used as a value: it can only be called.
 fn say_not_value(page: &mut Page, ast: &Ast, name: &[u8]) {
     let kind = match definition_of(ast, name) {
         Some(_) => "definition",
@@ -401,7 +401,7 @@ fn say_near_site(
     }
 }
 
-// The name that may have been meant, but which the program doesn't call. Where a line of the script has it, either name may be the wrong one.
+// A name that may have been meant, but that the program never calls. If a line of the script has it, either of the two names may be wrong.
 fn say_perhaps_script(
     page: &mut Page,
     alloc: Global,

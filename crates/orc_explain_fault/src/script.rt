@@ -82,8 +82,8 @@ fn kind_at(rest: &[u8]) -> Kind {
     }
 }
 
-// How many bytes the piece of this kind has that stands first. `end` is how far it goes behind its first byte; a sign is that byte alone, but for
-// `..`.
+// How many bytes the first piece of `rest` has, which is of this kind. A sign has one byte, except `..`. `end` is the number of bytes behind the
+// piece's first.
 fn length(kind: Kind, rest: &[u8]) -> usize {
     let more = rest.get(1..).unwrap_or(b"");
     let end = match kind {
@@ -99,10 +99,10 @@ fn length(kind: Kind, rest: &[u8]) -> usize {
     }
 }
 
-/// The number that a piece of a line spells, digits with or without a `-` before them. None where it is out of the range of values, -2^63 to 2^63 - 1.
+/// The number that a piece of a line spells by digits, with or without a `-` before them. None if it isn't a value: these are -2^63 to 2^63 - 1.
 pub fn number_of(text: &[u8]) -> Option<i64> {
     match text {
-        // The sign is put on before the range is looked at, for the least number.
+        // The sign comes before the test of the range: -2^63 is in it, and 2^63 isn't.
         [b'-', digits @ ..] => {
             let (number, _rest) = digits_at(digits)?;
             0_i64.checked_sub_unsigned(number)

@@ -21,7 +21,8 @@ pub(crate) const ORDER_MARK: &[u8] = b"\xEF\xBB\xBF";
 pub(crate) const NO_ORDER_MARK: &str =
     "this is a byte order mark: save the file as UTF-8 without one";
 
-// What is said of a text that begins so. The first one that fits is taken, so two signs stand before the one that they begin with.
+// What is said of a text that begins with these bytes. The first entry that fits is taken, so an entry for two signs is before one for the first
+// alone.
 const HINTS: [(&[u8], &str); 22] = [
     (ORDER_MARK, NO_ORDER_MARK),
     (b"//", COMMENT),

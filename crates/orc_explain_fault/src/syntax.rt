@@ -131,7 +131,7 @@ pub(crate) fn say_long(page: &mut Page, document: &Document, most: u64) {
     page.say_number(", and these are ", document.text.len() as u64, "\n");
 }
 
-/// That memory was refused while this was done: `the source was read as a program`.
+/// A line that memory was refused while something was done. `what` is its end, as `the source was read as a program`.
 pub(crate) fn say_refused(page: &mut Page, what: &str) {
     page.note("memory was refused while ");
     page.say(what);

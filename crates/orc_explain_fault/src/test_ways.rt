@@ -16,8 +16,8 @@ fn times(reply: Reply) -> u64 {
     }
 }
 
-// How many ways a service has by itself: those of its alternatives together, once for each call that takes an alternative of its own. If that is over
-// 64 bits, the greatest number of them.
+// How many ways a service has by itself: the ways of all its alternatives, to the power of the number of calls that each take an alternative of their
+// own. If that is over 64 bits, the greatest number of 64 bits.
 fn ways_of(service: &Service) -> u64 {
     let mut all: u64 = 0;
     for replies in service.alternatives.iter() {

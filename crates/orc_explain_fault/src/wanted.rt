@@ -130,8 +130,8 @@ fn is_number(token: Option<Token>) -> bool {
     }
 }
 
-// Going back over tokens: how many closing brackets have been seen whose opening ones haven't, after this token, where there were `closed` before it.
-// None where it opens a bracket that is still open at the place.
+// A count for a walk back over tokens: how many closing brackets it has met whose opening ones it hasn't, `closed` before this token. None if this
+// token opens a bracket that is still open at the place of the fault.
 fn closed_before(closed: usize, kind: Kind) -> Option<usize> {
     match kind {
         Kind::Close => Some(closed.saturating_add(1)),
@@ -216,8 +216,8 @@ impl<'a> Around<'_, 'a> {
         between.unwrap_or(b"").iter().any(|byte| *byte == b'\n')
     }
 
-    // The last name that blanks and a `(` follow, which makes it a call where two expressions may have been meant; one that a line's end and a `(`
-    // follow goes before. The name behind `def` is none.
+    // The last name with blanks and then a `(` behind it: it reads as a call, though its writer may have meant two expressions. A name with a line's
+    // end before the `(` takes precedence. The name behind `def` doesn't count.
     fn loose_call(&self) -> Option<Token<'a>> {
         let mut found: Option<Token<'a>> = None;
         let mut over_lines: Option<Token<'a>> = None;
@@ -283,7 +283,7 @@ impl<'a> Around<'_, 'a> {
         Some(Hint::of_place(OPEN, b"", open.span.start))
     }
 
-    // Whether the token at the place is a `=` that is to compare: the second of a `==`, or one behind an expression.
+    // Whether the token at the place is a `=` by which its writer meant to compare: the second of a `==`, or one behind an expression.
     fn is_equality(&self, what: What) -> bool {
         let equals = b"=".as_slice();
         self.here() == equals && (self.back(1) == equals || is_behind_expression(what))
@@ -383,7 +383,7 @@ impl<'a> Around<'_, 'a> {
         }
     }
 
-    // The words of that hint, by the token before the place.
+    // The words of the hint of `name`, by the token before the place.
     fn name_words(&self) -> &'static str {
         match self.back(1) {
             b"<" | b">" => {

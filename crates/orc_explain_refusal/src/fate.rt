@@ -7,7 +7,7 @@ use orc_rules::entry::Entry;
 use orc_term::arena::{Kind, Single};
 use orc_verdict::numbers_of;
 
-/// What has become of a token, a call, a cell or an otherwise, with the number of the entry that did it.
+/// What has become of a token, a call, a cell or an otherwise, with the number of the entry by which it left the term.
 #[derive(Clone, Copy)]
 pub(crate) enum Fate {
     /// Nothing: it is there, or never was.
@@ -22,7 +22,7 @@ pub(crate) enum Fate {
     Bound(u64),
     /// A `lost` or a `right` dropped the side in which it stood.
     Ended(u64),
-    /// The left side of the otherwise has published, which takes the otherwise's number from it.
+    /// The left side of the otherwise has published, so its right side can't start any more and no entry can name the otherwise.
     Left(u64),
 }
 
@@ -31,7 +31,7 @@ pub(crate) enum Fate {
 pub(crate) struct Watch {
     pub named: Named,
     pub fate: Fate,
-    // The number of its node. None as long as it hasn't come up.
+    // The number of its node. None until an entry has made it.
     place: Option<usize>,
 }
 

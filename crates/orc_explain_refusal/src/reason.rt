@@ -64,8 +64,7 @@ impl Refused<'_> {
                     None => page.say("no cancel is due\n"),
                 }
             }
-            // What isn't there is what the entry names first, or, if that is there, the cell that a `bind` names beside its token, which is its word
-            // 2.
+            // What the entry names first is there, so what is missing is the cell that a `bind` names besides its token, in word 2 of its line.
             RuleFault::Mark if self.replay.first.stands() => {
                 self.show(page, Some(2));
                 self.replay.second.say(&self.replay.marked, page);
@@ -93,7 +92,7 @@ impl Refused<'_> {
         }
     }
 
-    // Another entry than the term has for this token: says which one it has, or that the token waits.
+    // The token can't make this entry: says which entry it can make, or that it waits.
     fn say_form(&self, page: &mut Page, alloc: Global, entry: &Entry) {
         let mark = mark_named(entry).unwrap_or(0);
         match entry_of(&self.replay.marked, self.program, mark) {
@@ -112,7 +111,7 @@ impl Refused<'_> {
         }
     }
 
-    // The term has no entry for the token: it waits for those of its arguments that are cells without a value. Or no token is named.
+    // The token can make no entry: it waits for those of its arguments that are cells without a value. Or the entry names no token.
     fn say_waits(&self, page: &mut Page, mark: u64) {
         let marked = &self.replay.marked;
         let mut cells: u64 = 0;

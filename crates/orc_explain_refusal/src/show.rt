@@ -64,7 +64,8 @@ impl Strip<'_, '_> {
     }
 }
 
-// Writes one of the two lines, five blanks further in than a note: what is shown of it, with these signs where its front and its end are cut.
+// Writes one of the two lines, five blanks further in than a note: the `shown` bytes, with `front` before them and `end` behind them if columns are
+// cut off there.
 fn show_line(page: &mut Page, window: Window, front: &str, shown: &[u8], end: &str) {
     page.inset();
     page.say("     ");

@@ -26,8 +26,8 @@ impl Spent {
         Ok(spent)
     }
 
-    // A token stands in the node at a place, and so in those above it, as far as they have halted. A node that is held already ends the climb, so all
-    // calls together hold each node once.
+    // Notes that a token stands in the node at a place, and so in the nodes above it, as far as they have halted. The climb ends at a node that is
+    // noted already, so all calls together note each node once.
     fn hold(&mut self, marked: &Marked, from: usize) {
         let mut place = from;
         for _node in marked.nodes() {

@@ -27,8 +27,8 @@ pub(crate) struct Note {
     pub mark: u64,
 }
 
-/// A part that is being written and becomes `..` if it is long: its first column, how many nodes of the program were seen in it, and whether it
-/// stands in a part that is long already.
+/// A part that is being written, and that becomes `..` if it is long: its first column, how many nodes of the program were visited in it, and whether
+/// it is in a part that is long already.
 #[derive(Clone, Copy)]
 struct Part {
     start: usize,
@@ -120,7 +120,7 @@ impl<'r, 's> Strip<'r, 's> {
         };
         match way.top() {
             Some(top) => {
-                // All that is left of the named part is written, since its parts are short; `way_node` sets the limit once the named part begins.
+                // Before the named part there is no limit, since the parts there are cut short; `way_node` sets the limit once the named part begins.
                 strip.most = usize::MAX;
                 strip.push(Task::Way(top, 0));
             }
@@ -242,7 +242,7 @@ impl<'r, 's> Strip<'r, 's> {
         }
     }
 
-    // Puts the tasks of a side on the stack, in which this name is bound.
+    // Puts the tasks of a side on the stack. If a name is given, the sign binds it in this side.
     fn push_side(&mut self, side: Side, name: Option<u32>) {
         if side.is_part {
             self.push(Task::Close);

@@ -3,8 +3,8 @@
 use crate::sign::Sign;
 use orc_rules::param::Operand;
 
-/// A part of a term that is still to be written, or what is done between parts. A level is how tightly a part has to bind to stand there without
-/// brackets (`Sign::levels`), from 0, with which it never gets any.
+/// A part of a term that is still to be written, or what is done between parts. A level says how tightly a part has to bind to need no brackets at
+/// its place (`Sign::levels`); at level 0 no part needs any.
 #[derive(Clone, Copy)]
 pub(crate) enum Task {
     /// The node of the marked term with this number; its level.
@@ -25,8 +25,8 @@ pub(crate) enum Task {
     Close,
     /// What the refused entry names ends here; it began in this column.
     Underline(usize),
-    /// From here on a name is a variable that a sign in the term binds, so it is written as such and not looked up in a scope.
+    /// Here begins a part in which a sign of the term binds this name: it is written as a variable there, and not looked up in a scope.
     Bind(u32),
-    /// Here ends what the name is bound in that was bound last.
+    /// Here ends the part in which the last `Bind` binds its name.
     Unbind,
 }

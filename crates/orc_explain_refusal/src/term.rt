@@ -73,11 +73,11 @@ impl<'r, 's> Strip<'r, 's> {
         };
         let (sign, left, right, scope) = match kind {
             Kind::Leaf(tip) => return self.tip(tip, wanted),
-            // An otherwise that has published is its left side.
+            // Such a node is written as its part alone.
             Kind::One(Single::Passed, part) => return self.push(
                 self.part(part, wanted, below).task,
             ),
-            // Beside a `|` a side is left out that has halted.
+            // A side of a `|` that is spent isn't written, and neither is the `|`.
             Kind::Two(Double::Both, left, right) if self.is_left_out(left, below) => {
                 return self.push(self.part(right, wanted, below).task);
             }
