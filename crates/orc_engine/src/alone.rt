@@ -20,12 +20,13 @@ use std::alloc::Global;
 use std::marker::Brand;
 
 /// Runs a program: entries that the rules allow, one after another, until nothing can come next or the journal has `limit` of them, cancels not
-/// counted. The cancels of a bind follow it at once. The answer has the journal if `keeps`; else perhaps.
+/// counted. The cancels of a bind follow it at once. The result has the journal if `keeps`, and sometimes if not.
 ///
-/// What the rules leave free comes in one order where `order` is none, and in another for each number; in the same one each time.
+/// `order` says which of the orders that the rules leave free the run takes: each number draws one, and none is the scheduler's own. The same `order`
+/// gives the same run every time.
 ///
-/// The fault is Range where the limit is 0 or over `MOST_ENTRIES`, and then alone; or Memory where memory was refused before the run began, or for
-/// what is told of it. No other comes, if the program is one that the scope check takes.
+/// The fault is Range exactly if the limit is 0 or over `MOST_ENTRIES`. It is Memory if memory was refused before the run began, or for its result.
+/// No other fault comes if the scope check accepts the program.
 pub fn run_alone(
     alloc: Global,
     program: &Program,
@@ -54,7 +55,7 @@ pub fn run_alone(
             Err(fault) => return Err(fault),
         }
     }
-    // How the run ends can't be told without its journal, or the journal is wanted.
+    // The caller wants the journal, or only the journal can show how the run ended.
     match run_graph::<Brand>(alloc, program, &graph, answers, order, true, limit) {
         Ok(Some(played)) => Ok(played),
         // By the clause *kept* a run that keeps its journal is always told of.
@@ -63,7 +64,7 @@ pub fn run_alone(
     }
 }
 
-// Runs a program whose graph is built, with a limit in range. None where the journal isn't kept, and how the run ends can't be told without it.
+// Runs a program whose graph is built, with a limit in range. None if the run keeps no journal, but only a journal can show how it ended.
 fn run_graph<P: Run>(
     alloc: Global,
     program: &Program,

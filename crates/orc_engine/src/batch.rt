@@ -1,4 +1,4 @@
-//! A batch of jobs, dealt out to several threads: each has a queue of them, and takes from those of the others when its own is empty.
+//! A batch of jobs, dealt out to several threads. Each thread has a queue of jobs, and steals from the queues of the others when its own is empty.
 
 use orc_ledger::Run;
 use orc_pool::{WorkerQueue, worker_queues};
@@ -13,8 +13,8 @@ pub(crate) struct Dealt<'j, P: Run> {
     pub job: &'j mut SubRunJob<P>,
 }
 
-/// Deals jobs out in turn to the queues of as many workers as there are, or as jobs where there are fewer; each queue begins with its first one. A
-/// job for which there is no room is dealt to nobody: nothing comes of it, and its call is run in its place. The error is refused memory.
+/// Deals jobs out in turn to the queues of `workers` workers, or of fewer if there are fewer jobs. Each queue gives its first job first. A job for
+/// which memory is refused goes to nobody: it stays without a result, and the run makes its call itself. The error is refused memory for the queues.
 pub(crate) fn deal<'j, P: Run>(
     alloc: Global,
     jobs: &'j mut [SubRunJob<P>],
@@ -31,7 +31,8 @@ pub(crate) fn deal<'j, P: Run>(
     Ok(worker_queues)
 }
 
-/// The place of a job that has won a race. Of several that win at one time it may be any: what it says is for haste alone.
+/// The place of a job that has won a race. If several win at the same time it may be the place of any of them: it only saves work, and no result
+/// depends on it.
 #[derive(Drop)]
 pub(crate) struct Won {
     place: AtomicUsize,
@@ -50,7 +51,7 @@ impl Won {
         self.place.load(Ordering::Relaxed) < place
     }
 
-    /// The job at this place has won. Of two that are noted at one time the later place may stand; then more jobs are done in vain.
+    /// Notes that the job at this place has won. Of two that are noted at the same time the later place may stay; then threads do more jobs in vain.
     pub fn note(&self, place: usize) {
         if !self.is_before(place) {
             self.place.store(place, Ordering::Relaxed);
@@ -58,7 +59,7 @@ impl Won {
     }
 }
 
-/// What came of jobs that stand behind a winner is forgotten: which of them were done depends on the threads.
+/// Drops the results of the jobs behind the first winner, since it depends on the threads which of these jobs were done.
 pub(crate) fn forget_losers<P: Run>(jobs: &mut [SubRunJob<P>]) {
     let mut is_won = false;
     for job in jobs {

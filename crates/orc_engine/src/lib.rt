@@ -1,6 +1,6 @@
-//! The engine where the table answers all calls: one worker, or several that run calls of definitions in parallel.
+//! The engine for runs in which the table answers all calls of sites: on one worker, or on several that run calls of definitions in parallel.
 //!
-//! What moves and when is chosen here and below; that each entry is one of the rules is the ledger's own invariant, whatever is chosen.
+//! This crate and `orc_scheduler` choose what moves, and when. Whatever they choose, the rules allow each entry: that is the ledger's own invariant.
 #![tactic(auto)]
 
 mod alone;

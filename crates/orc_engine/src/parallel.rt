@@ -1,5 +1,5 @@
-//! One run whose work is shared out: where many tokens stand at calls of definitions, the calls' own runs are made side by side, and taken in one
-//! after another in a fixed order. So the journal doesn't depend on which thread is quicker, nor on how many there are.
+//! One run on several threads. If many tokens stand at calls of definitions, the threads run these calls side by side, each as a sub-run, and the
+//! calling thread merges the results in a fixed order. So the journal depends neither on which thread is quicker nor on how many there are.
 
 ghost use Rattle.std.specs.Prelude.{◌≡◌, ◌≤◌, ◌<◌, ◌^◌, ◌↔◌, Err, is_some, IfOk, IfErr, IfSome, true, MatchOption};
 ghost use Rattle.std.specs.VecDeque.{deque_len};
@@ -25,36 +25,36 @@ use std::marker::Brand;
 use std::thread;
 use std::thread::Threads;
 
-/// So many entries are made by one worker before others help, and so many from one time that they have helped to the next; ten times as many where
-/// there was too little for them to do.
+/// How many entries one worker makes before the first attempt to share work, and between a successful attempt and the next. After an attempt that
+/// ended as `Few` it makes ten times as many.
 const PATIENCE: usize = 5_000;
 
-/// So many tokens are to stand at calls before the calls are run side by side.
+/// How many runnable tokens an attempt needs. The calls at which they stand are run side by side.
 const READY_TOKENS: usize = 128;
 
-/// And so many where the runs of those are too long: calls that stand deeper have shorter runs.
+/// How many it needs after samples that were too long: then tokens stand at calls deeper in the tree of calls, which have shorter runs.
 const READY_TOKENS_IF_LONG: usize = 1_000;
 
-/// So many calls show what the others' runs are like.
+/// How many calls run first as samples, to show how long the sub-runs of the others will be.
 const SAMPLES: usize = 16;
 
-/// So many of them show first whether one wins, where they race each other: what the losers do is in vain.
+/// How many of the samples run first if the calls race each other: once one of them yields a value, the others would be run in vain.
 const RACERS: usize = 4;
 
 /// The most entries of a sample's run. The tables of a run of so many entries fit a processor's own cache.
 const MOST_SAMPLE_ENTRIES: usize = 20_000;
 
-/// Runs have so many entries on average, or no more of them are made apart: to begin one costs as much as a hundred entries.
+/// The mean number of entries from which sub-runs are worth making: to begin one costs as much as a hundred entries.
 const LEAST_MEAN_ENTRIES: usize = 512;
 
-/// So many calls are run side by side before what came of them is taken in. A thread that begins may wait some milliseconds for a processor, so a
-/// batch is to be worth more than that.
+/// How many calls run side by side before their results are merged. A thread that begins may wait some milliseconds for a processor, so a batch has
+/// to be worth more than that.
 const BATCH: usize = 256;
 
-/// A run may have so many times as many entries as those before it had on average, but no more than `MOST_RUN_ENTRIES`.
+/// The limit of a sub-run is this many times the mean of the entries of those before it, but `MOST_RUN_ENTRIES` at most.
 const TIMES_MEAN: usize = 8;
 
-/// The most entries of any run that is made apart.
+/// The most entries of any sub-run.
 const MOST_RUN_ENTRIES: usize = 1_000_000;
 
 /// The threads that make a run.
@@ -64,55 +64,59 @@ pub(crate) struct WorkerThreads<'c, R> {
     rt: &'c R,
     /// They take memory from this allocator.
     alloc: Global,
-    /// How many run calls of definitions, at least 1. The calling thread is one of them where it has nothing to take in.
+    /// How many threads run calls of definitions, at least 1. The calling thread is one of them while it has no results to merge.
     workers: usize,
 }
 
-/// What calls of definitions came to that were run side by side.
+/// How an attempt to run calls of definitions side by side has gone.
 #[derive(Clone, Copy)]
 enum Trial {
-    /// There were too few of them, or one has won a race.
+    /// Too few tokens were runnable, or one of the calls has won a race.
     Few,
-    /// Their runs were too long, as it seems.
+    /// More sub-runs stopped at their limit than gave a result.
     Long,
-    /// Their runs were too short, or can't stand for the calls.
+    /// It isn't worth the threads: there were too few calls, or the sub-runs were too short, or most of them gave no result.
     Vain,
-    /// Most of them came to something, and had so many entries on average.
+    /// At least half of the sub-runs gave a result, and these had this many entries on average.
     Good(usize),
 }
 
-// When the work is shared out next.
+// When the next attempt comes.
 #[derive(Clone, Copy)]
 struct Plan {
-    // Where the journal has so many entries.
+    // The number of entries of the run at which it comes.
     entries: usize,
-    // How many entries the runs had on average that were made apart the last time; 0 where samples are to show it.
+    // How many entries the sub-runs of the last attempt had on average; 0 if samples are to show it.
     mean: usize,
 }
 
-// What came of some calls' runs: how many there were, how many are over, how many were too long, the entries of those that are over, and whether one
-// has won a race.
+// Counts of the results of some jobs.
 #[derive(Clone, Copy)]
 struct Tally {
+    // How many jobs there were.
     count: usize,
+    // How many sub-runs gave a result that can replace the call.
     over: usize,
+    // How many sub-runs stopped at their limit.
     long: usize,
+    // The entries of all sub-runs that gave a result.
     entries: usize,
+    // Whether a job has won a race.
     is_won: bool,
 }
 
 impl Tally {
-    // The entries of a run that is over, on average.
+    // How many entries a sub-run that gave a result has on average.
     fn mean(&self) -> usize {
         self.entries / self.over.max(1)
     }
 }
 
-/// Runs a program as [`run_alone`](crate::run_alone) does, on the calling thread. Calls of definitions are run apart on `workers` threads, of which
-/// the calling one is one where it has nothing to take in. The table answers all calls of sites. The journal is the same on any number of workers.
+/// Runs a program as [`run_alone`](crate::run_alone) does, on the calling thread, and calls of definitions apart on `workers` threads; the calling
+/// thread is one of them while it has no results to merge. The table answers all calls of sites. The journal is the same on any number of workers.
 ///
-/// The fault is Range where there are no workers or over `MOST_WORKERS`, or the limit is 0 or over `MOST_ENTRIES`, and then alone; or Memory as of
-/// `run_alone`. No other comes, if the program is one that the scope check takes.
+/// The fault is Range exactly if there are no workers or over `MOST_WORKERS`, or the limit is 0 or over `MOST_ENTRIES`. Memory is as of `run_alone`.
+/// No other fault comes if the scope check accepts the program.
 pub fn run_parallel<R: Threads + Sync>(
     rt: &R,
     alloc: Global,
@@ -161,7 +165,7 @@ pub(crate) fn run_graph<R: Threads + Sync>(
             Err(fault) => return Err(fault),
         }
     }
-    // How the run ends can't be told without its journal, or the journal is wanted.
+    // The caller wants the journal, or only the journal can show how the run ended.
     match run_named::<Brand, R>(threads, program, graph, answers, true, limit) {
         Ok(Some(played)) => Ok(played),
         // By the clause *kept* a run that keeps its journal is always told of.
@@ -170,8 +174,8 @@ pub(crate) fn run_graph<R: Threads + Sync>(
     }
 }
 
-// Runs a program whose graph is built, with its journal or only its number of entries. None where that isn't enough to tell how the run ends. P names
-// the run, whose program and sites the caller picks.
+// Runs a program whose graph is built, and keeps its journal or only counts its entries. None if it keeps no journal, but only a journal can show how
+// the run ended. The type P names the run, whose program and sites the caller picks.
 fn run_named<P, R>(
     threads: &WorkerThreads<'_, R>,
     program: &Program,
@@ -212,7 +216,7 @@ where
     scheduler.finish(program, &inputs, stop)
 }
 
-// The threads that run one program, and what its run goes by.
+// The threads that run one program, and the inputs of the run.
 #[derive(Drop)]
 struct ParallelRun<'c, P: Run, R> {
     rt: &'c R,
@@ -249,7 +253,7 @@ where
         }
     }
 
-    // A turn, and before it the work is shared out if it is time. Tells when it is time again.
+    // Makes an attempt to share work if one is planned for now, and then gives a turn. Gives the plan of the next attempt.
     fn go(&self, scheduler: &mut Scheduler<P>, plan: Plan) -> Result<Plan, Stop>
         ensures nearer { IfOk result (λ _. IsNearer scheduler.old.ledger (deque_len scheduler.old.ready.handles) scheduler.new.ledger (deque_len scheduler.new.ready.handles)) }
         ensures within { IfOk result (λ _. scheduler.new.ledger.entries ≤ scheduler.new.ledger.limit) }
@@ -263,8 +267,8 @@ where
         }
     }
 
-    // If it is time tokens are spread, and the calls at which they stand are run side by side: first of few tokens, and if their runs are too long,
-    // of more. Tells when it is time again.
+    // Makes an attempt if one is planned for now: it spreads tokens and runs the calls at which they stand side by side. If their runs turn out too
+    // long it spreads more tokens and tries once more. Gives the plan of the next attempt.
     #[inline(never)]
     fn share(&self, scheduler: &mut Scheduler<P>, plan: Plan) -> Result<Plan, Stop>
         ensures spread { IfOk result (λ _. HasSpread scheduler.old.ledger (deque_len scheduler.old.ready.handles) scheduler.new.ledger (deque_len scheduler.new.ready.handles)) }
@@ -281,13 +285,13 @@ where
         let (entries, mean) = match trial {
             Trial::Good(mean) => (now.saturating_add(PATIENCE), mean),
             Trial::Few => (now.saturating_add(10 * PATIENCE), plan.mean),
-            // Where sharing doesn't pay it is tried again only once the journal has 16 times as many entries.
+            // If sharing doesn't pay, the next attempt comes once the run has 16 times as many entries.
             Trial::Long | Trial::Vain => (now.saturating_mul(16), 0),
         };
         Ok(Plan { entries, mean })
     }
 
-    // Tokens are spread until so many stand ready, and the calls at which they stand are run side by side.
+    // Spreads tokens until `wanted` of them are runnable, and runs the calls at which they stand side by side.
     fn attempt(
         &self,
         scheduler: &mut Scheduler<P>,
@@ -304,9 +308,9 @@ where
         self.run_side_by_side(scheduler, mean)
     }
 
-    // Runs the calls at which tokens stand side by side, and takes in what came of them. Where it isn't known how many entries their runs have on
-    // average, a few show it first, and whether the others are worth it. Calls that race each other are looked at where there are too few others, and
-    // a few of them always have to show it.
+    // Runs the calls at which tokens stand side by side, and merges their results. If `mean` is 0, samples first show how many entries the sub-runs
+    // have on average, and whether the others are worth it. It considers calls that race only if there are too few others, and these always begin
+    // with samples.
     fn run_side_by_side(&self, scheduler: &mut Scheduler<P>, mean: usize) -> Result<Trial, Stop>
         ensures spread { IfOk result (λ _. HasSpread scheduler.old.ledger (deque_len scheduler.old.ready.handles) scheduler.new.ledger (deque_len scheduler.new.ready.handles)) }
         ensures stops { IfErr result (λ stop. Stops P.listing scheduler.new.ledger stop) }
@@ -328,8 +332,8 @@ where
         Ok(Trial::Vain)
     }
 
-    // Does the jobs, and takes in what came of them. If it isn't known how many entries they have on average, samples show it, of which so many are
-    // done first. If one of these wins a race, what came of it is taken in and the others are left to the run.
+    // Does the jobs, and merges their results. If `mean` is 0 samples come first, and the `first` of these before the other samples. If a sample wins
+    // a race its result is merged, and the run makes the other calls itself.
     fn run_jobs(
         &self,
         scheduler: &mut Scheduler<P>,
@@ -358,7 +362,7 @@ where
         }
     }
 
-    // Does the samples of the jobs: first so many, and the others if none of these has won a race. Tells what came of those that were done.
+    // Does the samples: the `first` ones, and the others if none of these has won a race. Counts the results of those that it did.
     fn run_samples(&self, limit: usize, first: usize, jobs: &mut [SubRunJob<P>]) -> Tally
         requires limit { (1 ≤ limit) × (limit ≤ MOST_ENTRIES) }
     {
@@ -373,7 +377,7 @@ where
         tally_of(samples)
     }
 
-    // Whether such runs are worth a thread, by what came of some.
+    // Whether more such sub-runs are worth a thread, judged by the results of some.
     fn trial_of(&self, tally: Tally) -> Trial {
         let mean = tally.mean();
         if tally.long > tally.over {
@@ -381,15 +385,16 @@ where
         } else if tally.over < tally.count / 2
             || mean < LEAST_MEAN_ENTRIES.max(self.inputs.graph.len())
         {
-            // A run begins with a copy of the program's graph.
+            // A sub-run begins with a copy of the program's graph, so it has to be longer than that.
             Trial::Vain
         } else {
             Trial::Good(mean)
         }
     }
 
-    // Does the jobs behind the first `done` ones in batches, and takes in what came of those before a batch while it is done: as long as most of a
-    // batch comes to something, none has won a race, and the limit has room for the next. Tells what the last batch came to.
+    // Does the jobs behind the first `done` ones in batches. While threads do a batch, this one merges the results of the jobs before it. It goes on
+    // as long as batches are worth it (`trial_of`), no job has won a race, and the limit has room for the next batch. Gives how the last batch has
+    // gone.
     fn run_batches(
         &self,
         scheduler: &mut Scheduler<P>,
@@ -432,7 +437,7 @@ where
         Ok(trial)
     }
 
-    // What came of the jobs before is taken in, while those of the batch are done on as many threads beside this one.
+    // Merges the results of the jobs `before`, while `workers` other threads do those of the batch.
     fn run_beside(
         &self,
         scheduler: &mut Scheduler<P>,
@@ -461,7 +466,7 @@ where
         taken
     }
 
-    // Each job is done by one of the threads, but none that stands behind a winner. Where memory is refused none is.
+    // Has the threads do the jobs, each job once, but none behind a job that is known to have won. If memory for the queues is refused it does none.
     fn run_all(&self, limit: usize, jobs: &mut [SubRunJob<P>])
         requires limit { (1 ≤ limit) × (limit ≤ MOST_ENTRIES) }
     {
@@ -483,7 +488,7 @@ where
         forget_losers(jobs);
     }
 
-    // Does jobs until its queue and those of the others are empty, of `count` that were dealt out in all.
+    // One thread's part: it does jobs until its queue and those of the others are empty. `count` jobs were dealt out in all.
     fn work(&self, limit: usize, count: usize, won: &Won, worker_queue: &mut WorkerQueue<Dealt<P>>)
         requires limit { (1 ≤ limit) × (limit ≤ MOST_ENTRIES) }
     {
@@ -504,7 +509,7 @@ where
     }
 }
 
-// What came of the jobs.
+// Counts the results of the jobs.
 fn tally_of<P: Run>(jobs: &[SubRunJob<P>]) -> Tally {
     let mut tally = Tally {
         count: jobs.len(),
@@ -527,7 +532,7 @@ fn tally_of<P: Run>(jobs: &[SubRunJob<P>]) -> Tally {
     tally
 }
 
-// Takes in, one after another, what came of those jobs that still have it.
+// Merges the results of the jobs that still have one, one after another.
 fn take_all<P: Run>(
     inputs: &Inputs<'_, P>,
     scheduler: &mut Scheduler<P>,
@@ -542,7 +547,7 @@ fn take_all<P: Run>(
     Ok(())
 }
 
-// Takes in what came of a job, if the job still has it.
+// Merges the result of a job, if the job still has one.
 fn take_one<P: Run>(
     inputs: &Inputs<'_, P>,
     scheduler: &mut Scheduler<P>,
@@ -554,7 +559,7 @@ fn take_one<P: Run>(
     let SubRunResult::Over(part) = job.take() else {
         return Ok(());
     };
-    // What isn't taken in goes on in its place.
+    // A call whose result isn't merged goes on as a token of the run.
     let _taken = scheduler.append_sub_run(inputs, job.handle(), &part)?;
     Ok(())
 }

@@ -26,39 +26,39 @@ use Rattle.orc_scheduler.specs.declared.scheduler.Turn.TheVariants as turn
 abbrev pub open_groups : Records → ℕ
 open_groups s = weight (λ (g : Group). 1) s.groups
 
--- what may come: two for each entry up to the limit, of which one is for a group that it may open, and one for each group that is open
+-- a bound on what may still come: two for each entry up to the limit (the entry, and a group that it may open), and one for each open group
 abbrev pub left : Records → ℕ
 left s = 2 * (s.limit - s.entries) + open_groups s
 
--- a run that goes on: its entries are more, or as many and its groups no more
+-- the run is as far or further: it has more entries, or as many and no more open groups
 pub record Goes (s s' : Records) : Type 0 where
   pub limit : s'.limit ≡ s.limit
   pub far : 2 * s.entries + open_groups s' ≤ 2 * s'.entries + open_groups s
 
--- a run that is further: its entries are more, or as many and its groups fewer
+-- the run is further: it has more entries, or as many and fewer open groups
 pub record Advances (s s' : Records) : Type 0 where
   pub limit : s'.limit ≡ s.limit
   pub far : 2 * s.entries + open_groups s' < 2 * s'.entries + open_groups s
 
--- a token has moved: the run is further, or it waits, and no more tokens have a turn that comes
+-- what a move has come to, with n tokens in the run queue before and n' after: the run is further, or the token waits and the queue isn't longer
 abbrev pub HasMoved : Records → ℕ → Records → ℕ → Step → Type 0
 HasMoved s n s' n' step.Waits = (s' ≡ s) × (n' ≤ n)
 HasMoved s n s' n' _ = Advances s s'
 
--- the run is further, or as far, and fewer tokens have a turn that comes
+-- the run is further, or unchanged with a shorter run queue
 abbrev pub IsNearer : Records → ℕ → Records → ℕ → Type 0
 IsNearer s n s' n' = Advances s s' ⊎ ((s' ≡ s) × (n' < n))
 
--- the run is further, or as far, and no more tokens have a turn that comes
+-- the run is further, or unchanged with a run queue that isn't longer
 abbrev pub HasSpread : Records → ℕ → Records → ℕ → Type 0
 HasSpread s n s' n' = Advances s s' ⊎ ((s' ≡ s) × (n' ≤ n))
 
--- a turn: the run is nearer its end; where none was left, nothing has changed but that tokens which are gone have no turn
+-- a turn: the run is nearer its end; or no turn was left, and nothing has changed but that handles of gone tokens may have left the queue
 abbrev pub HasTurned : Records → ℕ → Records → ℕ → Turn → Type 0
 HasTurned s n s' n' turn.Rests = (s' ≡ s) × (n' ≤ n)
 HasTurned s n s' n' _ = IsNearer s n s' n'
 
--- a token that was drawn waits no more
+-- a token that was drawn has left the run queue
 abbrev pub HasDrawn : Option Drawn → ℕ → ℕ → Type 0
 HasDrawn (Some (drawn.Token h)) n n' = n' + 1 ≡ n
 HasDrawn _ n n' = n' ≤ n
@@ -73,7 +73,9 @@ NoneIsDue s = (c : Call) (t : ℕ) → IsIn c s.calls → due_of c ≡ Some t �
 abbrev pub IsAtWork : Listing → Records → Type 0
 IsAtWork l s = (next_of (code l) (definitions l) (numbers_of s) s ≡ work) × (members (numbers_of s) s 0 ≡ 0 → ⊥)
 
--- a run that stops for this reason has cause to: where it has halted the program's own group has no members; where it is quiet nothing comes next; where it is full one of the engine's numbers can have been reached; where it is cut its journal has as many entries as the limit; and where it is broken the program isn't one that the scope check takes
+-- the run has cause to stop for this reason. Halted: the program's own group has no members. Quiet: nothing comes next. Full: the journal shows that
+-- a limit of the engine can have been reached. Limit: the journal has as many entries as the limit. Broken: the scope check doesn't accept the
+-- program. Memory needs no cause, and a run stops for no other reason
 abbrev pub Stops : Listing → Records → Stop → Type 0
 Stops l s stop.Halted = members (numbers_of s) s 0 ≡ 0
 Stops l s stop.Quiet = next_of (code l) (definitions l) (numbers_of s) s ≡ quiet

@@ -53,7 +53,8 @@ impl<P: Run> Scheduler<P> {
         Ok(Turn::Rests)
     }
 
-    // Settles the tokens that came last, until one's next step is seen by nobody outside, or it is gone: that one goes on without a draw.
+    // Settles tokens from the newest on, as long as somebody outside sees their next step. The first token whose next step nobody sees, or that is
+    // gone, stays at the end of the queue and goes on without a draw.
     fn settle(&mut self, inputs: &Inputs<'_, P>)
         ensures same { self.new.ledger ≡ self.old.ledger }
         ensures as_many { deque_len self.new.ready.handles ≡ deque_len self.old.ready.handles }
@@ -78,7 +79,7 @@ impl<P: Run> Scheduler<P> {
         }
     }
 
-    // The call with this number is answered, by the table, and the turn of the token on its answer comes. Whether it pended.
+    // Answers the call with this number by the table, and puts the token on its answer into the run queue. False if the call is gone or isn't due.
     fn answer_drawn(&mut self, number: u64) -> Result<bool, Stop>
         ensures advances { IfOk result (λ answered. answered ≡ true → Advances self.old.ledger self.new.ledger) }
         ensures none { IfOk result (λ answered. answered ≡ false → (self.new.ledger ≡ self.old.ledger) × (self.new.ready ≡ self.old.ready)) }
@@ -99,13 +100,13 @@ impl<P: Run> Scheduler<P> {
             }
             Err(ReturnFault::Limit) => return Err(Stop::Refused(LedgerFault::Limit)),
             Err(ReturnFault::Memory) => return Err(Stop::Refused(LedgerFault::Memory)),
-            // What the ledger doesn't take isn't due.
+            // The call isn't due after all, or it is gone.
             Err(ReturnFault::Wrong | ReturnFault::Gone) => return Ok(false),
         }
         Ok(true)
     }
 
-    /// A call of a site whose answer has a turn of its own, also where it is due at once.
+    /// Makes a call of a site in a run with an order. Its answer has a turn of its own, even if it is due at once.
     #[cold]
     #[inline(never)]
     pub(crate) fn call_apart(
@@ -132,7 +133,7 @@ impl<P: Run> Scheduler<P> {
         }
     }
 
-    // A call was made: if it is due at once it has a turn.
+    // Notes a call that was made: if it is due at once its answer has a turn.
     fn note_made(&mut self, call: &Call) -> Result<(), Stop>
         ensures same { self.new.ledger ≡ self.old.ledger }
         ensures memory { IfErr result (λ stop. stop ≡ Stop.Refused LedgerFault.Memory) }
@@ -143,7 +144,7 @@ impl<P: Run> Scheduler<P> {
         }
     }
 
-    // The call with this number has a turn.
+    // Puts the call with this number among those that the order draws.
     fn note_call(&mut self, number: u64) -> Result<(), Stop>
         ensures same { self.new.ledger ≡ self.old.ledger }
         ensures memory { IfErr result (λ stop. stop ≡ Stop.Refused LedgerFault.Memory) }

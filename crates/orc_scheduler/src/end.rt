@@ -1,4 +1,4 @@
-//! How a run ends, and what is told of it.
+//! How a run has ended, and the result that its caller gets.
 
 ghost use Rattle.std.specs.Prelude.{◌≡◌, true, false, is_some, IfOk, IfErr, IfSome, MatchOption};
 ghost use Rattle.orc_rules.specs.Nodes.{definitions, source};
@@ -18,10 +18,10 @@ use orc_outcome::{End, Played};
 use orc_rules::program::Program;
 
 impl<P: Run> Scheduler<P> {
-    /// What is told of the run, which stops so. None where that can't be told without its journal, which isn't kept.
+    /// The result of a run that stops for this reason. None if only a journal can show how the run ended, and it keeps none.
     ///
-    /// The fault is Memory where memory was refused for what is told; Broken where the records show that the run can't end so; Site as the stop says.
-    /// Of a stop with which `go` has answered only Memory comes, if the program is one that the scope check accepted.
+    /// The fault is Memory if memory was refused for the result, Broken if the records contradict the reason, and Site if the reason is Site. If `go`
+    /// gave the reason, and the scope check accepted the program, no fault but Memory comes.
     pub fn finish(
         mut self,
         program: &Program,
@@ -45,7 +45,7 @@ impl<P: Run> Scheduler<P> {
         }
     }
 
-    // How a run ends that stops so. None where that can't be told without its journal, which isn't kept. The fault is Broken where it can't end so.
+    // How a run has ended that stops for this reason; None and Broken as of `finish`.
     fn end(
         &mut self,
         program: &Program,
@@ -63,7 +63,7 @@ impl<P: Run> Scheduler<P> {
             Stop::Refused(LedgerFault::Memory) => Ok(Some(End::Memory)),
             Stop::Refused(LedgerFault::Full) => self.crowded(inputs),
             Stop::Refused(LedgerFault::Limit) => self.cut(program, inputs),
-            // A scheduler's claims are always got.
+            // A fault of a call whose claim another worker may win first. A scheduler makes no such call.
             Stop::Refused(LedgerFault::Unclaimed) => Err(EngineFault::Broken),
             Stop::Broken => Err(EngineFault::Broken),
             Stop::Site(number) => Err(EngineFault::Site(number)),
@@ -83,7 +83,7 @@ impl<P: Run> Scheduler<P> {
         }
     }
 
-    // How a run ends of which it is said that nothing can come next. The fault is Broken where something can.
+    // How a run has ended that stops as Quiet: nothing can come next. The fault is Broken if something can.
     fn quiet(&mut self, inputs: &Inputs<'_, P>) -> Result<Option<End>, EngineFault>
         ensures ended { IfOk result (λ end. MatchOption end (P.keeps ≡ false) (HasEnded P.listing inputs.now.answers.now self.new.ledger)) }
         ensures range { IfErr result (λ fault. fault ≡ EngineFault.Range → ⊥) }
@@ -95,8 +95,8 @@ impl<P: Run> Scheduler<P> {
         }
     }
 
-    // How a run ends for which one of the engine's limits is reached. The journal tells whether one can have been; the fault is Broken where none
-    // can.
+    // How a run has ended that stops as Full: a limit of the engine (tokens, groups, frames) was reached. The journal shows whether one can have
+    // been; the fault is Broken if none can.
     fn crowded(&mut self, inputs: &Inputs<'_, P>) -> Result<Option<End>, EngineFault>
         ensures ended { IfOk result (λ end. MatchOption end (P.keeps ≡ false) (HasEnded P.listing inputs.now.answers.now self.new.ledger)) }
         ensures range { IfErr result (λ fault. fault ≡ EngineFault.Range → ⊥) }
@@ -112,8 +112,8 @@ impl<P: Run> Scheduler<P> {
         }
     }
 
-    // How a run ends whose journal has as many entries as the limit. Mostly the ledger knows whether it is quiet then; where only moves of marks
-    // are left, the rules are asked.
+    // How a run has ended whose journal has as many entries as the limit: Limit, or Quiet if nothing could come next. The ledger mostly knows which;
+    // if only moves of marks (entries that no rule of Orc has) are left, the journal is replayed by the rules.
     fn cut(&mut self, program: &Program, inputs: &Inputs<'_, P>) -> Result<Option<End>, EngineFault>
         requires program { program.now ≡ P.listing }
         ensures ended { IfOk result (λ end. MatchOption end (P.keeps ≡ false) (HasEnded P.listing inputs.now.answers.now self.new.ledger)) }

@@ -11,7 +11,7 @@ use std::fmt;
 pub enum EngineFault {
     /// The limit is 0, or over the most entries that a journal may have; or there is no worker, or over the most that a run may have.
     Range,
-    /// Memory was refused before the run began, or for what is told of it.
+    /// Memory was refused before the run began, or for its result.
     Memory,
     /// The engine is to blame: its workers found nothing to do where something was left. No run is known to end so.
     Broken,

@@ -1,6 +1,6 @@
-//! What is held back of a sub-run whose value alone is wanted: it may not publish, since a `>x>` or a side encloses its call.
+//! The publication that a sub-run holds back if a `>x>` or a side encloses its call: the value goes to that part, and the program doesn't publish it.
 
-/// What a run holds back that is made apart, and whether something can come of it.
+/// The value that a sub-run holds back, and whether the sub-run can still replace its call.
 #[derive(Clone, Copy)]
 pub(crate) struct Holding {
     // Whether what the run publishes is held back.
@@ -32,7 +32,7 @@ impl Holding {
         self.is_on
     }
 
-    /// The token in this slot is held back: nothing can come of the run if another one is.
+    /// Holds back the token in this slot. If another one is held back already, the sub-run becomes unusable.
     pub(crate) fn keep(&mut self, slot: usize) {
         self.is_unusable = self.is_unusable || self.last.is_some();
         self.last = Some(slot);
@@ -43,13 +43,14 @@ impl Holding {
         self.last
     }
 
-    /// The run has made a call that isn't answered at once: nothing can come of it.
+    /// The run has made a call that isn't answered at once, so the sub-run is unusable.
     #[inline(always)]
     pub(crate) fn give_up(&mut self) {
         self.is_unusable = true;
     }
 
-    /// Whether nothing can come of the run: it has made a call that wasn't answered at once, or come to two values where one is wanted.
+    /// Whether the sub-run can't replace its call: it has made a call that wasn't answered at once, or yielded two values though only one can be
+    /// merged.
     pub(crate) fn is_unusable(&self) -> bool {
         self.is_unusable
     }

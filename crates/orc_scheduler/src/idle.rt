@@ -1,5 +1,5 @@
-//! What comes where no token's turn comes: answers that are due, ticks, and what the ledger finds. Calls that are due at once are answered in the
-//! order of their numbers.
+//! What comes next if no token is runnable: the answer of a call that is due, or a tick, or what the ledger finds. Calls that are due at the same
+//! time are answered in the order of their numbers.
 
 ghost use Rattle.std.specs.Prelude.{◌≡◌, ◌≤◌, true, false, IfOk, IfErr};
 ghost use Rattle.std.specs.VecDeque.{deque_len};
@@ -15,7 +15,8 @@ use orc_ledger::{Call, Inputs, LedgerFault, Next, ReturnFault, Run, Token};
 use orc_rules::value::Answer;
 
 impl<P: Run> Scheduler<P> {
-    /// No token's turn comes: an answer that is due, by the table, else a tick, else what the ledger finds. It stops where nothing can come next.
+    /// Goes on with a run in which no token is runnable: by an answer that is due, by the table, else by a tick, else by a token or an empty group
+    /// that the ledger finds. The run stops if nothing can come next.
     pub(crate) fn rest(&mut self, inputs: &Inputs<'_, P>) -> Result<(), Stop>
         ensures advances { IfOk result (λ _. Advances self.old.ledger self.new.ledger) }
         ensures stops { IfErr result (λ stop. Stops P.listing self.new.ledger stop) }
@@ -33,7 +34,8 @@ impl<P: Run> Scheduler<P> {
         self.recover(inputs)
     }
 
-    // Work is left of which no turn tells. No run has come here yet, but nothing else promises that whoever can move has a turn that comes.
+    // Finds work in the ledger: something is left, but the run queue is empty. No run is known to come here, but no contract says that each token
+    // that can move is in the queue.
     #[inline(never)]
     fn recover(&mut self, inputs: &Inputs<'_, P>) -> Result<(), Stop>
         requires due { NoneIsDue self.old.ledger }
@@ -66,7 +68,7 @@ impl<P: Run> Scheduler<P> {
         }
     }
 
-    /// The call that is due with the least number is answered, by the table. Whether there was one.
+    /// Answers the due call with the least number, by the table. False if no call is due.
     pub(crate) fn answer_due(&mut self) -> Result<bool, Stop>
         ensures advances { IfOk result (λ answered. answered ≡ true → Advances self.old.ledger self.new.ledger) }
         ensures none { IfOk result (λ answered. answered ≡ false → (self.new.ledger ≡ self.old.ledger) × NoneIsDue self.old.ledger) }
@@ -110,8 +112,8 @@ impl<P: Run> Scheduler<P> {
         }
     }
 
-    /// No token can move and no call is due: a tick to the time at which the next one is. False where another entry comes next. It stops where
-    /// nothing can come next.
+    /// Ticks to the time at which the next call is due, if no token can move and no call is due now. False if another entry comes next. The run stops
+    /// if nothing can come next.
     pub(crate) fn pass_time(&mut self, inputs: &Inputs<'_, P>) -> Result<bool, Stop>
         ensures advances { IfOk result (λ passed. passed ≡ true → Advances self.old.ledger self.new.ledger) }
         ensures work { IfOk result (λ passed. passed ≡ false → (self.new.ledger ≡ self.old.ledger) × IsAtWork P.listing self.old.ledger) }

@@ -1,11 +1,12 @@
-//! The scheduler of a run that one worker holds: its ledger, the runnable tokens and those that wait, what comes next where no token moves, how the
-//! run ended, and the calls of definitions that others may run apart, that is in parallel, each as a *sub-run* with a ledger of its own.
+//! The scheduler of a run that one worker holds: the run's ledger, a queue of the tokens that can move, and the tokens that wait for cells. It
+//! chooses which token moves next, answers calls and passes time if none can move, and finds how the run ended. It also lists calls of definitions
+//! that other threads may run *apart*, each as a *sub-run* with a ledger of its own, and merges their results.
 //!
-//! A token whose *turn comes* is runnable: its handle is in the run queue. In its turn it moves up to 64 times. A *side* is the right side of a `<x<`
-//! or the left side of a `;` that is open, and a *group* what is in it: tokens, pending calls and groups. Group 0 is the program's own.
+//! A token whose *turn comes* is runnable: its handle is in the run queue. In its turn it moves up to 64 times. A *side* is the right side of an
+//! opened `<x<` or the left side of an entered `;`. Its *group* has the tokens, pending calls and groups in it as members. Group 0 is the program's
+//! own.
 //!
-//! What moves and when is chosen here and by who holds the scheduler; that each entry is one of the rules is the ledger's own invariant, whatever is
-//! chosen.
+//! The scheduler and its caller choose what moves, and when. Whatever they choose, the rules allow each entry: that is the ledger's own invariant.
 #![tactic(auto)]
 
 mod drawn;

@@ -1,5 +1,5 @@
-//! What is shared out of a run: calls of definitions that others run apart, and what comes of them. First tokens are *spread*: each goes on to its
-//! next call of a definition. Then those calls are listed as jobs, and what came of each is taken in.
+//! How a run shares work out to other threads, which run calls of definitions apart. First the scheduler *spreads* tokens: each moves on to its next
+//! call of a definition. Then it lists those calls as jobs for its caller, and merges the result of each.
 
 ghost use Rattle.std.specs.Prelude.{◌≡◌, true, false, IfOk, IfErr};
 ghost use Rattle.std.specs.VecDeque.{deque_len};
@@ -16,20 +16,20 @@ use std::alloc::AllocError;
 /// The most calls that are run apart at a time.
 const MOST_JOBS: usize = 2_000;
 
-/// So many entries are made at most for each token that is to have a turn that comes.
+/// Spreading ends after this many entries for each token that it is to make runnable.
 const EACH: usize = 40;
 
 /// The most rounds of turns in which tokens are spread.
 const ROUNDS: usize = 1_000;
 
-/// Tokens aren't spread where so many sides are open: tokens that go on together keep more sides open than one that goes to its end, and a run is
+/// Tokens aren't spread while this many sides are open. Tokens that go on together keep more sides open than one that goes to its end, and a run is
 /// full at `MOST_GROUPS`.
 const MOST_SIDES: usize = MOST_GROUPS / 2;
 
-/// In a round go on those tokens to which the fewest moves have led, and those with up to so many more.
+/// A round moves the tokens to which the fewest moves have led, and those with up to this many more.
 const NEAR: u32 = 2;
 
-/// So many more turns, from one call of a definition to the next, have the tokens that come of one.
+/// How many turns tokens have, once the rounds are over, to get from between two calls of definitions to the next one.
 const BETWEEN: usize = 4;
 
 /// Jobs are listed by every 16th token: from the oldest one first, then from the 9th oldest, from the 5th, and so on, by `ORDER`. So each stretch of
@@ -40,14 +40,14 @@ const STRIDE: usize = 16;
 const ORDER: [usize; STRIDE] = [0, 8, 4, 12, 2, 10, 6, 14, 1, 9, 5, 13, 3, 11, 7, 15];
 
 impl<P: Run> Scheduler<P> {
-    /// How many entries more the limit has room for.
+    /// How many more entries the limit allows.
     pub fn room(&self) -> usize {
         self.ledger.limit().saturating_sub(self.ledger.entries())
     }
 
-    /// Tokens go on to their next calls of definitions, until `wanted` of them stand ready or `EACH` entries were made for each of these. Those go
-    /// first to which the fewest moves have led: of a tree of calls all that stand ready then are about as deep, and have runs much of one length.
-    /// The error is why the run stops.
+    /// Moves tokens on to their next calls of definitions, until `wanted` tokens are runnable or `EACH` entries were written for each of these.
+    /// Tokens with the fewest moves go first: then the calls of a tree at which tokens stand are about equally deep, and have runs of about the same
+    /// length. The error is why the run stops.
     pub fn spread(&mut self, inputs: &Inputs<'_, P>, wanted: usize) -> Result<(), Stop>
         ensures spread { IfOk result (λ _. HasSpread self.old.ledger (deque_len self.old.ready.handles) self.new.ledger (deque_len self.new.ready.handles)) }
         ensures stops { IfErr result (λ stop. Stops P.listing self.new.ledger stop) }
@@ -61,15 +61,15 @@ impl<P: Run> Scheduler<P> {
             let fewest = self.ready.fewest_moves();
             self.spread_once(inputs, fewest.saturating_add(NEAR))?;
         }
-        // With 0 each token stays that stands at a call, unless no move has led to it: those between two calls go on.
+        // With 0 a token that stands at a call stays there, unless it hasn't moved yet; tokens between two calls go on.
         for _turn in 0..BETWEEN {
             self.spread_once(inputs, 0)?;
         }
         Ok(())
     }
 
-    // Each token to which so many moves have led at most goes on to its next call of a definition, and each that doesn't stand at one, as long as few
-    // sides are open.
+    // Gives each runnable token a turn, which ends at its next call of a definition. A token that stands at such a call stays there if over `moves`
+    // moves have led to it, and every token stays where it is as long as `MOST_SIDES` sides are open.
     fn spread_once(&mut self, inputs: &Inputs<'_, P>, moves: u32) -> Result<(), Stop>
         ensures spread { IfOk result (λ _. HasSpread self.old.ledger (deque_len self.old.ready.handles) self.new.ledger (deque_len self.new.ready.handles)) }
         ensures stops { IfErr result (λ stop. Stops P.listing self.new.ledger stop) }
@@ -87,7 +87,7 @@ impl<P: Run> Scheduler<P> {
         Ok(())
     }
 
-    // Whether the token that has waited longest is to stay: it stands at a call of a definition, and more than so many moves have led to it.
+    // Whether the token that has waited longest is to stay: it stands at a call of a definition, and over `moves` moves have led to it.
     fn is_oldest_settled(&self, graph: &Graph, moves: u32) -> bool {
         let Some(handle) = self.ready.oldest() else {
             return false;
@@ -98,9 +98,10 @@ impl<P: Run> Scheduler<P> {
         }
     }
 
-    /// The calls of definitions with values at which tokens stand whose turn comes, of those that race each other or of the others, `MOST_JOBS` of
-    /// them at most, in a fixed order, in which the first ones are samples of all. Behind these, of those that race that stands first which would
-    /// have its turn first: the others may be in vain. Else tokens that came one after another stand apart. The error is refused memory.
+    /// Lists calls of definitions at which runnable tokens stand and whose arguments have values: those that race other members of their side if
+    /// `races`, else those that don't, at most `MOST_JOBS`. The order of the list is fixed, and its first calls are samples of the whole queue.
+    /// Behind the samples racing calls come in the order in which one worker would run them, since the first value makes the others vain; of calls
+    /// that don't race, those whose tokens came one after another are put apart. The error is refused memory.
     pub fn jobs(
         &self,
         inputs: &Inputs<'_, P>,
@@ -128,8 +129,8 @@ impl<P: Run> Scheduler<P> {
         Ok(jobs)
     }
 
-    // Adds the call at which the token in that place stands, from the one that has waited longest, if it is one of those that are asked for, and
-    // there is room.
+    // Adds the call at which the token in this place of the queue stands (place 0 has waited longest), if it is of the kind that is asked for and the
+    // list has room.
     fn add_job(
         &self,
         inputs: &Inputs<'_, P>,
@@ -149,7 +150,7 @@ impl<P: Run> Scheduler<P> {
         Ok(())
     }
 
-    // The call at which a token stands, if it is there, and races others or doesn't as is asked for.
+    // The call at which a token stands, if the token is still there, and the call races others if `races` or races none if not.
     fn task_of(&self, inputs: &Inputs<'_, P>, handle: Handle, races: bool) -> Option<SubRunTask> {
         let token = self.token_of(handle)?;
         let task = self.ledger.task(inputs, &token)?;
@@ -163,9 +164,9 @@ impl<P: Run> Scheduler<P> {
         group == 0 || self.ledger.member_count(group) == 1
     }
 
-    /// Takes in what came of the call at which a token stood, if it stands there still. If that is a value, the turn of the token on it comes; if it
-    /// is nothing, and nobody else is in the token's side, that halts. Whether it was taken in; where it wasn't nothing changes. The error
-    /// is why the run stops.
+    /// Merges the result of a call's sub-run into the run, if a token still stands at that call, and says whether it did; if it didn't nothing
+    /// changes. If the result has a value the token on it is runnable then. If it has none, and the token's side has no other member, the side halts.
+    /// The error is why the run stops.
     pub fn append_sub_run(
         &mut self,
         inputs: &Inputs<'_, P>,
@@ -192,7 +193,7 @@ impl<P: Run> Scheduler<P> {
         {
             return Ok(false);
         }
-        // Where memory is refused its turn doesn't come, but the ledger knows of the token.
+        // If memory is refused the token isn't in the run queue, but the ledger has it, and `recover` finds it there.
         let _joined = self.join_after(handle.slot, handle.moves);
         self.close(group)?;
         Ok(true)

@@ -1,4 +1,4 @@
-//! Other orders of turns, one for each number: what `--order N` runs.
+//! Pseudo-random orders of turns, one for each number: `--order N` runs a program in order N.
 
 ghost use Rattle.std.specs.Prelude.{◌<◌};
 
@@ -7,34 +7,34 @@ use rand_xoshiro::SplitMix64;
 use rand_xoshiro::rand_core::{Rng, SeedableRng};
 use std::alloc::{AllocError, Global};
 
-/// How many more tokens and calls are drawn for a turn where some go before others.
+/// How many rivals an odd order draws for a turn, beside the first candidate: of all these the one with the highest rank has the turn.
 const RIVALS: u32 = 7;
 
-/// Makes the name of a slot, for a rank, another one than that of a node, which has fewer than 32 bits.
+/// A bit that sets the name of a slot apart from the name of a node, which is under 2^32. Ranks are computed from such names.
 const ON_VALUE: u64 = 1 << 32;
 
-/// So many turns that nobody outside sees may follow one another before one is drawn.
+/// How many turns that nobody outside sees may follow one another before an order draws one.
 const UNSEEN: u32 = 64;
 
-/// An order in which turns come: numbers without a pattern say whose is next.
+/// An order in which turns come: a sequence of pseudo-random numbers says whose turn is next.
 ///
-/// Tokens whose next step nobody outside sees go on at once: such steps commute with all others. So a turn is drawn among those that publish, bind or
-/// call a script's site next, and the calls that are due. In an even order all are alike, so that their moves mix. In an odd one each place of the
-/// program and each call has a rank, and of eight that are drawn the one with the highest goes on: so one part may be far ahead of another. One turn
-/// in sixteen gives other ranks. After Burckhardt, Kothari, Musuvathi and Nagarakatte (2010), who show that few changes of ranks find most of what
-/// hangs on an order.
+/// A token whose next step nobody outside sees goes on without a draw, since such a step commutes with all others. So an order draws among the tokens
+/// that publish, bind or call a script's site next, and the calls that are due. In an even order all of them have the same chance, so their moves
+/// mix. In an odd order each node of the program and each call has a rank. The order draws eight candidates, and the one with the highest rank goes
+/// on, so that one part of the program may be far ahead of another. One turn in sixteen changes all ranks. This follows Burckhardt, Kothari,
+/// Musuvathi and Nagarakatte (2010), who show that few changes of priorities find most bugs that depend on an order.
 #[derive(Drop)]
 pub(crate) struct Order {
     numbers: SplitMix64,
     // The number that was drawn last.
     last: u64,
-    // What the ranks are made of: other bits give other ranks.
+    // The seed from which ranks are computed.
     ranks: u64,
-    // Whether some go before others: in odd orders.
+    // Whether ranks count: in odd orders.
     is_ranked: bool,
-    // So many of the first tokens are known to have a step next that somebody outside sees.
+    // How many tokens at the front of the run queue are *settled*: known to have a next step that somebody outside sees.
     pub(crate) settled: usize,
-    // So many turns that nobody sees have followed one another.
+    // How many turns that nobody outside sees have followed one another.
     unseen: u32,
     // The calls that came due, of which some may have been answered or cancelled.
     pub(crate) calls: Vec<u64>,
@@ -54,7 +54,7 @@ impl Order {
         }
     }
 
-    /// Draws a place among so many, from 0; 0 where there is none.
+    /// Draws a place under `count`; 0 if `count` is 0.
     pub(crate) fn draw(&mut self, count: usize) -> usize
         ensures { 0 < count → result < count }
     {
@@ -63,12 +63,12 @@ impl Order {
         (self.last % most) as usize
     }
 
-    /// How many more are drawn for a turn. Now and then the ranks are others from then on.
+    /// How many rivals are drawn for this turn: none in an even order. In one turn of sixteen it also changes the ranks.
     pub(crate) fn rivals(&mut self) -> u32 {
         if !self.is_ranked {
             return 0;
         }
-        // The one turn in sixteen, by high bits: the low ones have told the place.
+        // High bits choose the one turn in sixteen, since the low ones have chosen the place.
         if (self.last >> 32) % 16 == 0 {
             self.ranks = self.last;
         }
@@ -92,13 +92,13 @@ impl Order {
         }
     }
 
-    // A number without a pattern that the name and `ranks` fix.
+    // A pseudo-random number that depends on the name and on `ranks` alone.
     fn rank_of(&self, name: u64) -> u64 {
         SplitMix64::seed_from_u64(self.ranks ^ name).next_u64()
     }
 
-    /// Whether one of so many tokens goes on without a draw. After `UNSEEN` turns one is drawn, so that a token whose steps nobody ever sees starves
-    /// none.
+    /// Whether the newest of `count` tokens goes on without a draw: it isn't settled. After `UNSEEN` such turns in a row one is drawn all the same,
+    /// so that a token whose steps nobody ever sees doesn't starve the others.
     pub(crate) fn goes_unseen(&mut self, count: usize) -> bool {
         if self.settled < count && self.unseen < UNSEEN {
             self.unseen += 1;

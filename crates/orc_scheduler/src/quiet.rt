@@ -12,8 +12,8 @@ use orc_rules::answers::Answers;
 use orc_rules::program::Program;
 use std::alloc::Global;
 
-/// Whether a run with this journal is quiet, by the rules alone: each entry is applied to the marked term. None where memory is refused, or an entry,
-/// which no journal of a ledger has.
+/// Whether a run with this journal is quiet, by the rules alone: it applies each entry to the marked term. None if memory is refused, or if the
+/// marked term refuses an entry, as it does in no journal of a ledger.
 pub(crate) fn is_quiet_at(
     alloc: Global,
     program: &Program,

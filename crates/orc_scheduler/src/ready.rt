@@ -14,14 +14,15 @@ use std::collections::VecDeque;
 pub struct Handle {
     pub(crate) slot: usize,
     pub(crate) serial: u64,
-    /// How many moves have led to the token, one after another. The fewer, the more may come of it.
+    /// The number of moves, one after another, by which the run came to this token. In a tree of calls a token with few moves stands near the root,
+    /// so that most of the work may be below it.
     pub(crate) moves: u32,
 }
 
-/// One turn in so many is that of the token which has waited longest.
+/// How many turns a round has. One turn of each round is that of the token which has waited longest.
 const ROUND: u64 = 64;
 
-/// So often a token goes on in its turn, each time as far as the ledger takes it in one go.
+/// The most moves of a token in one turn. The ledger may write several entries in one move.
 pub(crate) const MOVES: u32 = 64;
 
 /// The tokens whose turn comes. The one that came last goes first, so that few live at a time; but one turn in each round is that of the
@@ -44,7 +45,7 @@ pub(crate) enum Drawn {
     Call(u64),
 }
 
-// The rank of what stands in a place: tokens come first, then calls.
+// The rank of the token or call at this place of a draw. Places count the tokens first, then the calls that are due.
 fn rank_at<P: Run>(
     handles: &VecDeque<Handle>,
     ledger: &Ledger<P>,
@@ -139,7 +140,7 @@ impl Ready {
             .unwrap_or(0)
     }
 
-    /// Takes the token whose turn it is: where they spread, always the one that has waited longest.
+    /// Takes a token out of the queue: the newest one, but once a round, and always if the tokens spread, the one that has waited longest.
     #[inline(always)]
     pub(crate) fn take(&mut self, spreads: bool) -> Option<Handle>
         ensures { MatchOption result (deque_len self.new.handles ≤ deque_len self.old.handles) (λ _. deque_len self.new.handles + 1 ≡ deque_len self.old.handles) }
@@ -235,8 +236,7 @@ impl Ready {
         }
         match self.handles.swap_remove_back(at) {
             Some(handle) => {
-                // The last token has taken the drawn one's place. If `UNSEEN` turns have gone by it may not be settled; it waits for a draw all the
-                // same then.
+                // `swap_remove_back` has moved the last token into the place of the drawn one; there are never more settled tokens than tokens.
                 order.settled = order.settled.min(self.handles.len());
                 Some(Drawn::Token(handle))
             }

@@ -1,5 +1,5 @@
-//! The records of a run and what is done with them: tokens have their turns, calls are made, groups halt. Each call that goes on brings the run
-//! nearer its end (`IsNearer`, `Advances`), and each stop has a cause (`Stops`, both in `specs/Stops.antt`).
+//! The scheduler itself: it gives tokens their turns, makes their calls, and halts groups. Each function that goes on with a run brings it nearer its
+//! end (`IsNearer`, `Advances`), and each stop has a cause (`Stops`, all in `specs/Stops.antt`).
 
 ghost use Rattle.std.specs.Prelude.{◌≡◌, ◌≤◌, ◌<◌, ◌+◌, ◌^◌, ℕ, true, false, IfOk, IfErr, IfSome, IfNone, OnErr};
 ghost use Rattle.std.specs.VecDeque.{deque_len};
@@ -46,7 +46,7 @@ pub enum Stop {
     Halted,
     /// Its term hasn't halted, and nothing can come next.
     Quiet,
-    /// An entry was refused, or memory for what is noted of it.
+    /// The ledger refused an entry, or memory was refused for the scheduler's own lists.
     Refused(LedgerFault),
     /// Something is left, and nobody found what to do. No run of a program that the scope check accepted stops so on one worker.
     Broken,
@@ -84,13 +84,13 @@ pub struct Scheduler<P: Run> {
     /// The tokens whose turn comes.
     pub ready: Ready,
     waiting: Waiting,
-    // Whether a token enters a `>x>` and goes through it in one go, by `feed_through`. Not so in an order.
+    // Whether one move may take a token into a `>x>` and on through it, by `feed_through`. Not so in a run with an order.
     goes_through: bool,
-    // Whether a token's turn ends at the next call of a definition, and the one that has waited longest goes first.
+    // Whether tokens spread: a turn ends at the next call of a definition, and the token that has waited longest goes first.
     pub(crate) spreads: bool,
-    // How many moves have led to the token whose turn it is, one after another.
+    // How many moves, one after another, have led to the token whose turn it is.
     moves: u32,
-    // What is held back of a sub-run.
+    // What this run holds back of its output if it is a sub-run.
     pub(crate) holding: Holding,
     // Four lists that the ledger's calls fill. They stay here so that their memory is used again.
     scopes: Vec<StoredScope>,
@@ -211,8 +211,8 @@ impl<P: Run> Scheduler<P> {
         }
     }
 
-    /// A token's turn or, where no token's turn comes, what else comes next. So a run is nearer its end each time: its entries are more, or as many
-    /// and its groups fewer, or as many and the turns that come fewer. The error is why the run stops.
+    /// Gives a token its turn or, if no token is runnable, does what else comes next. Each time the run is nearer its end: it has more entries, or as
+    /// many and fewer open groups, or as many of both and a shorter run queue. The error is why the run stops.
     pub fn go(&mut self, inputs: &Inputs<'_, P>) -> Result<(), Stop>
         ensures nearer { IfOk result (λ _. IsNearer self.old.ledger (deque_len self.old.ready.handles) self.new.ledger (deque_len self.new.ready.handles)) }
         ensures within { self.new.ledger.entries ≤ self.new.ledger.limit }
@@ -230,7 +230,7 @@ impl<P: Run> Scheduler<P> {
         went
     }
 
-    /// A token's turn, or an answer that is due. False where there is neither.
+    /// Gives a token its turn or, between two rounds, answers a call that is due. False if it finds neither; it never lets time pass.
     pub(crate) fn go_now(&mut self, inputs: &Inputs<'_, P>) -> Result<bool, Stop>
         ensures nearer { IfOk result (λ went. went ≡ true → IsNearer self.old.ledger (deque_len self.old.ready.handles) self.new.ledger (deque_len self.new.ready.handles)) }
         ensures within { self.new.ledger.entries ≤ self.new.ledger.limit }
@@ -247,8 +247,8 @@ impl<P: Run> Scheduler<P> {
         went
     }
 
-    /// The turn of a token: it moves until it is gone, waits, or has made its moves. Between two rounds of 64 turns that of a call which is due: else
-    /// tokens that move on and on would starve it.
+    /// Gives a token its turn: it moves until it is gone, waits, or has made its moves. Between two rounds of 64 turns it answers a call that is due
+    /// instead, which tokens that move on and on would starve otherwise.
     pub(crate) fn turn(&mut self, inputs: &Inputs<'_, P>) -> Result<Turn, Stop>
         ensures turned { IfOk result (λ turn. HasTurned self.old.ledger (deque_len self.old.ready.handles) self.new.ledger (deque_len self.new.ready.handles) turn) }
         ensures stops { IfErr result (λ stop. Stops P.listing self.new.ledger stop) }
@@ -269,7 +269,8 @@ impl<P: Run> Scheduler<P> {
         Ok(Turn::Went)
     }
 
-    /// The token of a handle that was taken moves until it is gone, waits, or has made its moves, and then its turn comes again.
+    /// Moves the token of a handle that was taken from the run queue, until it is gone, waits, is held back, or its turn is over. In the last case it
+    /// goes back into the queue.
     pub(crate) fn move_on(&mut self, inputs: &Inputs<'_, P>, handle: Handle) -> Result<(), Stop>
         ensures nearer { IfOk result (λ _. IsNearer self.old.ledger (deque_len self.old.ready.handles + 1) self.new.ledger (deque_len self.new.ready.handles)) }
         ensures stops { IfErr result (λ stop. Stops P.listing self.new.ledger stop) }
@@ -299,8 +300,8 @@ impl<P: Run> Scheduler<P> {
         self.join(slot, token.serial)
     }
 
-    // Whether a token that has moved goes on in a later turn: where tokens spread at the next call of a definition, and in an order at the next step
-    // that somebody outside sees.
+    // Whether the turn of a token that has moved ends here: at a call of a definition if tokens spread, and in an order before a step that somebody
+    // outside sees.
     #[inline(always)]
     fn is_turn_over(&self, inputs: &Inputs<'_, P>, token: &Token) -> bool {
         if self.spreads {
@@ -318,7 +319,8 @@ impl<P: Run> Scheduler<P> {
             && matches!(self.ledger.what(inputs, token), Action::Publish(_))
     }
 
-    // Tokens that are gone wait no more before the one that has waited longest: many may go at once, and their turns would take all rounds.
+    // Drops the handles of gone tokens from the front of the run queue. A bind may drop many tokens at once, and only one turn in each round would
+    // take one of their handles from there.
     fn sweep(&mut self)
         ensures same { self.new.ledger ≡ self.old.ledger }
         ensures fewer { deque_len self.new.ready.handles ≤ deque_len self.old.ready.handles }
@@ -361,7 +363,7 @@ impl<P: Run> Scheduler<P> {
         }
     }
 
-    /// The turn of the token in a slot comes, if there is one, to which so many moves have led.
+    /// Puts the token in a slot into the run queue, if there is one, as a token to which `moves` moves have led.
     pub(crate) fn join_after(&mut self, slot: usize, moves: u32) -> Result<(), Stop>
         ensures same { self.new.ledger ≡ self.old.ledger }
     {
@@ -382,7 +384,7 @@ impl<P: Run> Scheduler<P> {
         ensures waits { IfOk result (λ step. step ≡ Step.Waits → IsProgram (definitions P.listing) (source P.listing) → is_wait (what_of (code P.listing) (definitions P.listing) self.old.ledger token) ≡ true) }
         ensures stops { IfErr result (λ stop. Stops P.listing self.new.ledger stop) }
     {
-        // Room for a token that comes beside it, before anything changes.
+        // Makes room in the queue for a token that the move may add, before anything changes.
         if self.ready.reserve().is_err() {
             return Err(Stop::Refused(LedgerFault::Memory));
         }
@@ -434,8 +436,8 @@ impl<P: Run> Scheduler<P> {
         }
     }
 
-    // One move of a token at a call, at `f | g`, at `stop` or at `f >x> g`, which it enters and goes through in one go, in place of `pass_on`, which
-    // is slower, since it tells of a move of any kind. None, which changes nothing, where the token stands elsewhere, where it can't move, and in an
+    // One move of a token at the commonest nodes: a call, `f | g`, `stop`, and `f >x> g`, which it enters and goes through in one move. It is a
+    // faster form of `pass_on`, which serves moves of any kind. None, with nothing changed, if the token stands elsewhere or can't move, and in an
     // order at a call of a site or at `f >x> g`.
     #[inline(always)]
     fn step_at(
@@ -543,7 +545,7 @@ impl<P: Run> Scheduler<P> {
         }
     }
 
-    // A token moves once, by the ledger; nothing is noted of it here.
+    // Lets the ledger move a token once. The caller does the rest: it fills the run queue, wakes tokens and closes groups.
     #[inline(always)]
     fn pass(
         &mut self,
@@ -566,8 +568,8 @@ impl<P: Run> Scheduler<P> {
             .advance(inputs, slot, token, &mut self.scopes, &mut self.cancelled)
     }
 
-    // The tokens of a pruning's sides stand in these slots: the right one goes on, so that its group may be gone before the left side opens more, and
-    // the turn of the left one comes.
+    // The tokens of a pruning's two sides stand in these slots. The right one goes on, so that its group may be gone before the left side opens more;
+    // the left one goes into the run queue.
     #[inline(always)]
     fn part(&mut self, left: usize, right: usize) -> Result<Step, Stop>
         ensures same { self.new.ledger ≡ self.old.ledger }
@@ -601,7 +603,7 @@ impl<P: Run> Scheduler<P> {
         }
     }
 
-    // How the token in a slot goes on that has made a call of a site.
+    // How the token in a slot goes on after its call of a site.
     #[inline(always)]
     fn after_call(&mut self, slot: usize, called: Called) -> Result<Step, Stop>
         ensures goes { IfOk result (λ step. Goes self.old.ledger self.new.ledger × (step ≡ Step.Waits → ⊥)) }
@@ -620,7 +622,7 @@ impl<P: Run> Scheduler<P> {
         }
     }
 
-    // The token in a slot waits for each of its cells.
+    // Enters the token in a slot as waiting for each cell that it needs.
     fn wait(&mut self, inputs: &Inputs<'_, P>, slot: usize) -> Result<(), Stop>
         ensures same { self.new.ledger ≡ self.old.ledger }
         ensures fewer { deque_len self.new.ready.handles ≤ deque_len self.old.ready.handles }
@@ -649,7 +651,7 @@ impl<P: Run> Scheduler<P> {
         Ok(())
     }
 
-    // The turns of those that wait for this cell come. The error is refused memory.
+    // Puts the tokens that wait for this cell into the run queue. The error is refused memory.
     fn wake(&mut self, cell: u64) -> Result<(), Stop>
         ensures same { self.new.ledger ≡ self.old.ledger }
         ensures memory { IfErr result (λ stop. stop ≡ Stop.Refused LedgerFault.Memory) }

@@ -1,5 +1,5 @@
-//! Whether one of the engine's limits can have ended a run: its journal is counted, since the ledger has only what is left. A run that is full has
-//! had at least as many such entries as the limit says.
+//! Whether one of the engine's limits (tokens, groups, frames) can have ended a run. The ledger has only the records that are left, so the entries of
+//! the journal are counted: a run that is full has at least as many entries that bring a token, open a side or enter a `>x>` as the limit says.
 
 ghost use Rattle.std.specs.Prelude.{◌≡◌, ◌≤◌, ◌↔◌, true};
 ghost use Rattle.orc_journal.specs.Sizes.{brings, feeds, opens, total, IsCrowded};
@@ -8,7 +8,7 @@ use orc_journal::Journal;
 use orc_rules::entry::Entry;
 use orc_rules::limits::{MOST_FRAMES, MOST_GROUPS, MOST_TOKENS};
 
-// How many entries of a journal bring a token more, open a side, and enter the left side of a `>x>`.
+// How many entries of a journal add a token (`brought`), open a side (`opened`), and enter the left side of a `>x>` (`fed`).
 #[derive(Clone, Copy)]
 struct Sizes {
     brought: usize,

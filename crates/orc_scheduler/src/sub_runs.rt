@@ -1,4 +1,4 @@
-//! Calls of definitions whose runs are made apart: each by a scheduler and a ledger of its own, on whichever thread it is.
+//! Sub-runs: a call of a definition runs apart from the run that makes it, with a scheduler and a ledger of its own, on any thread.
 
 ghost use Rattle.std.specs.Prelude.{◌≡◌, ◌≤◌, IfSome};
 ghost use Rattle.orc_rules.specs.declared.limits.TheConstants.{MOST_ENTRIES};
@@ -14,23 +14,24 @@ use std::alloc::Global;
 use std::marker::Brand;
 use std::mem;
 
-/// What came of a call's sub-run.
+/// The result of a call's sub-run.
 #[derive(Drop)]
 pub enum SubRunResult<P: Run> {
-    /// Nothing: nobody has run it, it can't stand for the call, or memory was refused.
+    /// No result: nobody has run the call, its sub-run can't replace it in the run, or memory was refused.
     Nothing,
-    /// It has more entries than it may have.
+    /// The sub-run stopped at its limit of entries.
     Long,
-    /// It can stand for the call: it is over, with all that an outermost call publishes, or it has come to one value, or to none.
+    /// The sub-run can replace the call. That of an *outermost* call, whose publications are the program's, has published all that the call does; any
+    /// other has yielded one value or none.
     Over(SubRun<P>),
 }
 
-/// A call at which a token stands, and what came of its run.
+/// A call at which a token stands, and the result of its sub-run.
 #[derive(Drop)]
 pub struct SubRunJob<P: Run> {
     handle: Handle,
     task: SubRunTask,
-    // Whether others are in the same side, so that a value which comes first may make the rest vain.
+    // Whether the token's side has other members: the first value of a pruning's side drops them, and the work done for them is in vain.
     races: bool,
     came: SubRunResult<P>,
 }
@@ -51,12 +52,13 @@ impl<P: Run> SubRunJob<P> {
         self.handle
     }
 
-    /// What came of its run.
+    /// The result of its sub-run.
     pub fn came(&self) -> &SubRunResult<P> {
         &self.came
     }
 
-    /// Whether it races others, and those behind it may be in vain: it has yielded a value, or it can't be run apart, so that nobody knows.
+    /// Whether the call races others, and to run those behind it may be in vain: its sub-run has yielded a value, or it has no result, so that nobody
+    /// knows whether the call will yield one.
     pub fn has_won(&self) -> bool {
         self.races
             && match &self.came {
@@ -66,7 +68,7 @@ impl<P: Run> SubRunJob<P> {
             }
     }
 
-    /// Takes what came of its run out of the job, which has Nothing then.
+    /// Takes the result out of the job, and leaves `Nothing` there.
     pub fn take(&mut self) -> SubRunResult<P> {
         mem::replace(&mut self.came, SubRunResult::Nothing)
     }
@@ -80,7 +82,7 @@ impl<P: Run> SubRunJob<P> {
     }
 }
 
-// What comes of a task's run: its program is the call alone, over the definitions of the run's program.
+// Makes the sub-run of a task: its program is the call alone, with the definitions of the run's program.
 fn came_of<P: Run>(
     alloc: Global,
     inputs: &Inputs<'_, P>,
@@ -100,7 +102,7 @@ fn came_of<P: Run>(
     run_apart::<Brand, P>(alloc, &own, inputs.answers, keeps, task, limit)
 }
 
-// Q names the sub-run, whose program is `graph`, and P the run to which it belongs.
+// Makes the sub-run over its graph. The type Q names the sub-run, whose program is `graph`, and P the run to which it belongs.
 fn run_apart<Q: Run, P: Run>(
     alloc: Global,
     graph: &Graph,
@@ -123,7 +125,7 @@ fn run_apart<Q: Run, P: Run>(
         return SubRunResult::Nothing;
     };
     let mut scheduler = Scheduler::new(alloc, ledger, keeps);
-    // What an outermost call publishes, the program publishes. Of another one the value is wanted, so it is held back.
+    // What an outermost call publishes, the program publishes. The value of any other call goes to what encloses the call, so it is held back here.
     if !task.is_outermost {
         scheduler.holding.begin();
     }
@@ -141,7 +143,7 @@ fn run_apart<Q: Run, P: Run>(
     }
 }
 
-// Turns until nothing can be done at once, the run stops, or nothing can come of it. Whether its limit has stopped it.
+// Gives turns until no token is runnable, the sub-run stops, or it can't replace its call any more. Says whether its limit has stopped it.
 fn run_until_cut<Q: Run>(scheduler: &mut Scheduler<Q>, inputs: &Inputs<'_, Q>) -> bool {
     if scheduler.begin().is_err() {
         return false;

@@ -1,4 +1,4 @@
-//! What is told of a run at its end.
+//! The result of a run: how it ended, what it published, and its journal.
 
 ghost use Rattle.std.specs.Prelude.{◌≡◌, true, is_some, IfOk, IfSome};
 ghost use Rattle.orc_rules.specs.Trace.{published};
@@ -31,7 +31,7 @@ fn kept<P: Run>(
     Ok((values, Some(journal)))
 }
 
-/// What is told of a run that has ended so, with its journal where it `keeps` one. The error is refused memory.
+/// The result of a run that has ended so, with its journal if it `keeps` one. The error is refused memory.
 pub(crate) fn played<P: Run>(
     alloc: Global,
     ledger: Ledger<P>,

@@ -48,7 +48,8 @@ impl Waiting {
         self.links.get((place - 1) as usize).copied()
     }
 
-    // Puts a link where one is free, else behind the others. Gives its place, or refuses where the next one has no 32 bits.
+    // Stores a link in a free place, else behind the others, and gives its place. Refuses if a new place needs more than 32 bits, or memory is
+    // refused.
     fn put(&mut self, link: Link) -> Result<u32, AllocError> {
         let place = self.free;
         if let Some(free) = self.link_at(place) {
@@ -83,7 +84,7 @@ impl Waiting {
         Ok(())
     }
 
-    /// All that wait for a cell wait for it no more: their turn comes. The error is refused memory; some of them wait still then.
+    /// Moves the tokens that wait for a cell into the run queue. The error is refused memory; some of them still wait then.
     pub(crate) fn wake(&mut self, cell: u64, ready: &mut Ready) -> Result<(), AllocError> {
         let cell = cell as usize;
         let mut place = match self.heads.get(cell) {

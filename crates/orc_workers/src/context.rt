@@ -11,7 +11,7 @@ use std::alloc::Global;
 use std::sync::atomic::{AtomicU64, Ordering};
 use std::sync::{Condvar, Mutex, Wait};
 
-/// The run under its lock, the condition variable that wakes workers at rest, and whom the workers ask.
+/// What all workers of a run share: the run under its lock, the condition variable that wakes workers at rest, and the sites and the gate.
 #[derive(Drop)]
 pub(crate) struct Context<'h, P: Run + Naming, S: Sites, G: Gate> {
     pub alloc: Global,
@@ -20,7 +20,7 @@ pub(crate) struct Context<'h, P: Run + Naming, S: Sites, G: Gate> {
     // Why the run stops. It is bound under the lock, and read without it.
     pub why: &'h Cell<Stop>,
     pub wakeups: &'h Condvar,
-    // How many workers have found nothing, and look round a last time or rest.
+    // How many workers have found no work, and look into the queues a last time or rest.
     pub idle: &'h AtomicU64,
     pub sites: &'h S,
     pub gate: &'h G,
@@ -42,17 +42,18 @@ impl<P: Run + Naming, S: Sites, G: Gate> Context<'_, P, S, G> {
         self.wakeups.notify_all();
     }
 
-    /// So many of those that rest have to look again.
+    /// Has `count` workers at rest look for work again.
     pub(crate) fn wake(&self, shared: &mut Shared<P, S::Call>, count: usize) {
-        // Who looked before compares this number before it sleeps, and looks again. A wrap would need 2^64 offers in between.
+        // A worker that has looked before compares this number before it sleeps, and looks again if it differs. A wrap would need 2^64 offers in
+        // between.
         shared.offers = shared.offers.wrapping_add(1);
         for _ in 0..count.min(shared.resting as usize) {
             self.wakeups.notify_one();
         }
     }
 
-    /// So many tokens were put into a queue: as many of those that rest are woken. Who has found nothing before has added itself to `idle` before it
-    /// looked into the queue again, so one of both sees the other.
+    /// Wakes workers at rest for `count` tokens that were put into a queue. A worker that finds nothing adds itself to `idle` before it looks into
+    /// the queues once more. So either it sees the tokens, or this call sees the worker in `idle`.
     pub(crate) fn offer<R: Wait>(&self, rt: &R, count: usize) {
         if self.idle.load(Ordering::SeqCst) > 0 {
             let mut shared = self.shared.lock(rt);
@@ -60,14 +61,14 @@ impl<P: Run + Naming, S: Sites, G: Gate> Context<'_, P, S, G> {
         }
     }
 
-    // Before a worker goes outside, where it may wait for others: somebody else has to take a call that is due, if there is one.
+    // Wakes another worker for a call that is due, if there is one, before this worker goes outside the lock and may wait there.
     fn leave_due(&self, shared: &mut Shared<P, S::Call>) {
         if self.may_wait && shared.find_due().is_some() {
             self.wake(shared, 1);
         }
     }
 
-    /// What there is for a worker without a token, and how often something had been offered by then.
+    /// The work that there is for a worker without a token, and the number of offers so far.
     pub(crate) fn look<R: Wait>(&self, rt: &R) -> (OutsideWork<S::Call>, u64) {
         let mut shared = self.shared.lock(rt);
         let work = shared.look(self.setup.inputs);
@@ -75,15 +76,16 @@ impl<P: Run + Naming, S: Sites, G: Gate> Context<'_, P, S, G> {
         (work, shared.offers)
     }
 
-    /// Before a worker leaves the lock under which the run may have stopped: those that rest have to know. Others that read of the end without the
-    /// lock wake nobody.
+    /// Wakes all workers at rest if the run has stopped. A worker calls this before it leaves a lock under which it may have stopped the run. Workers
+    /// that read of the end without the lock wake nobody.
     pub(crate) fn wake_at_end(&self, shared: &Shared<P, S::Call>) {
         if shared.is_over() {
             self.wakeups.notify_all();
         }
     }
 
-    /// Before a worker leaves the lock with this work: those that rest have to know of the end, and of what a worker leaves that goes outside.
+    /// Wakes workers at rest before this worker leaves the lock with this work: all of them if the run has stopped, and one for a call that is due if
+    /// this worker goes outside.
     pub(crate) fn tell(&self, shared: &mut Shared<P, S::Call>, work: &OutsideWork<S::Call>) {
         self.wake_at_end(shared);
         match work {
@@ -92,8 +94,8 @@ impl<P: Run + Naming, S: Sites, G: Gate> Context<'_, P, S, G> {
         }
     }
 
-    /// Rests until something was offered since `seen`, or the run is over. The last one doesn't rest: where it finds nothing either, nobody has what
-    /// is left.
+    /// Rests until something was offered since `seen`, or the run is over. The last worker doesn't rest: if it finds nothing either, no worker has
+    /// what is left, and the run stops.
     pub(crate) fn rest<R: Wait>(&self, rt: &R, seen: u64) -> OutsideWork<S::Call> {
         let mut shared = self.shared.lock(rt);
         if shared.offers != seen {

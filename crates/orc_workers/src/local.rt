@@ -4,7 +4,7 @@ use orc_book::{Births, Needs, StepOut, Token};
 use orc_word::{Groups, Last, Naming, Pass, Supply};
 use std::alloc::Global;
 
-/// How many passes to the group in which a worker is are kept for the next forks there.
+/// How many passes to the group of the token that it moved last a worker keeps, for the next forks there.
 const MOST_NEAR: usize = 64;
 
 /// The tokens that are out with a worker and in no queue, the one that moves next last; the passes that it has to leave and the calls of whose
@@ -12,7 +12,7 @@ const MOST_NEAR: usize = 64;
 pub(crate) struct Local<P: Naming> {
     pub out: StepOut<P>,
     pub births: Births<P>,
-    // The word of the group in which the worker is, which all passes in `births.same` name; none where it is in none.
+    // The word of the group *in which the worker is*, that of the token that it moved last, if any. All passes in `births.same` name it.
     word: Option<u32>,
     // Idle passes.
     supply: Supply<P>,
@@ -72,7 +72,8 @@ impl<P: Naming> Local<P> {
         }
     }
 
-    /// The worker goes on in the group of this word, or in none: those for births in another group are to be left.
+    /// The worker goes on in the group of this word, or in none. If that is another one than before, it has to leave the passes for births in the old
+    /// one.
     pub(crate) fn go_to(&mut self, word: Option<u32>) {
         if self.word == word {
             return;
@@ -87,7 +88,7 @@ impl<P: Naming> Local<P> {
         self.word = word;
     }
 
-    /// Has passes for the births of a token with this pass, in whose group the worker is.
+    /// Gets the passes that the births of a move need, if the worker has none. `with` is the pass of the token that moves, in the worker's group.
     pub(crate) fn prepare(&mut self, groups: &Groups<P>, needs: Needs, with: &Pass<P>) {
         if needs.same > 0 && self.births.same.is_empty() {
             let same = self.same(groups, with);
@@ -99,7 +100,7 @@ impl<P: Naming> Local<P> {
         }
     }
 
-    // A pass to the same group: one that is to be left, if the last one names it, else one that enters it.
+    // A pass to the same group: the last of the passes that are to be left, if it names that group, else a new one that enters it.
     fn same(&mut self, groups: &Groups<P>, with: &Pass<P>) -> Option<Pass<P>> {
         let word = with.group();
         if word.is_none() {

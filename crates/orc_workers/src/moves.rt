@@ -25,7 +25,7 @@ pub(crate) enum Step {
 }
 
 impl<P: Run + Naming, C: Drop> Shared<P, C> {
-    /// One move of a token that is out with a worker: what comes of it is with the worker then.
+    /// One move of a token that is out with a worker. The worker gets the tokens and passes that come of it.
     pub(crate) fn step(
         &mut self,
         setup: &Setup<'_, P>,
@@ -80,7 +80,7 @@ impl<P: Run + Naming, C: Drop> Shared<P, C> {
                 local.put(token.pass);
                 Step::On
             }
-            // With fewer killed groups it isn't for want of a word.
+            // The fault can be for want of a word only if killed groups use this many.
             BookFault::Full if self.book.dying() >= MOST_GROUPS => {
                 local.hold(token);
                 Step::Full
@@ -103,7 +103,7 @@ impl<P: Run + Naming, C: Drop> Shared<P, C> {
         }
     }
 
-    // What stood inside the cell's right side goes, its calls among it; those that wait for the cell go on.
+    // Binds a cell: the tokens and calls of the pruning's right side are dropped, and the tokens that wait for the cell go on.
     fn bind(
         &mut self,
         setup: &Setup<'_, P>,
@@ -126,7 +126,7 @@ impl<P: Run + Naming, C: Drop> Shared<P, C> {
         }
     }
 
-    // The calls that the last bind has cancelled wait no more, and the sites are to be told.
+    // Drops the calls that the last bind has cancelled, and notes that the worker has to tell the sites.
     fn drop_cancelled(&mut self, local: &mut Local<P>) {
         for number in self.cancelled.iter() {
             self.pending.remove(number);
@@ -161,7 +161,7 @@ impl<P: Run + Naming, C: Drop> Shared<P, C> {
         }
     }
 
-    /// A call was answered, if it still pends: a token on the answer is with this worker, or the call's pass is to be left.
+    /// Enters the answer of a call, if it still pends. This worker gets the token on the answer, or, if the call has halted, its pass to leave.
     pub(crate) fn answer(&mut self, local: &mut Local<P>, number: u64, answer: Answer) {
         match self.book.returned(number, answer) {
             Ok(Answered::Token(token)) => local.hold(token),
@@ -174,7 +174,8 @@ impl<P: Run + Naming, C: Drop> Shared<P, C> {
     }
 }
 
-// The left side of `f | g` goes on first; but the right side of a pruning, so that its group may be gone before the left side opens more.
+// After a fork, has the left side of `f | g` move first. Of a pruning the right side moves first, so that its group may be gone before the left side
+// opens more.
 fn turn_last_two<P: Naming>(local: &mut Local<P>) {
     let count = local.out.born.len();
     if count >= 2 {

@@ -25,7 +25,7 @@ impl RandomSource for Fixed {
 #[derive(Clone, Copy)]
 pub(crate) enum Polled {
     Answered(Answer),
-    /// It is answered then.
+    /// It has no answer yet, and says when it is due.
     Waits(Due),
     /// It is due and has no answer.
     Late,

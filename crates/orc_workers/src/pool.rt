@@ -1,4 +1,4 @@
-//! Several workers: the calling thread, and others beside it.
+//! Runs a program on several workers: the calling thread, and others beside it.
 
 ghost use Rattle.std.specs.Prelude.{◌≡◌, ◌≤◌, ◌*◌, ◌↔◌, true, Err, is_some, IfOk, IfErr};
 ghost use Rattle.orc_rules.specs.declared.limits.TheConstants.{MOST_ENTRIES, MOST_GROUPS, MOST_WORKERS};
@@ -35,10 +35,10 @@ use std::sync::{Condvar, Mutex, Wait};
 use std::thread;
 use std::thread::{Scope, Threads};
 
-/// The words of groups: beside the open ones as many killed ones may have one, until their last passes are left.
+/// How many words of groups there are: one for each group that may be open, and as many for killed groups whose last passes aren't left yet.
 const WORDS: u32 = 2 * MOST_GROUPS as u32;
 
-/// The passes of each worker: more than the entries of a run take. With those of 16 workers they are fewer than 2^31, as `Unnamed::new` asks.
+/// How many passes each worker has: more than the entries of a run need. Those of 16 workers together are under 2^31, as `Unnamed::new` requires.
 const PASSES: u32 = 4 * MOST_ENTRIES as u32;
 
 /// How a run is made.
@@ -52,16 +52,16 @@ pub struct RunOptions {
     pub limit: u64,
 }
 
-/// Runs a program on the calling thread and `options.workers - 1` more, which hold its tokens; one that can't be started is left out. What is run and
-/// what it answers is as of [`run_alone`](orc_engine::run_alone), whatever the workers do when.
+/// Runs a program on the calling thread and `options.workers - 1` more, which hold its tokens; a thread that can't be started is left out. The result
+/// is that of a run as [`run_alone`](orc_engine::run_alone) makes it, in any schedule of the workers.
 ///
-/// Each call goes through `gate`, is made by `sites` and polled outside every lock; and `sites` is told which ones are cancelled. The journal is kept
-/// then, whatever `options.keeps` says. Where the sites go by the table and the gate is open, nobody is asked, and it is a run of
+/// Each call passes `gate`, and `sites` makes it; the worker polls it outside every lock, and tells `sites` which calls are cancelled. Then the
+/// journal is kept, whatever `options.keeps` says. If the sites go by the table and the gate is open, neither is asked, and the run is one of
 /// [`run_parallel`](orc_engine::run_parallel).
 ///
-/// The fault is Range where there are no workers or over `MOST_WORKERS`, or the limit is 0 or over `MOST_ENTRIES`, and then alone; Site where the
-/// sites answered a call otherwise than the table says, or not when it was due; Broken where something is left that no worker has; Memory as of
-/// `run_alone`. Where nobody is asked Site and Broken come no more than there.
+/// The fault is Range exactly if there are no workers or over `MOST_WORKERS`, or the limit is 0 or over `MOST_ENTRIES`. It is Site if the sites
+/// answered a call otherwise than the table says, or not when it was due; Broken if something is left that no worker has; Memory as of `run_alone`.
+/// If neither sites nor gate are asked, the faults are those of `run_parallel`.
 pub fn run_pool<R, S, G>(
     rt: &R,
     alloc: Global,
@@ -101,7 +101,7 @@ where
     )
 }
 
-// Runs a program whose graph is built, with workers and a limit in range, where sites or a gate are asked. The journal is kept.
+// Runs a program whose graph is built, with workers and a limit in range, and asks the sites and the gate. The journal is kept.
 fn run_graph<R, S, G>(
     rt: &R,
     alloc: Global,
@@ -134,7 +134,7 @@ where
     )
 }
 
-// P names the run, whose program and sites the caller picks, and the table of words.
+// The same, with the words of the groups made. The type P names the run, whose program and sites the caller picks, and the table of words.
 fn run_named<'x, P, R, S, G>(
     rt: &'x R,
     alloc: Global,
@@ -192,7 +192,7 @@ where
         rt, alloc, setup, supply, token, &shared, &why, sites, gate, workers,
     )?;
     let (book, stop) = shared.into_inner().into_book();
-    // The scheduler makes no turn here: it tells how the run ended, by the records.
+    // This scheduler gives no turn: it finds from the records how the run ended.
     let scheduler = Scheduler::new(alloc, book.into_ledger(), true);
     match scheduler.finish(program, &inputs, stop) {
         Ok(Some(played)) => Ok(played),
@@ -202,8 +202,7 @@ where
     }
 }
 
-// All workers play, until the run has stopped. The fault is Memory, where the workers' queues found none, or Broken where there are not as many
-// passes.
+// Lets all workers work until the run has stopped. The fault is Memory if memory for them was refused, or Broken if there are too few passes.
 fn play<'x, P, R, S, G>(
     rt: &'x R,
     alloc: Global,

@@ -1,4 +1,4 @@
-//! What there is for a worker that has no token: a call that is due, a tick, or nothing.
+//! Work for a worker that has no token: a call that is due, a tick, or none.
 
 ghost use Rattle.std.specs.Prelude.{◌≡◌};
 
@@ -10,8 +10,8 @@ use orc_scheduler::Stop;
 use orc_word::Naming;
 
 impl<P: Run + Naming, C: Drop> Shared<P, C> {
-    /// What there is for a worker that has no token, no pass to leave and no group to close: a call that is due, else a tick. Rest where others have
-    /// all that is left.
+    /// Looks for work for a worker that has no token, no pass to leave and no group to close: a call that is due, else a tick. The work is Rest if
+    /// other workers have all that is left.
     pub(crate) fn look(&mut self, inputs: &Inputs<'_, P>) -> OutsideWork<C> {
         if self.is_over() {
             return OutsideWork::Over;
@@ -34,11 +34,11 @@ impl<P: Run + Naming, C: Drop> Shared<P, C> {
         }
     }
 
-    /// What there is for the last worker that isn't at rest. Where there is nothing, nobody has what is left: the run stops.
+    /// Looks for work for the last worker that isn't at rest. If there is none, no worker has what is left, and the run stops.
     pub(crate) fn look_last(&mut self, inputs: &Inputs<'_, P>) -> OutsideWork<C> {
         match self.look(inputs) {
             OutsideWork::Rest => {
-                // Says that nobody has what is left. `Scheduler::finish` finds whether the term has halted, and else answers Broken.
+                // No worker has what is left. `Scheduler::finish` finds whether the term has in fact halted, and answers Broken if not.
                 self.stop(Stop::Halted);
                 OutsideWork::Over
             }
@@ -46,14 +46,14 @@ impl<P: Run + Naming, C: Drop> Shared<P, C> {
         }
     }
 
-    /// A pending call that is due, to be asked again. None where there is none, or where other workers have them all.
+    /// Takes a pending call that is due, to be polled again. None if there is none, or if other workers have them all.
     pub(crate) fn take_due(&mut self) -> Option<OutsideWork<C>> {
         let number = self.find_due()?;
         let call = self.pending.remove(&number)?;
         Some(OutsideWork::Ask(number, self.book.now(), call))
     }
 
-    /// The least number of a call that is due and that no worker has. The book forgets on the way what it has noted of calls that pend no more.
+    /// The least number of a call that is due and that no worker has. On the way the book drops its notes on calls that don't pend any more.
     pub(crate) fn find_due(&mut self) -> Option<u64> {
         let mut number = 0;
         // The prover asks for a bound; the numbers rise, so there are fewer rounds than calls.

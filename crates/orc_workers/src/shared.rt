@@ -19,13 +19,15 @@ use std::mem;
 /// The most moves in a turn under the lock, if another worker is awake.
 const MOVES: u32 = 16;
 
-/// And if all others rest.
+/// The most moves in a turn, if all other workers rest.
 const MOVES_ALONE: u32 = 64;
 
-/// What came of a call outside the lock.
+/// The result of a call that a worker has made or polled outside the lock.
 #[derive(Drop)]
 pub(crate) enum CallEvent<C: Drop> {
+    /// The worker has made and polled no call since its last turn.
     None,
+    /// The call with this number has this answer.
     Answered(u64, Answer),
     /// The call with this number has no answer yet, and says when it is due.
     Waits(u64, Due, Box<C>),
@@ -38,29 +40,30 @@ pub(crate) enum CallEvent<C: Drop> {
 /// What a worker has to do outside the lock.
 #[derive(Drop)]
 pub(crate) enum OutsideWork<C: Drop> {
-    /// Nothing: its turn comes again.
+    /// Nothing: the worker goes on with its next turn.
     None,
-    /// A call was recorded, which is to be made.
+    /// To make this call, which the book has recorded.
     Make(Request),
-    /// The call with this number is due now, at this time.
+    /// To poll the call with this number again: it is due now, at this time.
     Ask(u64, u64, Box<C>),
     /// A token opens a group, and the words of killed groups leave no room for it.
     MakeRoom,
     /// There is nothing to do until another worker has something for it.
     Rest,
+    /// The run has stopped, and the worker's shift ends.
     Over,
 }
 
 /// The book of a run, the calls that wait until they are due, what ends the run, and where the workers are.
 pub(crate) struct Shared<P: Run + Naming, C: Drop> {
     pub(crate) book: Book<P>,
-    // By their numbers, the calls that wait until they are due. One that a worker asks is with that worker.
+    // The calls that wait until they are due, by their numbers. A call that a worker is polling isn't here, but with that worker.
     pub(crate) pending: BTreeMap<u64, Box<C>>,
     // Lent to the book: for the arguments of a call, and for the numbers of the calls that a bind has cancelled.
     pub(crate) args: Args,
     pub(crate) cancelled: Vec<u64>,
     stopper: Stopper,
-    // How often those that rest had to look again.
+    // How often workers at rest have been asked to look for work again.
     pub(crate) offers: u64,
     // How many workers have begun. A thread that wasn't started isn't among them.
     pub(crate) working: u32,
@@ -142,8 +145,8 @@ impl<P: Run + Naming, C: Drop> Shared<P, C> {
         self.working <= self.resting.saturating_add(1)
     }
 
-    /// A worker's turn: it tells what came of its last call, groups that it was the last to leave are closed, then its tokens move until it has
-    /// something to do outside or has made its moves. Where a round begins, a call that is due goes first.
+    /// A worker's turn: it reports the result of its last call, and closes the groups that it was the last to leave. Then its tokens move until it
+    /// has work outside the lock or has made its moves. At the beginning of a round a call that is due comes before its tokens.
     pub(crate) fn work(
         &mut self,
         setup: &Setup<'_, P>,
@@ -179,7 +182,7 @@ impl<P: Run + Naming, C: Drop> Shared<P, C> {
         OutsideWork::None
     }
 
-    // What came of a call.
+    // Enters the result of a worker's last call into the book.
     fn take_call_event(&mut self, answers: &Answers, local: &mut Local<P>, event: CallEvent<C>) {
         if self.is_over() {
             return;
@@ -198,7 +201,7 @@ impl<P: Run + Naming, C: Drop> Shared<P, C> {
         }
     }
 
-    // A call waits until it is due, if it still pends.
+    // Keeps a call that waits until it is due, if it still pends.
     fn park(&mut self, answers: &Answers, number: u64, due: Due, call: Box<C>) {
         let Some(request) = self.request(number) else {
             return;
@@ -214,7 +217,7 @@ impl<P: Run + Naming, C: Drop> Shared<P, C> {
         }
     }
 
-    // A call that was recorded is to be made.
+    // The work of making a call that the book has recorded.
     fn make(&mut self, number: u64) -> OutsideWork<C> {
         match self.request(number) {
             Some(request) => OutsideWork::Make(request),
@@ -255,7 +258,7 @@ impl<P: Run + Naming, C: Drop> Shared<P, C> {
         }
     }
 
-    // Closes a group that the worker was the last to leave: what comes of that is with the worker.
+    // Closes a group that the worker was the last to leave. The worker gets the tokens that this sets free.
     fn close(&mut self, local: &mut Local<P>, last: Last<P>) {
         match self.book.halt(last, &mut local.out.leave) {
             Ok(Ended::Run) => self.stop(Stop::Halted),
@@ -266,7 +269,7 @@ impl<P: Run + Naming, C: Drop> Shared<P, C> {
         }
     }
 
-    /// Those of a worker's tokens that are there no more go, and their passes are to be left.
+    /// Drops those of a worker's tokens that have no record any more. The worker has to leave their passes.
     pub(crate) fn drop_gone(&mut self, alloc: Global, setup: &Setup<'_, P>, local: &mut Local<P>) {
         let tokens = mem::replace(&mut local.out.born, Vec::new(alloc));
         for token in tokens {
@@ -278,7 +281,7 @@ impl<P: Run + Naming, C: Drop> Shared<P, C> {
     }
 }
 
-/// Why a run stops at a move that is refused for a token that is there.
+/// The reason why a run stops if the book refuses a move of a token that still has its record.
 pub(crate) fn stop_of(why: BookFault) -> Stop {
     match why {
         BookFault::Full => Stop::Refused(LedgerFault::Full),

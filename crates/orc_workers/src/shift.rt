@@ -1,4 +1,4 @@
-//! Workers at work. A *shift* is a worker's work on one run: turns under the lock, and between them what is done outside it.
+//! Workers at work. A *shift* is all that one worker does for a run: turns under the lock, and between them its work outside the lock.
 
 ghost use Rattle.std.specs.Prelude.{◌≡◌, false, None};
 ghost use Rattle.orc_cell.specs.Readers.{has_read};
@@ -20,31 +20,31 @@ use std::sync::Wait;
 use std::sync::atomic::Ordering;
 use std::{mem, thread};
 
-/// The turns of a round. Between two rounds that token has its turn which has waited longest in the worker's queue, and a call that is due goes
-/// first.
+/// How many turns a round has. Between two rounds the worker takes a call that is due, and then the token that has waited longest in its queue.
 const ROUND: u32 = 64;
 
-/// After how many turns in a row with tokens enough for others a worker at rest is woken, where no worker may wait for another one.
+/// If neither sites nor gate ever wait: the number of turns in a row with more than `SPARE` tokens in its queue, after which a worker wakes another.
 const PATIENCE: u32 = 16;
 
-/// So many tokens are enough for others.
+/// A worker with more queued tokens than this can spare some for others.
 const SPARE: usize = 4;
 
 /// A worker at work.
 pub(crate) struct Shift<'h, P: Run + Naming, R: Wait, S: Sites, G: Gate> {
     rt: &'h R,
     context: &'h Context<'h, P, S, G>,
-    // What it has read of why the run stops.
+    // Reads the reason why the run stops, without the lock.
     why: Reader<'h, Stop>,
     queue: WorkerQueue<Token<P>>,
-    // No fewer than the tokens in its queue: it isn't told of those that others take.
+    // At least the number of tokens in its queue: the worker doesn't learn which of them others steal.
     queued: usize,
     local: Local<P>,
     poller: Poller,
-    // What came of its last call.
+    // The result of its last call, which the next turn reports under the lock.
     event: CallEvent<S::Call>,
-    // Its turns in this round, and those in a row with tokens enough for others.
+    // Its turns in this round.
     turns: u32,
+    // How many turns in a row it has had more than `SPARE` tokens queued.
     rich: u32,
 }
 
@@ -94,7 +94,7 @@ impl<'h, P: Run + Naming, R: Wait, S: Sites, G: Gate> Shift<'h, P, R, S, G> {
         }
     }
 
-    /// What it has to do outside the lock next. It waits here while others have all that is left.
+    /// Gives the work that the worker has to do outside the lock next. The call blocks while other workers have all that is left.
     pub(crate) fn next_work(&mut self) -> OutsideWork<S::Call> {
         self.tell_lost();
         if self.finds_end() {
@@ -106,14 +106,15 @@ impl<'h, P: Run + Naming, R: Wait, S: Sites, G: Gate> Shift<'h, P, R, S, G> {
         }
     }
 
-    // Reads, without the lock, whether the run has stopped. Where it has, the worker finds so for good, and polls no call that waited.
+    // Reads, without the lock, whether the run has stopped. Once it reads so it always does, and the worker polls no waiting call any more.
     fn finds_end(&mut self) -> bool
         ensures { result ≡ false → has_read self.new.why ≡ None }
     {
         self.why.read().is_some()
     }
 
-    // Takes a token out of its queue or of another's, unless it has one or something to tell: whether it has either now.
+    // Whether the worker has something for a turn: a token, the result of a call, a pass to leave or a group to close. If it has none of these it
+    // takes a token from its queue, or steals one.
     fn take_turn(&mut self) -> bool {
         if !matches!(&self.event, CallEvent::None) || !self.local.is_empty() {
             return true;
@@ -147,7 +148,7 @@ impl<'h, P: Run + Naming, R: Wait, S: Sites, G: Gate> Shift<'h, P, R, S, G> {
         work
     }
 
-    // The token that has waited longest in its queue goes next.
+    // Puts all its tokens into its queue, and takes out the one that has waited longest, which moves next.
     fn take_oldest(&mut self) {
         self.share(0);
         if let Some(token) = self.queue.oldest() {
@@ -156,7 +157,7 @@ impl<'h, P: Run + Naming, R: Wait, S: Sites, G: Gate> Shift<'h, P, R, S, G> {
         }
     }
 
-    /// What is to be done outside the lock. Whether the run is over.
+    /// Does this work outside the lock, and before it what each turn leaves to do. Says whether the run is over.
     pub(crate) fn do_work(&mut self, work: OutsideWork<S::Call>) -> bool {
         self.settle();
         self.cancel();
@@ -175,14 +176,14 @@ impl<'h, P: Run + Naming, R: Wait, S: Sites, G: Gate> Shift<'h, P, R, S, G> {
             }
             OutsideWork::Over => return true,
         }
-        // A run has no more tokens. So others have taken some of these, or some are there no more, which keep their groups' words taken.
+        // No run has so many tokens. So others have stolen some of them, or some have no record any more and keep words of killed groups in use.
         if self.queued > MOST_TOKENS {
             self.make_room();
         }
         false
     }
 
-    // Leaves what is to be left.
+    // Leaves the passes that no record needs any more.
     fn settle(&mut self) {
         let context = self.context;
         let groups = context.setup.groups;
@@ -197,7 +198,7 @@ impl<'h, P: Run + Naming, R: Wait, S: Sites, G: Gate> Shift<'h, P, R, S, G> {
         self.local.out.cancelled.clear();
     }
 
-    // Puts its tokens into its queue, but so many that were born last: others may take them there.
+    // Moves its tokens into its queue, where others may steal them, but not the last `keep` ones.
     fn share(&mut self, keep: usize) {
         let count = self.local.out.born.len().saturating_sub(keep);
         if count == 0 {
@@ -217,8 +218,8 @@ impl<'h, P: Run + Naming, R: Wait, S: Sites, G: Gate> Shift<'h, P, R, S, G> {
         self.offer(count);
     }
 
-    // Where no worker may wait for another one, the others are left at rest until there are tokens enough for some time: to wake one takes longer
-    // than a few moves.
+    // Offers `count` tokens to workers at rest. If neither sites nor gate ever wait, it wakes one only once there have been enough tokens for some
+    // time, since a wake-up takes longer than a few moves.
     fn offer(&mut self, count: usize) {
         if self.context.may_wait {
             self.context.offer(self.rt, count);
@@ -235,7 +236,7 @@ impl<'h, P: Run + Naming, R: Wait, S: Sites, G: Gate> Shift<'h, P, R, S, G> {
         }
     }
 
-    // The run stops where something was lost.
+    // Stops the run if the worker has lost a token, a pass or a group because memory for it was refused.
     fn tell_lost(&self) {
         if self.local.was_refused_memory() {
             self.stop_for_memory();
@@ -248,7 +249,7 @@ impl<'h, P: Run + Naming, R: Wait, S: Sites, G: Gate> Shift<'h, P, R, S, G> {
             .stop(self.rt, Stop::Refused(LedgerFault::Memory));
     }
 
-    // Before it goes outside, where it may wait for others: all that others may need is handed over.
+    // Hands over all that others may need, before the worker makes or polls a call outside the lock and may wait there.
     fn go_outside(&mut self) {
         if !self.context.may_wait {
             self.share(1);
@@ -275,8 +276,8 @@ impl<'h, P: Run + Naming, R: Wait, S: Sites, G: Gate> Shift<'h, P, R, S, G> {
         }
     }
 
-    // Killed groups' words are taken until the tokens that were in them have left: takes all tokens that it finds, and drops those that are there no
-    // more.
+    // Frees words: a killed group uses its word until the tokens that were in it have left. Takes all tokens that it finds in the queues, and drops
+    // those that have no record any more.
     fn make_room(&mut self) {
         for _ in 0..u64::MAX {
             match self.queue.next() {
@@ -292,7 +293,7 @@ impl<'h, P: Run + Naming, R: Wait, S: Sites, G: Gate> Shift<'h, P, R, S, G> {
         thread::yield_now();
     }
 
-    // Drops those of its tokens that are there no more.
+    // Drops those of its tokens that have no record any more.
     fn drop_gone(&mut self) {
         let context = self.context;
         let mut shared = context.shared.lock(self.rt);
@@ -325,7 +326,8 @@ impl<'h, P: Run + Naming, R: Wait, S: Sites, G: Gate> Shift<'h, P, R, S, G> {
         }
     }
 
-    // It has nothing: leaves its passes, looks what there is, looks round once more, and rests.
+    // The worker has no token. It leaves its passes and looks under the lock for work. If there is none it counts itself idle, looks into the queues
+    // once more, so that it misses no token that was put there meanwhile, and rests.
     fn rest(&mut self) -> OutsideWork<S::Call> {
         self.local.go_to(None);
         self.settle();

@@ -1,11 +1,11 @@
-//! What ends a run: the reason why it stops, which is bound once and never changes.
+//! The reason why a run stops, which is bound once and never changes.
 
 use orc_cell::Cell;
 use orc_scheduler::Stop;
 use std::alloc::{AllocError, Global};
 
-/// Binds the cell of why a run stops. It is under the lock, with the one box that a bind takes, and workers read the cell without the lock. Under the
-/// lock the reason is read here, which takes no exchange.
+/// Binds the cell that has the reason why a run stops. It is kept under the lock, with the one box that a bind takes. Workers read the cell without
+/// the lock; under the lock they read `reason` here, which takes no atomic operation.
 #[derive(Drop)]
 pub(crate) struct Stopper {
     why: Cell<Stop>,

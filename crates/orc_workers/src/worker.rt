@@ -24,7 +24,7 @@ pub(crate) struct Worker<'h, P: Run + Naming, R: Wait, S: Sites, G: Gate> {
 }
 
 impl<P: Run + Naming, R: Wait, S: Sites, G: Gate> Worker<'_, P, R, S, G> {
-    /// Works until the run is over. Where memory is refused before it begins another worker is left out, and with the first one the run stops.
+    /// Works until the run is over. If memory is refused before that begins, the first worker stops the run, and any other is left out.
     pub(crate) fn work(self) {
         let Worker {
             rt,
