@@ -8,16 +8,16 @@ use std::io::{ErrorKind, IsTerminal, Read, Stdin};
 use std::process::ExitCode;
 use std::{env, fs, io, rt};
 
-/// A byte more than the longest text that any command takes, in bytes: so much of a file tells that it is too long.
+/// How many bytes of a file are read at most: one more than the longest text that any command takes, which shows that a file is too long.
 const MOST: u64 = LONGEST_JOURNAL as u64 + 1;
 
-/// What the environment says of explanations: `1` asks for them, anything else for none.
+/// The environment variable for explanations: `1` turns them on, anything else turns them off.
 const EXPLAIN: &str = "ORC_EXPLAIN";
 
 /// The option that asks for explanations.
 const OPTION: &str = "--explain";
 
-/// The commands that take it.
+/// The commands that take this option.
 const EXPLAINING: [&str; 6] = ["run", "outcomes", "check", "draw", "print", "test"];
 
 /// The command that explains on standard output, too.
@@ -59,8 +59,8 @@ fn fault_of(error: io::Error) -> ReadFault {
     }
 }
 
-// Standard input, if it can be read. Where it is closed the system gives its number to the next file that is opened, which would then be read
-// in its place; so this is asked before.
+// Standard input, if it can be read. If it is closed, the system gives its file descriptor to the next file that is opened, which would then be read
+// in its place. So this is called before any file is opened.
 fn standard_input(mut stdin: Stdin) -> Result<Stdin, ReadFault> {
     match stdin.read(&mut []) {
         Ok(_) => Ok(stdin),
@@ -108,7 +108,7 @@ fn failed(rt: &impl Eprint, line: &str, status: u8) -> ExitCode {
     ExitCode::from(status)
 }
 
-// Ends where memory is refused before any command has begun, with the line and the status that a command would give.
+// The exit if memory is refused before any command has begun, with the line and the status that a command would give.
 fn refused(rt: &impl Eprint) -> ExitCode {
     let failure = Failure::Unread("", ReadFault::Memory);
     let _ = eprintln!(rt; "{failure}");
@@ -123,8 +123,8 @@ fn is_test(words: &[String]) -> bool {
     }
 }
 
-// Whether what went wrong is explained without being asked: as the environment says, else where somebody reads standard error on a terminal, and of a
-// test its table, too. So a file that a table goes to doesn't depend on where standard error goes.
+// Whether mistakes are explained without `--explain`: as the environment variable says, or, if it isn't set, if standard error is a terminal. For
+// `orc test` standard output has to be one too, so that a table that goes to a file doesn't depend on where standard error goes.
 fn explains(rt: &HostRuntime, words: &[String]) -> bool {
     match env::var(rt, EXPLAIN) {
         Ok(word) => word.as_str() == "1",

@@ -1,4 +1,4 @@
--- What an answer says that is given for a journal.
+-- What the answer of `orc_certify` says.
 use Rattle.std.specs.Prelude.{◌≡◌, ℕ, List}
 use Rattle.std.specs.declared.option.Option.{Option}
 use Rattle.std.specs.Io.KnownBytes.{Keeps, Appends}
@@ -36,7 +36,7 @@ IsOver ends.Halted = Unit {0}
 IsOver ends.Quiet = Unit {0}
 IsOver _ = ⊥
 
--- a run that stands so has ended so, by itself
+-- a run whose journal leads to this state has ended so, by itself
 abbrev pub IsEndOf : State → End → Type 0
 IsEndOf state end = IsOver end × ((limit : ℕ) (x : Context) (es : List Entry) (p : Place) → IsAt x p state → EndsAt x limit es p end)
 
@@ -57,7 +57,7 @@ IsCertified source script limit text j end = (l : Listing) × (t : Table) × Say
 abbrev pub Answers : List ℕ → List ℕ → ℕ → List ℕ → Form → Option (List ℕ) → Option (List ℕ) → End → Type 0
 Answers source script limit text form old new end = (j : Written) × IsCertified source script limit text j end × Appends old new (shown form text j.entries)
 
--- nothing was written, or where the output failed a prefix of the answer
+-- nothing was written; or, if the output failed, a prefix of the answer
 abbrev pub Leaves : List ℕ → List ℕ → ℕ → List ℕ → Form → Option (List ℕ) → Option (List ℕ) → Unanswered → Type 0
 Leaves source script limit text form old new Uncertified = Keeps old new
 Leaves source script limit text form old new Unwritten = (j : Written) × (end : End) × IsCertified source script limit text j end × AppendsPrefix old new (shown form text j.entries)

@@ -1,4 +1,4 @@
-//! A proved answer for a journal, whoever made it: the journal is checked, and only then the run's output is written from it.
+//! A proved answer from a journal, whoever made the journal: `certify` checks it, and only then writes the run's output from it.
 
 ghost use Rattle.std.specs.Prelude.{IfOk, IfErr, IfSome, OnOk, OnErr};
 ghost use Rattle.std.specs.Io.KnownBytes.{Appends};
@@ -15,10 +15,10 @@ use orc_verdict::check_journal;
 use std::alloc::Global;
 use std::io::Write;
 
-// In contracts `shown` is what is to be written, `Appends old new text` says that this was written to the output, and `AppendsPrefix` that a prefix
-// of it was. `IsCertified` says that the text is the journal of a run that ended so by itself.
+// In contracts `shown` is the text to write, `Appends old new text` says that all of `text` was written to the output, and `AppendsPrefix` that a
+// prefix of it was. `IsCertified` says that the text is the journal of a run that ended so by itself.
 
-/// What is to be written of a run.
+/// What to write of a run.
 #[derive(Clone, Copy, Debug, PartialEq, Eq)]
 pub enum Form {
     /// What it published, a line each.
@@ -27,13 +27,13 @@ pub enum Form {
     Journal,
 }
 
-/// Why no answer is given for a journal.
+/// Why a journal gets no answer, or not a whole one.
 #[derive(Clone, Copy, Debug, PartialEq, Eq)]
 pub enum Unanswered {
-    /// It isn't known to be the journal of a whole run, and nothing was written: there is no program, the text is no journal, the check refuses it,
-    /// it is of the first version, it has more entries than the limit, the run goes on behind it, or memory was refused.
+    /// The text isn't known to be the journal of a whole run, and nothing was written. The source doesn't load, the text is no journal or one of the
+    /// first version, the check refuses it, it has more entries than the limit, the run isn't over at its end, or memory was refused.
     Uncertified,
-    /// The output wasn't taken whole, or memory for the text was refused. A prefix of the answer was written.
+    /// The output couldn't be written whole, or memory for its text was refused. A prefix of the answer was written.
     Unwritten,
 }
 
@@ -72,7 +72,7 @@ fn check(
     let Ok(journal) = read_journal(alloc, text, &loaded.answers) else {
         return None;
     };
-    // The first version has no cancels, and a run's journal has them. The length counts them, which the limit of a run doesn't.
+    // Journals of the first version have no cancels, and a run's journal has them. The length counts cancels, though the limit of a run doesn't.
     if journal.version() != Version::Two || journal.len() as u64 > limit {
         return None;
     }
@@ -83,7 +83,7 @@ fn check(
     Some(Certificate { journal, end })
 }
 
-// Writes what is wanted of the run of a journal, whose text this is. After an error a prefix of it is written.
+// Writes what `form` asks for; `text` is the text of the journal. After an error a prefix of it is written.
 fn write_answer<W: Write>(
     alloc: Global,
     form: Form,
@@ -109,8 +109,8 @@ fn write_answer<W: Write>(
 /// with the built-in sites and those of the script. The run has to have ended by itself, with at most `limit` entries, cancels counted. Then what
 /// `form` asks for is written to `out`, and the result is how the run ended, Halted or Quiet. Nobody need trust who made the journal.
 ///
-/// `Uncertified` where the text isn't known to be such a journal, or memory was refused; nothing is written then. `Unwritten` where the output
-/// wasn't taken whole, or memory for its text was refused; a prefix of it was written then.
+/// The error is `Uncertified` if the text isn't known to be such a journal, or memory was refused; nothing is written then. It is `Unwritten` if the
+/// output couldn't be written whole, or memory for its text was refused; a prefix of it was written then.
 pub fn certify<W: Write>(
     alloc: Global,
     source: &[u8],

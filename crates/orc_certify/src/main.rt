@@ -1,8 +1,9 @@
-//! The program `orc_certify`: a run's answer by its journal alone. `orc_certify FORM FILE JOURNAL SCRIPT [LIMIT]` checks JOURNAL as that of a run of
-//! FILE with SCRIPT, of at most LIMIT entries, and writes what the run published (`values`) or the journal (`journal`). An empty file is no script.
+//! The program `orc_certify` gives a run's answer from its journal alone. `orc_certify FORM FILE JOURNAL SCRIPT [LIMIT]` checks that JOURNAL is that
+//! of a run of FILE with SCRIPT, with at most LIMIT entries. Then it writes what the run published (FORM `values`) or the journal (FORM `journal`).
+//! If SCRIPT is an empty file there is no script.
 //!
-//! The status is that of the run, 0 where it halted and 3 where it is quiet. With 10 nothing was written: the journal proves no answer, or a file
-//! couldn't be read. With 6 the output wasn't taken whole, and with 2 the command line has another form.
+//! The status is that of the run: 0 if it halted, 3 if it is quiet. Status 10 says that nothing was written: the journal proves no answer, or a file
+//! couldn't be read. Status 6 says that the output couldn't be written whole, and 2 that the command line is wrong.
 //!
 //! `./orc` starts it while the full program is still being proved. So it is small: it stands on no ledger and no engine.
 #![tactic(auto)]
@@ -17,10 +18,10 @@ use std::{env, fs, io};
 /// The status where the journal proves no answer. No run of `orc` ends with it.
 const UNCERTIFIED: u8 = 10;
 
-/// The status where the output wasn't taken whole.
+/// The status if the output couldn't be written whole.
 const UNWRITTEN: u8 = 6;
 
-/// The status where the command line has another form.
+/// The status if the command line is wrong.
 const WRONG_WORDS: u8 = 2;
 
 /// What a command line asks for. The texts are paths of files.
@@ -50,7 +51,7 @@ fn limit_of(word: Option<&String>) -> Option<u64> {
     }
 }
 
-// What the words ask for, the program's name first. None where they have another form.
+// What the words of the command line ask for; the first is the program's name. None if they are wrong.
 fn read_words(words: &[String]) -> Option<Asked<'_>> {
     let [_, form, source, journal, script, rest @ ..] = words else {
         return None;

@@ -4,18 +4,18 @@ use Rattle.orc_orders.specs.Survey.{Came}
 use Rattle.orc_orders.specs.declared.seen.Seen.{Seen}
 use Rattle.orc_orders.specs.declared.seen.Outcome.{Outcome}
 
--- the outcome by which one is found, and the one that was seen, as what a run came to
+-- what a run came to, of an outcome by which the hash set finds it, and of one in the list
 abbrev pub came_of : Outcome → Came
 came_of o = record { end = o.end; values = o.values.items }
 
 abbrev pub came_to : Seen → Came
 came_to x = record { end = x.end; values = x.values.items }
 
--- each was seen at its place, and no other
+-- the hash set has the outcomes of the list, each at its place there
 abbrev pub AreKnown : List Outcome → List Seen → Type 0
 AreKnown os xs = map came_of os ≡ map came_to xs
 
--- one order more came to the outcome at this place
+-- the list xs with one more order counted for the outcome at this place
 pub record IsOnceMore (at : ℕ) (xs ys : List Seen) : Type 0 where
   pub outcome : Seen
   pub there : slice_get xs at ≡ Some outcome

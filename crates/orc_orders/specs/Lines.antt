@@ -19,11 +19,11 @@ end_word ends.Memory = codes "Memory"
 abbrev pub head : ℕ → Seen → List ℕ
 head orders x = codes "order " ++ (decimal x.first ++ (codes " (" ++ (decimal x.times ++ (codes " of " ++ (decimal orders ++ (codes ") " ++ (end_word x.end ++ codes ":")))))))
 
--- the values behind it, each after one space
+-- the line of an outcome: its head, and behind it the values, each after one space
 abbrev pub line : ℕ → Seen → List ℕ
 line orders x = head orders x ++ (flat_map value x.values.items ++ codes "\n")
 
--- `no order (0 of 100) Halted:`, of an outcome that none of so many orders came to
+-- `no order (0 of 100) Halted:`, of an outcome to which no order came
 abbrev pub unseen_head : ℕ → End → List ℕ
 unseen_head orders end = codes "no order (0 of " ++ (decimal orders ++ (codes ") " ++ (end_word end ++ codes ":")))
 
@@ -31,6 +31,6 @@ unseen_head orders end = codes "no order (0 of " ++ (decimal orders ++ (codes ")
 abbrev pub unseen_line : ℕ → End → List Value → List ℕ
 unseen_line orders end values = unseen_head orders end ++ (flat_map value values ++ codes "\n")
 
--- a line each
+-- the lines of all outcomes
 abbrev pub lines : ℕ → List Seen → List ℕ
 lines orders xs = flat_map (line orders) xs

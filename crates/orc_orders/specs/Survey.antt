@@ -25,7 +25,7 @@ IsOfRun l t limit c = (s : Summary) × (journal : Option Written) × IsPlayed l 
 abbrev pub IsOf : Came → Seen → Type 0
 IsOf c x = (x.end ≡ c.end) × (x.values.items ≡ c.values)
 
--- one order more came to an outcome, which was seen before, or is seen for the first time
+-- counts one more order, which came to an outcome that was seen before (`again`), or is seen for the first time (`first`)
 pub data Counts (order : ℕ) (c : Came) : List Seen → List Seen → Type 0 where
   again : (xs : List Seen) (at : ℕ) (x : Seen) → slice_get xs at ≡ Some x → IsOf c x → Counts order c xs (slice_set xs at (record x { times = x.times + 1 }))
   first : (xs : List Seen) (x : Seen) → All (λ y. IsOf c y → ⊥) xs → IsOf c x → x.first ≡ order → x.times ≡ 1 → Counts order c xs (xs ++ x ∷ [])
@@ -42,7 +42,7 @@ IsBefore x y = x.first < y.first
 abbrev pub IsReached : Listing → Table → ℕ → List Seen → ℕ → Type 0
 IsReached l t limit seen at = (at < length seen) × ((d : Seen) → (c : Came) × IsOfRun l t limit c × IsOf c (slice_index_or seen at d))
 
--- These outcomes are what so many orders of the program came to, from 0 on: each outcome once, in the order in which they came up first.
+-- these are the outcomes of the program's runs in the orders from 0 up to `orders`: each outcome once, sorted by the first order that came to it
 pub record IsSurvey (l : Listing) (t : Table) (limit orders : ℕ) (seen : List Seen) : Type 0 where
   -- for each order the place of the outcome that its run came to
   pub places : List ℕ

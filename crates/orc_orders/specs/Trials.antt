@@ -1,4 +1,4 @@
--- The trials of a test: its program's runs in many ways, each in many orders, and what is told of claims in them.
+-- The trials of a test: its program's runs in many ways, each in many orders, and the verdicts on claims in them.
 use Rattle.std.specs.Prelude.{◌≡◌, ◌≢◌, ◌-◌, ◌^◌, ◌++◌, ℕ, List, Option, Some, None, Bool, true, false, length, map}
 use Rattle.std.specs.Global.{Vec}
 use Rattle.std.specs.List.{All, AllZip, count_by, sum_by}
@@ -25,7 +25,7 @@ use Rattle.orc_orders.specs.declared.trials.Run.{Run}
 use Rattle.orc_orders.specs.declared.trials.Trials.{Trials}
 use Rattle.orc_orders.specs.declared.ways.CaseTold.{CaseTold}
 
--- the number of a site; where there is none, one that no site has, since a table has fewer
+-- the number of a site, or if there is none a number that no site has, since a table has fewer
 abbrev pub number_or_none : Option ℕ → ℕ
 number_or_none (Some n) = n
 number_or_none None = 2 ^ 32 - 1
@@ -43,11 +43,11 @@ state_at ends.Halted = states.Halted
 state_at ends.Quiet = states.Quiet
 state_at _ = states.Running
 
--- claims see this of a run of the program with these sites, within the limit, that wasn't refused memory
+-- `seen` is what claims see of some run of the program with these sites, within the limit, that didn't end for refused memory
 abbrev pub IsTrial : Listing → Table → List ClaimSite → ℕ → Sight → Type 0
 IsTrial l t sites limit seen = (s : Summary) × (values : List Value) × (j : Written) × IsPlayed l t limit s values (Some j) × (s.end ≢ ends.Memory) × (seen ≡ sight sites j.entries (state_at s.end) s.now)
 
--- what claims see of the program of this source in the way of this script: of a run in each of so many orders
+-- `seen` is what claims see of the program of this source in the way of this script: of one run in each of so many orders
 pub record AreTrials (source : List ℕ) (sites : List Site) (orders limit : ℕ) (script : List ℕ) (seen : List Sight) : Type 0 where
   pub table : Table
   pub says : Says script table
@@ -61,15 +61,15 @@ abbrev pub is_running : State → Bool
 is_running states.Running = true
 is_running _ = false
 
--- whether what claims see is of such a run
+-- whether what claims see is of a run that was cut
 abbrev pub is_cut : Sight → Bool
 is_cut s = is_running s.state
 
--- so many runs of a way were cut
+-- how many runs of a way were cut
 abbrev pub cut_in : List Sight → ℕ
 cut_in seen = count_by is_cut seen
 
--- What is told of the claims in the ways of these scripts: there are trials of each way, and it is told of these.
+-- t has the verdicts on the claims in the ways of these scripts: there are trials of each way, and the verdicts are those on these trials
 pub record AreTold (source : List ℕ) (sites : List Site) (claims : List Claim) (orders limit : ℕ) (scripts : List (List ℕ)) (t : CaseTold) : Type 0 where
   pub trials : List (List Sight)
   pub tried : AllZip (AreTrials source sites orders limit) scripts trials
@@ -81,17 +81,18 @@ pub record AreTold (source : List ℕ) (sites : List Site) (claims : List Claim)
 abbrev pub texts : List (Vec ℕ) → List (List ℕ)
 texts scripts = map (λ s. s.items) scripts
 
--- what is told of what these trials try, in the ways of these scripts
+-- c has the verdicts on the claims that these trials try, in the ways of these scripts
 abbrev pub Tells : Trials → List (List ℕ) → CaseTold → Type 0
 Tells t scripts c = AreTold t.source.now (sites_of t.sites.now) t.claims.now t.orders t.limit scripts c
 
--- what was told of some ways is told of those of these scripts, too
+-- if `old` has the verdicts of some ways, `new` has those of these and of the ways of these scripts
 abbrev pub Adds : Trials → List (List ℕ) → CaseTold → CaseTold → Type 0
 Adds t scripts old new = (before : List (List ℕ)) → Tells t before old → Tells t (before ++ scripts) new
 
 -- ---- a run that is made again
 
--- the run is one of the program with these sites, within the limit, and wasn't refused memory; its journal is kept, and its happenings have the numbers that claims have for sites
+-- the run is one of the program with these sites, within the limit, and didn't end for refused memory; its journal is kept, and its happenings name
+-- sites by the numbers that claims have for them
 pub record IsMade (l : Listing) (t : Table) (sites : List ClaimSite) (limit : ℕ) (r : Run) : Type 0 where
   pub journal : Written
   pub kept : r.played.journal ≡ Some journal
@@ -99,7 +100,7 @@ pub record IsMade (l : Listing) (t : Table) (sites : List ClaimSite) (limit : �
   pub whole : r.played.summary.end ≢ ends.Memory
   pub happenings : r.happenings ≡ told_all begin (map (renumbered sites) journal.entries)
 
--- it is one of the program of this source in the way of this script
+-- the run is one of the program of this source in the way of this script
 pub record IsMadeAgain (source : List ℕ) (sites : List Site) (limit : ℕ) (script : List ℕ) (r : Run) : Type 0 where
   pub table : Table
   pub says : Says script table

@@ -1,4 +1,4 @@
-//! A program's runs in many orders, in batches that threads share out among them.
+//! A program's runs in many orders, in batches whose runs several threads share.
 
 ghost use Rattle.std.specs.Prelude.{◌≡◌, ◌≤◌, ◌<◌, ◌+◌, ◌^◌, ◌↔◌, length, Err, IfOk, IfErr, OnOk};
 ghost use Rattle.std.specs.List.{All};
@@ -19,23 +19,23 @@ use std::alloc::{AllocError, Global};
 use std::thread;
 use std::thread::Threads;
 
-/// So many orders are run before what came of them is counted.
+/// The most orders in a batch; their outcomes are counted once all of them were run.
 const BATCH: u64 = 1_024;
 
-/// The runs of a batch are shared out among threads where they have so many entries in all, as far as those before them tell. A thread that begins
-/// may wait longer for a processor than a shorter batch takes.
+/// Threads share the runs of a batch if these have at least this many entries in all, by the mean of the batch before. A thread that begins may wait
+/// longer for a processor than a shorter batch takes.
 const WORTH: u64 = 50_000;
 
-/// A batch has fewer orders where they would have more entries than so many in all: what they publish is held until it is counted.
+/// The most entries that the runs of a batch should have in all, by the mean of the batch before: what they publish is held until it is counted.
 const ROOM: u64 = 4_000_000;
 
-/// What came of the run in an order.
+/// The result of the run in an order.
 #[derive(Drop)]
 struct Trial {
     came: Result<Played, EngineFault>,
 }
 
-// Places for so many of them. Until its order is run a place holds that memory was refused. The error is refused memory.
+// Places for the results of `number` orders. A place says that memory was refused until its order was run. The error is refused memory.
 fn places(alloc: Global, number: u64) -> Result<Vec<Trial>, AllocError>
     ensures { IfOk result (λ trials. length trials.items ≡ number) }
 {
@@ -48,7 +48,7 @@ fn places(alloc: Global, number: u64) -> Result<Vec<Trial>, AllocError>
     Ok(trials)
 }
 
-// What is run in each order, with what its sites answer, and how many entries a run's journal may have.
+// What all runs have in common: the program, the table that answers its calls, and the most entries of a run's journal.
 #[derive(Drop)]
 struct Surveyor<'s, R> {
     rt: &'s R,
@@ -59,7 +59,7 @@ struct Surveyor<'s, R> {
 }
 
 impl<R: Threads + Sync> Surveyor<'_, R> {
-    // Runs so many orders, from `first` on, on so many threads. A run's fault stands in its place. The error is refused memory.
+    // Runs `number` orders from `first` on, on `threads` threads. If a run fails, its place has the fault. The error is refused memory.
     #[tactic(auto, using(crate::proofs::Lent::filled))]
     fn run(&self, threads: usize, first: u64, number: u64) -> Result<Vec<Trial>, AllocError>
         requires threads { 0 < threads }
@@ -89,7 +89,8 @@ impl<R: Threads + Sync> Surveyor<'_, R> {
         Ok(trials)
     }
 
-    // Counts what the run in an order came to, and tells how many entries it had. A run for which memory is refused tells nothing of the program.
+    // Counts the outcome of the run in an order, and gives how many entries it had. A run that ended because memory was refused shows no outcome of
+    // the program, so it is a fault.
     fn count(&self, trial: &Trial, order: u64, seen: &mut Outcomes) -> Result<u64, EngineFault>
         requires tried { IsTried self.now.program.now self.now.answers.now self.now.limit trial.now }
         ensures counted { OnOk result ((c : Came) × IsOfRun self.now.program.now self.now.answers.now self.now.limit c × Counts order c seen.old seen.new) }
@@ -108,7 +109,7 @@ impl<R: Threads + Sync> Surveyor<'_, R> {
         Ok(played.summary.entries)
     }
 
-    // Runs so many orders, from `first` on, and counts what they came to. Tells how many entries they had on average.
+    // Runs `number` orders from `first` on, and counts their outcomes. Gives how many entries a run had on average.
     #[tactic(auto, using(crate::proofs::Counting::one_order_more))]
     fn go(
         &self,
@@ -136,12 +137,11 @@ impl<R: Threads + Sync> Surveyor<'_, R> {
     }
 }
 
-/// Runs a program in so many orders, from 0 on, and tells each outcome that came up, in the order in which they came up first. Each run has at most
-/// `limit` entries, cancels not counted. The runs are made on `workers` threads, of which the calling one is one; what is told is the same on any
-/// number of them. Without orders no outcome is told.
+/// Runs a program in the orders from 0 up to `orders`, and gives each outcome once, sorted by the first order that came to it. Each run has at most
+/// `limit` entries, cancels not counted. `workers` threads make the runs, and the calling one is one of them; the result is the same on any number.
 ///
-/// The fault is Range where there are no workers or over `MOST_WORKERS`, or the limit is 0 or over `MOST_ENTRIES`, and then alone; or Memory where
-/// memory was refused. No other comes, if the program is one that the scope check takes.
+/// The fault is Range exactly if there are no workers or over `MOST_WORKERS`, or the limit is 0 or over `MOST_ENTRIES`; and Memory if memory was
+/// refused. No other fault comes if the scope check accepts the program.
 #[tactic(auto, using(crate::proofs::Counting::none_yet))]
 pub fn survey<R: Threads + Sync>(
     rt: &R,
@@ -168,14 +168,14 @@ pub fn survey<R: Threads + Sync>(
     };
     let mut seen = Outcomes::new(alloc);
     let mut next = 0;
-    // The first run shows how long they are.
+    // The first batch is one run, which shows how long the runs are.
     let mut batch = 1;
     let mut threads = 1;
     while next < orders {
         let number = batch.min(orders - next);
         let mean = surveyor.go(threads, next, number, &mut seen)?;
         next += number;
-        // As many as have room, but enough for each worker.
+        // As many orders as `ROOM` allows, but at least one for each worker.
         batch = (ROOM / mean.max(1)).clamp(workers as u64, BATCH);
         threads = if mean.saturating_mul(batch.min(orders - next)) < WORTH {
             1

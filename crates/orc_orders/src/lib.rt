@@ -1,7 +1,7 @@
-//! Many runs of a program: what may come of it in many orders, and what is told of claims in many ways and orders.
+//! Many runs of a program: its outcomes in many orders (`orc outcomes`), and the verdicts on a test's claims in many ways and orders (`orc test`).
 //!
-//! An *order* is a number that draws whose turn comes in a run where the rules leave that free (`orc_scheduler`). A *way* is one of the ways in which
-//! the case of a test lets its services behave, written as a script (`orc_cases`). Ways count from 0 in their case.
+//! An *order* is a number from which the scheduler draws whose turn comes, as far as the rules leave that free (`orc_scheduler`). A *way* is one of
+//! the scripts by which the services of a test's case may answer (`orc_cases`). The ways of a case are numbered from 0.
 #![tactic(auto)]
 
 mod exploration;

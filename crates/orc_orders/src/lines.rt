@@ -24,7 +24,7 @@ fn word_of(end: End) -> &'static str
     }
 }
 
-// What stands before the values of an outcome of so many orders: `order 3 (43 of 100) Halted:`.
+// The part of an outcome's line before the values, of `orders` orders: `order 3 (43 of 100) Halted:`.
 fn head_of(alloc: Global, orders: u64, seen: &Seen) -> Result<Vec<u8>, AllocError>
     ensures { IfOk result (λ t. t.items ≡ head orders seen.now) }
 {
@@ -35,7 +35,7 @@ fn head_of(alloc: Global, orders: u64, seen: &Seen) -> Result<Vec<u8>, AllocErro
     Ok(head.into_bytes())
 }
 
-// What stands before the values of an outcome that none of so many orders came to: `no order (0 of 100) Halted:`.
+// The same for an outcome to which none of `orders` orders came: `no order (0 of 100) Halted:`.
 fn unseen_head_of(alloc: Global, orders: u64, end: End) -> Result<Vec<u8>, AllocError>
     ensures { IfOk result (λ t. t.items ≡ unseen_head orders end) }
 {
@@ -55,7 +55,7 @@ fn write_values(out: &mut Vec<u8>, published: &[Value]) -> Result<(), AllocError
     Ok(())
 }
 
-// Adds a line: what stands before the values, these, and LF. Where memory is refused a part of it may be there.
+// Adds a line: its head, the values, and LF. If memory is refused a part of it may be there.
 fn write_line(out: &mut Vec<u8>, head: &[u8], published: &[Value]) -> Result<(), AllocError>
     ensures { OnOk result (out.new.items ≡ out.old.items ++ (head.now ++ (flat_map value published.now ++ codes "\n"))) }
 {
@@ -65,7 +65,7 @@ fn write_line(out: &mut Vec<u8>, head: &[u8], published: &[Value]) -> Result<(),
     Ok(())
 }
 
-/// A text with a line for each outcome of so many orders, in their order here: `order 3 (43 of 100) Halted: 41`. The error is refused memory.
+/// A text with a line for each of these outcomes of `orders` orders, such as `order 3 (43 of 100) Halted: 41`. The error is refused memory.
 pub fn lines_of(alloc: Global, orders: u64, seen: &[Seen]) -> Result<Vec<u8>, AllocError>
     ensures { IfOk result (λ t. t.items ≡ lines orders seen.now) }
 {
@@ -77,8 +77,8 @@ pub fn lines_of(alloc: Global, orders: u64, seen: &[Seen]) -> Result<Vec<u8>, Al
     Ok(text)
 }
 
-/// Adds to a text the line of an outcome that none of so many orders came to: `no order (0 of 100) Halted: 43`. The error is refused memory; a part
-/// of the line may be there then.
+/// Adds to a text the line of an outcome to which none of `orders` orders came, such as `no order (0 of 100) Halted: 43`. The error is refused
+/// memory; a part of the line may be there then.
 pub fn write_unseen(
     alloc: Global,
     out: &mut Vec<u8>,

@@ -120,7 +120,7 @@ impl Model for Outcomes {
     ghost invariant = { λ o. AreKnown o.known.keys o.seen.items };
 }
 
-// One order more came to the outcome at this place.
+// Counts one more order that came to the outcome at this place.
 #[tactic(auto, using(crate::proofs::Known::once_more))]
 fn again(seen: &mut Vec<Seen>, at: usize) -> Result<(), AllocError>
     requires { at < length seen.old.items }
@@ -165,7 +165,7 @@ impl Outcomes {
         }
     }
 
-    // An order came to an outcome for the first time. Where memory is refused nothing changes.
+    // Adds an outcome to which an order came for the first time. If memory is refused nothing changes.
     #[tactic(auto, using(crate::proofs::Counting::counted_first, crate::proofs::Known::known_too))]
     fn add(&mut self, alloc: Global, order: u64, outcome: Outcome) -> Result<(), AllocError>
         requires { All (λ y. IsOf (came_of outcome) y → ⊥) self.old }
@@ -185,7 +185,7 @@ impl Outcomes {
         Ok(())
     }
 
-    /// One order more came to this outcome. The error is refused memory.
+    /// Counts one more order, which came to this outcome. The error is refused memory.
     #[tactic(auto, using(crate::proofs::Known::counted_at, crate::proofs::Known::counted_as, crate::proofs::Known::known_still))]
     pub(crate) fn count(
         &mut self,

@@ -9,7 +9,7 @@ use orc_tally::ClaimSite;
 use orc_ways::test::SiteName;
 use std::alloc::{AllocError, Global};
 
-/// The number of a site that the table doesn't have. No site has it, since a table has fewer.
+/// Stands for a site that the table doesn't have. No site has this number, since a table has fewer sites.
 const NOWHERE: u32 = u32::MAX;
 
 // A site that claims name, by its number in the table, or `NOWHERE`.

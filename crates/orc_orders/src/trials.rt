@@ -1,4 +1,4 @@
-//! The trials of a way: its runs in many orders, and what is told of claims in them. A claim of a test is judged on what an observer sees of a run
+//! The trials of a way: its runs in many orders, and the verdicts on claims in them. A claim of a test is judged by what an observer sees of a run
 //! from outside, its *happenings*.
 
 ghost use Rattle.std.specs.Prelude.{◌≡◌, ◌≤◌, ◌<◌, ◌+◌, ◌^◌, ℕ, List, cond, IfOk, IfErr};
@@ -30,16 +30,16 @@ pub struct Trials<'t, 'a> {
     /// The sites that the claims name, in the order of their numbers there.
     pub sites: &'t [SiteName<'a>],
     pub claims: &'t [Claim],
-    /// A way is run in so many orders, from 0 on.
+    /// Each way is run in the orders from 0 up to this number.
     pub orders: u64,
-    /// A run has at most so many entries, cancels not counted.
+    /// The most entries of a run, cancels not counted.
     pub limit: u64,
 }
 
-/// Why there are no trials.
+/// Why the trials of a way couldn't be made.
 #[derive(Clone, Copy, Debug, PartialEq, Eq)]
 pub enum TrialFault {
-    /// The source is no program with the way's script.
+    /// With the way's script the source doesn't load.
     Load(LoadFault),
     /// A run wasn't brought to its end.
     Engine(EngineFault),
@@ -58,9 +58,9 @@ impl From<AllocError> for TrialFault {
 
 /// A run, and what claims see of it.
 pub struct Run {
-    /// Its journal is kept.
+    /// The run's result, with its journal.
     pub played: Played,
-    /// Sites have the numbers that claims have for them.
+    /// What an observer sees of the run. Sites have the numbers by which claims name them.
     pub happenings: Happenings,
 }
 
@@ -85,7 +85,7 @@ pub fn state_at(end: End) -> State
     }
 }
 
-// How many of one run were cut.
+// 1 for a run that was cut, 0 for any other.
 fn cut_at(state: State) -> u64
     ensures value { result ≡ cond (is_running state) 1 0 }
     ensures most { result ≤ 1 }
@@ -96,14 +96,14 @@ fn cut_at(state: State) -> u64
     }
 }
 
-/// What is told of a way's trials.
+/// The verdicts of a way's trials.
 #[derive(Drop)]
 pub(crate) struct WayTold {
-    /// One for each claim, in their order.
+    /// The verdicts on each claim, in the order of the claims.
     pub(crate) told: Vec<Told>,
-    /// So many runs were cut.
+    /// How many runs were cut.
     pub(crate) cut: u64,
-    /// So many entries the runs had in all; the greatest number, where they had more.
+    /// How many entries the runs had in all, or the greatest number if they had more.
     pub(crate) entries: u64,
 }
 
@@ -153,8 +153,8 @@ impl<'w, 'a> Way<'w, 'a> {
         })
     }
 
-    // Makes the run in an order. One for which memory is refused tells nothing of the program. The fault is the engine's and no LoadFault, so its
-    // clause holds for any source and script.
+    // Makes the run in an order. A run that ended because memory was refused shows nothing of the program, so it is a fault. Faults are the engine's
+    // and none is a LoadFault, so the clause on them holds for any source and script.
     fn run(&self, order: u64) -> Result<Run, TrialFault>
         requires program { IsProgram (definitions self.now.loaded.program) (source self.now.loaded.program) }
         ensures made { IfOk result (IsMade self.now.loaded.program self.now.loaded.answers self.now.sites.items self.now.trials.now.limit) }
@@ -182,7 +182,7 @@ impl<'w, 'a> Way<'w, 'a> {
         Ok(Run { played, happenings })
     }
 
-    // Makes the trial in this order, and gives what is told of the way with it. A fault is as of `run`.
+    // Makes the trial in this order, and gives the verdicts of the way with its verdict added. Faults are as of `run`.
     fn note(&self, way: u64, order: u64, told: &WayTold) -> Result<WayTold, TrialFault>
         requires program { IsProgram (definitions self.now.loaded.program) (source self.now.loaded.program) }
         requires few { told.now.cut + 1 < 2 ^ 64 }
@@ -214,7 +214,8 @@ impl<'w, 'a> Way<'w, 'a> {
     }
 }
 
-/// What is told of the way of this number, whose script this is. The fault is that of the source with the script, or the first of a run.
+/// Makes the trials of the way with this number and script, and gives their verdicts. The fault is that of loading the source with the script, or the
+/// first of a run.
 #[tactic(auto, using(crate::proofs::Telling::no_order_yet, crate::proofs::Telling::one_trial_more, crate::proofs::Telling::few))]
 pub(crate) fn try_way(
     alloc: Global,
@@ -239,7 +240,7 @@ pub(crate) fn try_way(
 
 /// Makes a trial again: the run of this order in the way of this script, with its journal.
 ///
-/// The fault is that of the source with the script; or the engine's: Range where the limit is 0 or over `MOST_ENTRIES`, and Memory where memory was
+/// The fault is that of loading the source with the script; or the engine's: Range if the limit is 0 or over `MOST_ENTRIES`, and Memory if memory was
 /// refused.
 pub fn try_again(
     alloc: Global,

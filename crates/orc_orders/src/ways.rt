@@ -1,4 +1,4 @@
-//! The ways of a case, each with its trials. A way is one of the ways in which a test lets services behave; a trial is its run in one order.
+//! Tries the ways of a case. A way is one script by which the services of the case may answer; a trial is the program's run with it in one order.
 
 ghost use Rattle.std.specs.Prelude.{◌≡◌, ◌<◌, ◌+◌, ◌^◌, ◌↔◌, ℕ, List, [], Err, length, IfOk, IfErr, OnOk};
 ghost use Rattle.orc_engine.specs.Ranges.{IsInRange};
@@ -16,21 +16,21 @@ use std::alloc::{AllocError, Global};
 use std::thread;
 use std::thread::Threads;
 
-/// So many ways are tried before what is told of them is joined.
+/// The ways of a batch, if there are no more workers than this; their verdicts are joined once all of them were tried.
 const BATCH: usize = 64;
 
-/// The ways of a batch are shared out among threads where their runs have so many entries in all, as far as those before them tell. A thread that
-/// begins may wait longer for a processor than a shorter batch takes.
+/// Threads share the ways of a batch if their runs have at least this many entries in all, by the mean of the batch before. A thread that begins may
+/// wait longer for a processor than a shorter batch takes.
 const WORTH: u64 = 20_000;
 
-/// What is told of a case's claims in the ways that were tried so far: in how many of them each fails, and where first (`orc_tally`).
+/// The verdicts on a case's claims in the ways that were tried so far: in how many ways each claim fails, and where first (`orc_tally`).
 #[derive(Drop)]
 pub struct CaseTold {
-    /// So many ways were tried, from 0 on.
+    /// How many ways were tried, from way 0 on.
     pub ways: u64,
-    /// One for each claim, in their order.
+    /// The verdicts on each claim, in the order of the claims.
     pub told: Vec<Told>,
-    /// So many runs were cut: by the limit, or by one of the engine's.
+    /// How many runs were cut, by the limit of entries or by a limit of the engine.
     pub cut: u64,
 }
 
@@ -47,7 +47,7 @@ impl CaseTold {
         })
     }
 
-    // Adds what is told of one way more. Where memory is refused nothing changes.
+    // Adds the verdicts of one more way. If memory is refused nothing changes.
     fn join(&mut self, alloc: Global, way: &WayTold) -> Result<(), AllocError>
         requires { self.old.ways + 1 < 2 ^ 64 }
         ensures { OnOk result (IsJoined self.old way.now self.new) }
@@ -63,13 +63,13 @@ impl CaseTold {
     }
 }
 
-/// What came of a way's trials.
+/// The result of a way's trials.
 #[derive(Drop)]
 struct Tried {
     came: Result<WayTold, TrialFault>,
 }
 
-// Places for so many of them. Until its way is tried a place holds that memory was refused. The error is refused memory.
+// Places for the results of `number` ways. A place says that memory was refused until its way was tried. The error is refused memory.
 fn places(alloc: Global, number: usize) -> Result<Vec<Tried>, AllocError>
     ensures { IfOk result (λ places. length places.items ≡ number) }
 {
@@ -92,7 +92,7 @@ struct Batch<'t, 'a, 's> {
 }
 
 impl Batch<'_, '_, '_> {
-    // Tries each way on one of so many threads, and answers what came of each in its place. The error is refused memory.
+    // Tries each way on one of `threads` threads, and gives their results in the order of the ways. The error is refused memory.
     fn run<R: Threads + Sync>(&self, rt: &R, threads: usize) -> Result<Vec<Tried>, AllocError>
         requires threads { 0 < threads }
         requires room { self.now.first + length self.now.scripts.now < 2 ^ 64 }
@@ -115,8 +115,8 @@ impl Batch<'_, '_, '_> {
         Ok(tried)
     }
 
-    // Tries the ways and adds the verdicts of each to `told`. Answers how many entries the runs of a way have in all, as the mean of these ways, and 0
-    // if there are none: by that `try_ways` decides whether the next batch is worth threads, and no contract speaks of it.
+    // Tries the ways and adds the verdicts of each to `told`. Gives the mean, over these ways, of the entries that all runs of a way have, and 0 if
+    // there are no ways. From it `try_ways` decides whether the next batch is worth threads; no contract speaks of it.
     #[tactic(auto, using(crate::proofs::Adding::none_added, crate::proofs::Adding::all_added))]
     fn tell<R: Threads + Sync>(
         &self,
@@ -146,11 +146,12 @@ impl Batch<'_, '_, '_> {
     }
 }
 
-/// Tries the next ways of a case, whose scripts these are, and adds what is told of them. The runs are made on `workers` threads, of which the
-/// calling one is one; what is told is the same on any number of them.
+/// Tries the next ways of a case, whose scripts these are, and adds their verdicts. `workers` threads make the runs, and the calling one is one of
+/// them; the verdicts are the same on any number.
 ///
-/// The fault is Range where there are no workers or over `MOST_WORKERS`, or the limit is 0 or over `MOST_ENTRIES`, and then alone; `Load` with the
-/// fault of the first way with whose script the source is no program; or Memory where memory was refused. After a fault some of the ways are told of.
+/// The fault is Range exactly if there are no workers or over `MOST_WORKERS`, or the limit is 0 or over `MOST_ENTRIES`. It is `Load` with the fault
+/// of the first way with whose script the source doesn't load, or Memory if memory was refused. After a fault the verdicts of some of the ways may be
+/// added.
 #[tactic(auto, using(crate::proofs::Adding::none_added, crate::proofs::Adding::all_added))]
 pub fn try_ways<'t, 'a, R: Threads + Sync>(
     rt: &R,

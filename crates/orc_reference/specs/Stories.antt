@@ -1,4 +1,4 @@
--- What is kept of a run so far, which is its story.
+-- The story of a run: what the reference engine keeps of it so far.
 use Rattle.std.specs.Prelude.{◌≡◌, ◌≤◌, ℕ, List, [], ◌∷◌, ◌++◌}
 use Rattle.orc_rules.specs.declared.value.Value.{Value}
 use Rattle.orc_rules.specs.declared.entry.Entry.{Entry}
@@ -12,13 +12,13 @@ use Rattle.orc_checker.specs.Checker.{State, Spells}
 use Rattle.orc_outcome.specs.Outcome.{context, EndsAt}
 use Rattle.orc_outcome.specs.declared.end.End.{End}
 
--- what is kept of a run so far: the marked term, the values that were published, and the journal
+-- the marked term, the values that were published, and the journal
 pub record Story : Type 0 where
   pub marked : State
   pub published : List Value
   pub journal : Written
 
--- the story of this journal, which leads by the rules from the program's term to this place
+-- the story is that of this journal, which leads by the rules from the program's term to this place
 pub record IsStory (l : Listing) (t : Table) (story : Story) (es : List Entry) (p : Place) : Type 0 where
   pub leads : Journal (context l t) (begin (source l)) es p
   pub spells : Spells (context l t) (code l) story.marked p
@@ -29,7 +29,7 @@ pub record IsStory (l : Listing) (t : Table) (story : Story) (es : List Entry) (
 abbrev pub Grows : Listing → Table → Entry → Story → Story → Type 0
 Grows l t e old new = (es : List Entry) (p : Place) → IsStory l t old es p → (q : Place) × Leads (context l t) p e q × IsStory l t new (es ++ e ∷ []) q
 
--- the story of a journal with so many entries, cancels not counted, after which no cancel is due
+-- the story is that of a journal with `turns` entries, cancels not counted, after which no cancel is due
 pub record IsReached (l : Listing) (t : Table) (turns : ℕ) (story : Story) : Type 0 where
   pub journal : List Entry
   pub place : Place
@@ -41,7 +41,7 @@ pub record IsReached (l : Listing) (t : Table) (turns : ℕ) (story : Story) : T
 abbrev pub Settles : Listing → Table → Story → Story → Type 0
 Settles l t old new = (es : List Entry) (p : Place) → IsStory l t old es p → IsReached l t (count es) new
 
--- a story whose run has ended so, within the limit
+-- the run of this story has ended so, within the limit
 pub record HasEnded (l : Listing) (t : Table) (limit : ℕ) (story : Story) (end : End) : Type 0 where
   pub turns : ℕ
   pub reached : IsReached l t turns story

@@ -14,15 +14,15 @@ use std::collections::{BTreeMap, BinaryHeap, VecDeque};
 #[derive(Clone, Copy)]
 struct Turn {
     token: u64,
-    /// Whether it is in the list of each cell for which it still waits, since it was woken from one of them.
+    /// Whether the token is already in the lists of all cells for which it still waits. It is if it comes from such a list.
     listed: bool,
 }
 
-/// Tokens take their turns one after another, so none is starved. A token that waits is in the list of each of its cells: a call
-/// moves once one of its arguments is void, whichever that is.
+/// A queue in which tokens take their turns one after another, so that none is starved; and the calls by their due times. A token that waits is in
+/// the list of each cell for which it waits, since a call can move as soon as one of its arguments is void, whichever that is.
 #[derive(Drop)]
 pub struct Agenda {
-    /// The queue of tokens that may be able to move, the next one first. A mark of no token any more is skipped.
+    /// The queue of tokens that may be able to move, the next one first. Marks whose tokens are gone are skipped.
     tokens: VecDeque<Turn>,
     /// For each cell the tokens that wait for it.
     waiting: BTreeMap<u64, Vec<u64>>,
@@ -45,7 +45,7 @@ impl Agenda {
         })
     }
 
-    // Puts a token that waits into the list of each cell for which it waits. The error is refused memory.
+    // Puts a token into the list of each cell for which it waits. The error is refused memory.
     fn wait(&mut self, program: &Program, marked: &Marked, token: u64) -> Result<(), AllocError> {
         let alloc = *self.tokens.allocator();
         for position in 0..MOST_ARGUMENTS {

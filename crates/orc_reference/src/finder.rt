@@ -1,8 +1,8 @@
-//! A run that shows what is wanted, looked for among all that the rules allow.
+//! Searches all runs that the rules allow for one in which the wanted things happen.
 //!
-//! A depth-first search: it goes along one run as far as that shows no more than is wanted, and then back to the last choice. What it finds is played
-//! again, entry by entry, so nothing that is said of the run rests on the search, and most of it has no contract. The *way* is the entries so far. A
-//! *position* is where a run stands after them; one that looks as another did which was tried before isn't tried again.
+//! The search is depth-first: it follows one run until something happens that isn't wanted, and then goes back to the last choice. The run that it
+//! finds is played again, entry by entry, so no promise on the run rests on the search, and most of the search has no contract. The *way* is the
+//! entries so far. A *position* is where a run stands after them; a position that looks like one that was tried before isn't tried again.
 
 ghost use Rattle.std.specs.Prelude.{◌≡◌, ◌⊎◌, IfOk, IfSome};
 ghost use Rattle.orc_outcome.specs.Outcome.{IsPlayed};
@@ -22,27 +22,27 @@ use std::alloc::{AllocError, Global};
 use std::collections::HashMap;
 use std::mem::replace;
 
-/// What happens in a run, as those outside see it. Cancels aren't told.
+/// What happens in a run, as an observer outside sees it, cancels aside.
 #[derive(Clone, Copy)]
 pub enum Happened<'e> {
     /// A site, by its number in the table, is called with these arguments.
     Called(u32, &'e Args),
-    /// Such a call is answered, or halts.
+    /// A call of this site with these arguments is answered, with a value or a halt.
     Answered(u32, &'e Args, Answer),
     /// The run publishes a value.
     Published(Value),
 }
 
-/// What is wanted of a run: that things happen in it one after another, and how it ends. What has happened of it is a number, 0 at first, whose
-/// meaning is the implementor's.
+/// What is wanted of a run: that given things happen in it one after another, and how it ends. A number says how much of that the search has seen: 0
+/// at first, and the implementor chooses what it means.
 pub trait Wanted {
-    /// The time `now` as far as times matter: two times that are equal here make no difference.
+    /// A number for the time `now`, the same for times that the search needn't tell apart.
     fn time(&self, now: u64) -> u64;
 
-    /// How much of it has been seen after this happened at such a time, where `seen` had been before. None if this isn't to happen.
+    /// How much has been seen once this happened, after `seen` before. None if this must not happen. `time` is as the function `time` gives it.
     fn after(&self, seen: usize, time: u64, happened: Happened<'_>) -> Option<usize>;
 
-    /// Whether a run is wanted that ends so at such a time after so much of it has been seen. Times are as `time` gives them.
+    /// Whether a run is wanted that ends like this after `seen`. `time` is as the function `time` gives it.
     fn is_met(&self, seen: usize, time: u64, end: End) -> bool;
 }
 
@@ -64,7 +64,7 @@ struct Level {
     entries: usize,
     // How many calls had been made.
     calls: usize,
-    // A hash of how often which calls had been made, as far as later ones are answered otherwise for it.
+    // A hash of how often each call had been made, as far as the answers of later calls depend on that.
     counts: u64,
     // How much of what is wanted had been seen.
     seen: usize,
@@ -84,7 +84,7 @@ impl Drop for Level {
     }
 }
 
-// What a turn of the search comes to.
+// How the search stands after a step.
 #[derive(Clone, Copy)]
 enum Turn {
     /// The way leads to what is wanted.
@@ -100,13 +100,13 @@ struct Search<'s> {
     alloc: Global,
     program: &'s Program,
     answers: &'s Answers,
-    /// All entries so far, also those that no rule asks for.
+    /// All entries so far, with moves of marks and cancels.
     way: Vec<Entry>,
     /// The calls of the way: the one of the number k is at the place k - 1.
     calls: Vec<Made>,
     /// The choices on the way, the last one last.
     levels: Vec<Level>,
-    /// The positions to which a way has led, as hashes of what they look like. With equal hashes one is taken for the other.
+    /// The positions to which a way has led, as hashes of what they look like. The search takes two positions with equal hashes for the same one.
     known: HashMap<u64, ()>,
 }
 
@@ -134,7 +134,7 @@ fn mix_args(site: u32, args: &Args) -> u64 {
     mixed
 }
 
-// Whether a token can do no more than move marks, which no rule asks for.
+// Whether a token's next move is a move of marks, an entry that no rule of Orc has.
 fn is_of_marks(next: &Next) -> bool {
     matches!(next, Next::End | Next::Fork | Next::Seq | Next::Other)
 }
@@ -149,7 +149,7 @@ impl Search<'_> {
         }
     }
 
-    // How much has been seen after the call of this number is answered. None if that isn't to happen.
+    // How much has been seen once the call with this number is answered. None if that must not happen.
     fn answered<W: Wanted>(
         &self,
         wanted: &W,
@@ -162,7 +162,7 @@ impl Search<'_> {
         wanted.after(seen, time, Happened::Answered(site, args, answer))
     }
 
-    // How much has been seen after an entry at such a time. None if it isn't to happen. Entries that nobody sees change nothing.
+    // How much has been seen after an entry at such a time. None if the entry must not come. Entries that nobody outside sees change nothing.
     fn seen_after<W: Wanted>(
         &self,
         wanted: &W,
@@ -187,8 +187,9 @@ impl Search<'_> {
         }
     }
 
-    // Adds an entry to the way: the hash of counts of calls after it. It changes only for a call after which later ones of its kind are answered
-    // otherwise. It is a sum, so that the order of the calls doesn't matter. The error is refused memory, here and below.
+    // Adds an entry to the way, and gives the hash of counts (`Level::counts`) after it. Only a call changes the hash, and only if later calls of its
+    // site with its arguments are answered otherwise for it. The hash is a sum, so the order of the calls doesn't matter. The error is refused
+    // memory, here and below.
     fn add(&mut self, entry: Entry, counts: u64) -> Result<u64, AllocError> {
         let mut after = counts;
         if let Entry::Call(_, _, site, args) = &entry {
@@ -219,8 +220,8 @@ impl Search<'_> {
         Ok(())
     }
 
-    // Applies the cancels that are due, and those entries of the tokens from the mark `from` on that only move marks. They leave no choice, so the
-    // search takes them at once. New marks that such an entry makes are looked at too.
+    // Applies the cancels that are due, and the moves of marks of all tokens from the mark `from` on, also of those that such a move makes. These
+    // entries leave no choice, so the search takes them at once.
     fn settle(&mut self, marked: &mut Marked, from: u64) -> Result<(), AllocError> {
         for _turn in 0..marked.new_call() {
             match marked.next_cancel() {
@@ -286,7 +287,7 @@ impl Search<'_> {
         Ok(entries)
     }
 
-    // What a position looks like, as a hash: of its term, the calls that count, what was seen, and the time as far as it matters.
+    // A hash of what a position looks like: of its term, the hash of counts, what was seen, and the time as far as it matters.
     fn number_of(
         &self,
         marked: &Marked,
@@ -302,7 +303,7 @@ impl Search<'_> {
         Ok(mix(mix(mix(mix(1, form), counts), seen as u64), time))
     }
 
-    // Goes on from a position to which the way has led: with a new level of choices, unless the run ends there or a way led there before.
+    // Opens a new level of choices at the position to which the way has led, unless the run ends there or a way has led there before.
     fn stand<W: Wanted>(
         &mut self,
         wanted: &W,
@@ -369,7 +370,7 @@ impl Search<'_> {
         self.stand(wanted, marked, counts, seen)
     }
 
-    // Looks for what is wanted through `most` positions at most: the entries that lead there; None if they weren't found.
+    // Searches through `most` positions at most. Gives the entries of a wanted run, or None if it found none.
     fn go<W: Wanted>(&mut self, wanted: &W, most: usize) -> Result<Option<Vec<Entry>>, AllocError> {
         let mut marked = Marked::new(self.alloc, self.program, true)?;
         self.settle(&mut marked, 1)?;
@@ -419,7 +420,7 @@ impl Turns for Steps {
     }
 }
 
-// The entries of a run that shows what is wanted, looked for through `most` positions at most; None if none was found. The error is refused memory.
+// Searches for a wanted run through `most` positions at most. Gives its entries, or None if it found none. The error is refused memory.
 fn way_to<W: Wanted>(
     alloc: Global,
     program: &Program,
@@ -440,11 +441,11 @@ fn way_to<W: Wanted>(
     Ok(way)
 }
 
-/// A run of a program that ends by itself, with its journal, found by a search for what is wanted through `most` positions at most. The contract says
-/// that it is a run of the program and ended by itself, and not that it shows what is wanted: a caller asks that of its journal. None if no run was
-/// found, and if the one that was found has more than `limit` entries, cancels not counted.
+/// Searches through `most` positions at most for a run of a program in which the wanted things happen and which ends by itself, and gives it with its
+/// journal. The contract says that it is a run of the program and ended by itself, but not that the wanted things happen: a caller checks that on the
+/// journal. None if the search found no run, or one of more than `limit` entries, cancels not counted.
 ///
-/// The fault is Memory where memory was refused; or Broken where the rules refuse an entry that was to come next.
+/// The fault is Memory if memory was refused, or Broken if the rules refuse an entry of the run that the search found.
 pub fn find<W: Wanted>(
     alloc: Global,
     program: &Program,

@@ -59,8 +59,7 @@ fn mix_found(seed: u64, found: Found, at: u64, now: u64) -> u64 {
 pub(crate) struct Forms<'p> {
     pub alloc: Global,
     pub program: &'p Program,
-    /// For each cell, by its number, the place of its opened pruning, of those that the walk has come to. By this a cell is known, whatever its
-    /// number is.
+    /// For each cell whose opened pruning the walk has reached, the place of that pruning. A form names a cell by this place, and not by its number.
     cells: HashMap<u64, u64>,
 }
 

@@ -1,4 +1,4 @@
-//! A run so far: its journal, and the marked term that this has reached.
+//! A run so far: its journal, and the marked term to which the journal leads.
 
 ghost use Rattle.std.specs.Prelude.{◌≡◌, ◌↔◌, ◌<◌, ◌++◌, ◌∷◌, [], ℕ, true, IfOk, OnOk, OnErr, vec_len, vec_capacity};
 ghost use Rattle.orc_rules.specs.Journal.{Place, moment};
@@ -38,8 +38,7 @@ impl Model for History {
     ghost view = { λ h. record { marked = h.marked; published = h.published.items; journal = h.journal } };
 }
 
-// Notes the value that an entry publishes, if it publishes one, behind those before it. There is room, so the push can't be refused: the prover is
-// shown that.
+// Adds the value that an entry publishes, if it publishes one. There is room, so the push can't be refused, and `prove!` shows that.
 fn note(values: &mut Vec<Value>, entry: &Entry)
     requires { vec_len values.old < vec_capacity values.old }
     ensures { values.new.items ≡ values.old.items ++ published (entry.now ∷ []) }
@@ -56,7 +55,7 @@ impl History {
         ensures { (t : Table) → IfOk result (IsReached program.now t 0) }
     {
         Ok(History {
-            // True: its binds are followed by cancels, as in the second version of journals.
+            // True: cancels follow each bind, as in the second version of journals.
             marked: Marked::new(alloc, program, true)?,
             published: Vec::new(alloc),
             journal: Journal::new(alloc, Version::Two),
@@ -90,7 +89,7 @@ impl History {
         Ok(())
     }
 
-    /// The marked term that the journal has reached.
+    /// The marked term to which the journal leads.
     pub fn marked(&self) -> &Marked
         ensures { result.now ≡ self.now.marked }
     {
@@ -114,9 +113,9 @@ impl History {
         self.marked.is_quiet(program)
     }
 
-    /// What is reported of the run, which has ended so: its end, counts and time, its publications, and its journal.
+    /// The result of the run, which has ended so: its end, counts and time, its publications, and its journal.
     pub fn played(self, end: End) -> Played
-        // If the run has ended so within a limit, what is reported is what a run of the program owes (`IsPlayed` of orc_outcome).
+        // If the run has ended so within a limit, the result is that of a run of the program (`IsPlayed` of orc_outcome).
         ensures played { (l : Listing) (t : Table) (limit : ℕ) → HasEnded l t limit self end → IsPlayed l t limit result.summary result.published.items result.journal }
         ensures end { result.summary.end ≡ end }
     {

@@ -1,8 +1,8 @@
-//! The plain engine: a run, entry by entry, each applied to the checker's marked term by the rules; and the search for a run that shows what is
-//! wanted.
+//! The reference engine: it makes a run entry by entry, and applies each to the checker's marked term by the rules. The crate also searches for a run
+//! in which given things happen.
 //!
-//! An *entry* is a line of a journal, and a *mark* is how a journal names a token of the term (docs/orc.md, *Journals*). Which entry comes next is
-//! never proved to be a good choice: the marked term refuses one that the rules don't allow.
+//! An *entry* is a line of a journal, and a *mark* is the number by which a journal names a token of the term (docs/orc.md, *Journals*). No proof
+//! speaks of how the engine chooses the next entry: the marked term refuses an entry that the rules don't allow.
 #![tactic(auto)]
 
 mod agenda;

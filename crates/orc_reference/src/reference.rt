@@ -1,4 +1,4 @@
-//! The loop of the plain engine: choose an entry, record it, record the cancels that it makes due, and again.
+//! The loop of the reference engine: choose an entry, record it, record the cancels that it makes due, and again.
 
 ghost use Rattle.std.specs.Prelude.{◌≡◌, ◌+◌, ◌<◌, ◌≤◌, ◌^◌, ℕ, IfOk, OnOk};
 ghost use Rattle.orc_outcome.specs.Outcome.{IsPlayed};
@@ -22,8 +22,8 @@ pub(crate) enum Choice {
     Nothing,
 }
 
-/// What says which entry comes next: an agenda, or a way that was found. No contract depends on it, since `History::record` refuses an entry that the
-/// rules don't allow.
+/// What chooses the next entry: an agenda, or the entries of a run that the search has found. No contract depends on the choice, since
+/// `History::record` refuses an entry that the rules don't allow.
 pub(crate) trait Turns {
     /// The entry that comes next, while no cancel is due: a move of a token, else the end of `side`, which has halted, else a return that is
     /// due now, else a tick. The error is refused memory.
@@ -34,12 +34,13 @@ pub(crate) trait Turns {
         side: Option<Side>,
     ) -> Result<Choice, AllocError>;
 
-    /// Takes note of what a recorded entry has made: new tokens, a call, or tokens that wait no more. `marked` is the term after it. The error is
-    /// refused memory.
+    /// Takes note of what a recorded entry has changed: new tokens, a new call, or tokens that needn't wait any more. `marked` is the term after it.
+    /// The error is refused memory.
     fn note(&mut self, entry: &Entry, marked: &Marked) -> Result<(), AllocError>;
 }
 
-// How a run ends in which nothing can come next: halted or quiet. Broken is for a `Turns` that says so too early.
+// How a run ends in which nothing can come next: halted or quiet. The fault is Broken if something can come next, and `Turns` was wrong to offer
+// nothing.
 fn rest(history: &mut History, program: &Program) -> Result<End, PlayFault>
     // After a journal of `turns` entries it is an end that the rules allow, within any limit that is as high.
     ensures { (t : Table) (turns limit : ℕ) → turns ≤ limit → IsReached program.now t turns history.old → IfOk result (HasEnded program.now t limit history.new) }
@@ -85,9 +86,9 @@ fn settle(history: &mut History, program: &Program, answers: &Answers) -> Result
     Err(PlayFault::Broken)
 }
 
-// Adds entries until nothing can come next or the journal has `limit` of them, cancels not counted: how the run ended, which is Memory where memory
-// was refused. The fault is Broken where the rules refuse an entry that `turns` says, and Memory where it was refused among the cancels of a bind: the
-// run can't end before all of them are recorded.
+// Adds entries until nothing can come next or the journal has `limit` of them, cancels not counted. Gives how the run ended, which is Memory if
+// memory was refused. The fault is Broken if the rules refuse an entry that `turns` has chosen. It is Memory if memory was refused among the cancels
+// of a bind, where no run can end.
 pub(crate) fn proceed<T: Turns>(
     history: &mut History,
     turns: &mut T,
@@ -127,8 +128,8 @@ pub(crate) fn proceed<T: Turns>(
 /// Runs a program: entries that the rules allow, one after another, until nothing can come next or the journal has `limit` of them, cancels not
 /// counted. The cancels of a bind follow it at once. The journal is kept.
 ///
-/// The fault is Memory where memory was refused before the run began, or among the cancels of a bind; or Broken where the rules refuse an entry that
-/// was to come next. Where memory is refused elsewhere the run ends so, as `End::Memory`.
+/// The fault is Memory if memory was refused before the run began, or among the cancels of a bind. It is Broken if the rules refuse an entry that the
+/// engine has chosen. If memory is refused elsewhere the run ends with `End::Memory`.
 pub fn play(
     alloc: Global,
     program: &Program,
