@@ -16,7 +16,7 @@ use std::alloc::Global;
 /// last pass is left.
 pub(crate) const WORDS: u32 = 2 * MOST_GROUPS as u32;
 
-/// How many passes a run has where its row says nothing: more than its entries take.
+/// How many passes a run has if its row says nothing: more than its entries need.
 pub(crate) const PASSES: u32 = 4 * MOST_ENTRIES as u32;
 
 /// A run whose first token is out, with these words, and passes out of this supply. None where memory is refused, or the supply is empty.

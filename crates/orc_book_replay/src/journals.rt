@@ -19,7 +19,7 @@ use orc_word::{Naming, Unnamed};
 use std::alloc::Global;
 use std::marker::Brand;
 
-/// The entry that isn't replayed, from 1, and why.
+/// The entry at which a replay fails, from 1, and why.
 #[derive(Clone, Copy, Debug, PartialEq, Eq)]
 pub(crate) struct Stop {
     pub at: usize,
@@ -33,7 +33,7 @@ pub(crate) struct Replayed {
     pub state: State,
 }
 
-/// So many passes to the program's own group are kept for its next records, as a worker keeps some.
+/// How many passes to the program's own group a replay keeps for the next records there, as a worker keeps some.
 const MOST_WARM: usize = 64;
 
 const UNREAD: Stop = Stop {
@@ -41,8 +41,8 @@ const UNREAD: Stop = Stop {
     why: Odd::Other,
 };
 
-/// Replays the text of a journal of the second version, entry by entry, by calls of a book that begins with the program: each entry is done by the
-/// call for its kind, and each pass is left as soon as no record has it. Ok where that writes this journal.
+/// Replays the text of a journal of the second version: a book that begins with the program does each entry by the call for its kind, and the replay
+/// leaves each pass as soon as no record has it. Ok if the book writes the same journal.
 pub(crate) fn replay_text(
     alloc: Global,
     source: &[u8],
@@ -129,7 +129,8 @@ fn follow<P: Run + Naming>(
     Ok(())
 }
 
-// Where the entries have led, if the book has written this journal. It closes the program's own group exactly where the term has halted.
+// The state to which the entries have led, if the book has written the same journal. The program's own group can be closed exactly if the term has
+// halted.
 fn state_of<P: Run + Naming>(
     alloc: Global,
     setup: &Setup<'_, P>,
@@ -173,7 +174,8 @@ fn are_same(alloc: Global, answers: &Answers, one: &Journal, other: &Journal) ->
     Some(whole && other_whole && text.as_slice() == other_text.as_slice())
 }
 
-/// Reads a journal's text as `replay_text` does, and compares it with itself: how many entries it has. None where it isn't read.
+/// Reads a journal's text as `replay_text` does, compares it with itself, and gives how many entries it has; `bench/book` takes this time off. None
+/// if the text can't be read.
 pub(crate) fn read_text(alloc: Global, source: &[u8], script: &[u8], text: &[u8]) -> Option<usize> {
     let loaded = load(alloc, source, script).ok()?;
     let journal = read_journal(alloc, text, &loaded.answers).ok()?;

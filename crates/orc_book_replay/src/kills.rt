@@ -21,7 +21,7 @@ pub(crate) fn leave_one<P: Run + Naming>(
     so(!replay.passes.leave(setup.groups, pass).ok()?)
 }
 
-/// Leaves a pass that is the last one to its group, and has the book close the group, which adds no entry. Answers what has become of the group.
+/// Leaves the last pass to a group, and has the book close the group, which adds no entry. Gives what has become of the group.
 pub(crate) fn leave_last<P: Run + Naming>(
     setup: &Setup<'_, P>,
     replay: &mut Replay<P>,
@@ -95,7 +95,7 @@ pub(crate) fn ends_after_a_kill<P: Run + Naming>(
     )
 }
 
-// A token whose pass wins the mark that its group is killed, outside the book.
+// Has a token's pass win the mark *killed* of its group, outside the book, as another worker's bind would. Gives the token.
 fn won<P: Run + Naming>(setup: &Setup<'_, P>, token: Token<P>) -> Option<Token<P>> {
     let Token {
         serial,
@@ -107,7 +107,7 @@ fn won<P: Run + Naming>(setup: &Setup<'_, P>, token: Token<P>) -> Option<Token<P
     Some(Token { serial, slot, pass })
 }
 
-/// A bind whose mark was won before is Gone: nothing is added, and the token comes back.
+/// The book refuses a bind as Gone if the group's mark *killed* was won before: it adds nothing, and the token comes back.
 pub(crate) fn gives_a_lost_mark_back<P: Run + Naming>(
     alloc: Global,
     setup: &Setup<'_, P>,

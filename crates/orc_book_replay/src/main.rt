@@ -25,7 +25,7 @@ use crate::table::rows;
 use std::alloc::Global;
 use std::{env, fs, io};
 
-// Writes of each row whether a book does what it shows; `stdout` in this crate has the lines that the gate wants.
+// Writes for each row whether a book does what the row shows. The file `stdout` of this crate has the lines that the gate expects.
 fn tell_rows<R: Print>(rt: &R, alloc: Global) -> io::Result<()> {
     for row in rows() {
         match show(alloc, &row) {

@@ -12,8 +12,9 @@ use std::alloc::{AllocError, Global};
 pub(crate) struct Passes<P: Naming> {
     supply: Supply<P>,
     pub lasts: Vec<Last<P>>,
-    // Passes to the program's own group, kept for the next records there: that saves the exchanges by which passes leave and enter. At most so many.
+    // Passes to the program's own group, kept for the next records there: that saves the atomic exchanges by which passes leave and enter.
     warm: Vec<Pass<P>>,
+    // How many passes `warm` may have.
     most_warm: usize,
 }
 
@@ -33,7 +34,7 @@ impl<P: Naming> Drop for Passes<P> {
 }
 
 impl<P: Naming> Passes<P> {
-    /// Each pass that comes back is left at once.
+    /// No passes but those of the supply. Each pass that comes back is left at once.
     pub(crate) fn new(alloc: Global, supply: Supply<P>) -> Passes<P> {
         Passes {
             supply,
@@ -43,7 +44,7 @@ impl<P: Naming> Passes<P> {
         }
     }
 
-    /// Keeps at most so many passes to the program's own group from here on, until `leave_warm`.
+    /// From now on keeps up to `most` passes to the program's own group, until `leave_warm`.
     pub(crate) fn keep_warm(&mut self, most: usize) {
         self.most_warm = most;
     }
@@ -79,7 +80,7 @@ impl<P: Naming> Passes<P> {
         }
     }
 
-    /// Leaves a pass, which goes back into the supply. Answers whether it was the last one that named its group, which is then to be closed.
+    /// Leaves a pass, which goes back into the supply. Says whether it was the last one to its group, which has to be closed then.
     pub(crate) fn leave(&mut self, groups: &Groups<P>, pass: Pass<P>) -> Result<bool, AllocError> {
         if pass.group().is_none() {
             self.supply.give(groups, pass);

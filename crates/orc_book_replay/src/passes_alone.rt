@@ -9,7 +9,7 @@ use crate::setup::Setup;
 use orc_log::Run;
 use orc_word::{Bit, Groups, Naming, Pass};
 
-/// With a supply that had three passes, one of which is the first token's: two are there, and one that came back.
+/// A supply of three passes, one of which the first token has, gives two more, and then one that was given back.
 pub(crate) fn gives_passes_again<P: Run + Naming>(
     setup: &Setup<'_, P>,
     mut replay: Replay<P>,
@@ -23,7 +23,7 @@ pub(crate) fn gives_passes_again<P: Run + Naming>(
     so(passes.idle(setup.groups).is_none())
 }
 
-// Of two passes to a group, one wins the mark that it is killed, and only once. The second one that is left is the last.
+// Of two passes to a group one wins the mark *killed*, and only once. The pass that is left second is the last one.
 fn one_wins<P: Run + Naming>(
     setup: &Setup<'_, P>,
     replay: &mut Replay<P>,
@@ -50,7 +50,7 @@ fn is_killed<P: Naming>(groups: &Groups<P>, pass: &mut Pass<P>) -> Option<bool> 
     Some(groups.look(pass).killed)
 }
 
-/// A group is marked as killed once, and once again when its word was opened anew.
+/// A group's mark *killed* is won once, and once again after its word was opened anew.
 pub(crate) fn is_killed_once<P: Run + Naming>(
     setup: &Setup<'_, P>,
     mut replay: Replay<P>,

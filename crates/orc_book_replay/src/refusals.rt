@@ -12,8 +12,8 @@ use orc_rules::value::Args;
 use orc_word::{Naming, Pass};
 use std::alloc::Global;
 
-// Leaves the only pass to the program's own group though its token is still there: so the word says that the group was left last. The book refuses to
-// close it as Live, since it has a token. Gives the token back, with a pass that opens the group's word again.
+// Leaves the only pass to the program's own group though the group's token is still there, so that the pass was the last one by the word. The book
+// refuses to close the group as Live, since it has a token. Gives the token back, with a pass that opens the group's word again.
 fn leaves_early<P: Run + Naming>(
     setup: &Setup<'_, P>,
     replay: &mut Replay<P>,
@@ -146,7 +146,7 @@ fn forks_not<P: Run + Naming>(
     }
 }
 
-/// A token at a `>x>` does nothing else: each other call is Wrong, adds nothing, and gives it back. It goes on then.
+/// A token at a `>x>` can only enter it: the book refuses each other call as Wrong, adds nothing, and gives the token back. Then the token goes on.
 pub(crate) fn refuses_other_moves<P: Run + Naming>(
     alloc: Global,
     setup: &Setup<'_, P>,

@@ -16,13 +16,13 @@ use orc_word::{Last, Naming, Pass};
 use std::alloc::Global;
 use std::mem;
 
-/// A killed group's word stays taken until its last pass is left. If so many words are taken so, the replay looks through all tokens for passes of
-/// killed ones (`sweep`). It waits for more words where there are more slots, so that a bind pays for few looks.
+/// A killed group uses its word until its last pass is left. If killed groups use this many words, the replay looks through all tokens for passes of
+/// killed groups (`sweep`). With more slots it waits until more words are in use, so that each bind pays for few looks.
 const FEW_DYING: usize = 64;
 
 const MOST_DYING: usize = 512;
 
-/// Why an entry isn't replayed.
+/// Why the replay of an entry fails.
 #[derive(Clone, Copy, Debug, PartialEq, Eq)]
 pub(crate) enum Odd {
     /// No such token is out, or no such call pends.
@@ -59,18 +59,20 @@ struct Place<P: Naming> {
     is_listed: bool,
 }
 
-/// A run whose entries are told one after another.
+/// A book that does entries one after another, and the tokens and passes that it has given out.
 pub(crate) struct Replay<P: Run + Naming> {
     pub book: Book<P>,
     pub passes: Passes<P>,
     sides: Sides,
-    // The tokens that are out by their slots, and the slot of each token by its mark; there is no mark 0.
+    // The tokens that are out, by their slots.
     out: Vec<Place<P>>,
+    // The slot of each token, by its mark; there is no mark 0.
     slots: Vec<usize>,
     // The slots in which a token may wait that the book doesn't keep yet.
     listed: Vec<usize>,
-    // The calls that the last bind has cancelled, and how many of these cancels are still to be told.
+    // The calls that the last bind has cancelled.
     pub cancelled: Vec<u64>,
+    // How many of these cancels the journal's entries haven't named yet.
     owed: usize,
     // Lent to the book's calls.
     leave: Vec<Pass<P>>,
@@ -111,7 +113,7 @@ impl<P: Run + Naming> Drop for Replay<P> {
 }
 
 impl<P: Run + Naming> Replay<P> {
-    /// A run that has begun, whose first token is out. Its words are as many as are said.
+    /// A run that has begun, with this number of words. Its first token is out.
     pub(crate) fn begin(
         alloc: Global,
         book: Book<P>,
@@ -225,7 +227,7 @@ impl<P: Run + Naming> Replay<P> {
         None
     }
 
-    /// A token that has the next mark.
+    /// Takes a token that has come out with the next mark.
     pub(crate) fn stand(&mut self, token: Token<P>) -> Result<(), Odd> {
         if token.serial != self.slots.len() as u64 {
             return Err(Odd::Other);
@@ -236,7 +238,7 @@ impl<P: Run + Naming> Replay<P> {
         self.hold(token)
     }
 
-    /// A token is out in its slot. One that was there is gone, and its pass is to be left.
+    /// Takes a token that is out into its slot. The pass of a token that was there, and is gone, has to be left.
     pub(crate) fn hold(&mut self, token: Token<P>) -> Result<(), Odd> {
         let slot = token.slot;
         self.reach(slot)?;
@@ -255,7 +257,7 @@ impl<P: Run + Naming> Replay<P> {
         }
     }
 
-    // There are places up to this slot.
+    // Makes places up to this slot.
     fn reach(&mut self, slot: usize) -> Result<(), Odd> {
         for _ in 0..u64::MAX {
             if slot < self.out.len() {
@@ -284,7 +286,7 @@ impl<P: Run + Naming> Replay<P> {
         Ok(())
     }
 
-    // Looks at the token that is out in a slot. Where that is gone its pass is to be left, and the book keeps it where it waits.
+    // Looks at the token that is out in a slot. If it is gone its pass has to be left, and if it waits the book gets it.
     fn look_at(&mut self, setup: &Setup<'_, P>, slot: usize) -> Result<(), Odd> {
         let Some(place) = self.out.get_mut(slot) else {
             return Ok(());
@@ -305,7 +307,7 @@ impl<P: Run + Naming> Replay<P> {
         }
     }
 
-    // A pass is to be left.
+    // Adds a pass to those that have to be left.
     fn drop_pass(&mut self, pass: Pass<P>) -> Result<(), Odd> {
         match self.leave.push(pass) {
             Ok(()) => Ok(()),
@@ -390,7 +392,7 @@ impl<P: Run + Naming> Replay<P> {
         }
     }
 
-    // A publication leaves the left sides from one group out to another.
+    // Notes that a publication has left the left sides between one group and an enclosing one.
     fn leave_sides(&mut self, from: Option<u32>, to: Option<u32>) -> Result<(), Odd> {
         match (from, to) {
             (Some(from), Some(to)) if self.sides.leave(from, to) => Ok(()),
@@ -418,7 +420,7 @@ impl<P: Run + Naming> Replay<P> {
         }
     }
 
-    // What has come out of a step that was a publication into a `>x>`, by a token of the group with this word.
+    // Takes what has come out of a step in which a token of the group with this word published into a `>x>`.
     fn sent(&mut self, inside: Option<u32>) -> Result<(), Odd> {
         let Some(token) = self.step.born.pop() else {
             return Err(Odd::Other);
@@ -454,7 +456,7 @@ impl<P: Run + Naming> Replay<P> {
         }
     }
 
-    // Binds a cell: what was inside its right side is gone, and the tokens that wait for the cell come out.
+    // Binds a cell: all that was in its right side is dropped, and the tokens that wait for the cell come out.
     fn bind(&mut self, setup: &Setup<'_, P>, token: Token<P>, cell: u64) -> Result<(), Odd> {
         let Some(inside) = token.pass.group() else {
             return Err(Odd::Other);
@@ -502,7 +504,7 @@ impl<P: Run + Naming> Replay<P> {
         }
     }
 
-    // The calls that a bind has cancelled, in their order.
+    // Compares a `cancel` entry with the next of the calls that the last bind has cancelled.
     fn cancel(&mut self, number: u64) -> Result<(), Odd> {
         let Some(at) = self.cancelled.len().checked_sub(self.owed) else {
             return Err(Odd::Other);
@@ -580,7 +582,7 @@ impl<P: Run + Naming> Replay<P> {
         Some(self.passes.lasts.swap_remove(place))
     }
 
-    // A side halts: a cell is lost, or a right side starts.
+    // Halts a side: a cell is lost, or the right side of an otherwise starts.
     fn halt(&mut self, setup: &Setup<'_, P>, side: Side) -> Result<(), Odd> {
         if let Some(last) = self.last_of(side) {
             return self.close(last);
@@ -601,8 +603,8 @@ impl<P: Run + Naming> Replay<P> {
         }
     }
 
-    // Time goes on. If the book says that something else comes next, that may be a group which ends without an entry once the passes of tokens that
-    // are gone were left: so the second try is after a sweep.
+    // Lets time go on to this time. If the book says that something else comes next, that may be a group which ends without an entry once the passes
+    // of gone tokens are left. So it tries once more after a sweep.
     fn tick(&mut self, setup: &Setup<'_, P>, time: u64) -> Result<(), Odd> {
         self.keep_waiting(setup)?;
         if self.ticks(setup, time)? {
@@ -625,8 +627,8 @@ impl<P: Run + Naming> Replay<P> {
         }
     }
 
-    /// Leaves what can be left, and closes the program's own group if the last pass to it is among that. Answers whether the run has halted
-    /// so.
+    /// Leaves all passes that can be left. If the last one to the program's own group is among them it closes that group, and says so: the run has
+    /// halted.
     pub(crate) fn close_run(&mut self, setup: &Setup<'_, P>) -> Result<bool, Odd> {
         self.sweep(setup)?;
         if self.passes.leave_warm(setup.groups).is_err() {

@@ -1,4 +1,4 @@
-//! Rows by calls of the book: what is done with it, and what it has to answer.
+//! Rows: what a row does with a book, and what the book has to answer.
 
 ghost use Rattle.std.specs.Prelude.{◌≡◌, ◌≤◌, true};
 ghost use Rattle.orc_rules.specs.declared.limits.TheConstants.{MOST_ENTRIES};
@@ -26,32 +26,33 @@ use orc_word::{Naming, Unnamed};
 use std::alloc::Global;
 use std::marker::Brand;
 
-/// What is done with a book, or asked of it.
+/// What a row does with a book, or what the book has to say.
 #[derive(Clone, Copy)]
 pub(crate) enum Step {
-    /// These entries are done, a line each, and the book writes just these.
+    /// The book does these entries, a line each, and writes exactly these.
     Does(&'static str),
     /// The book keeps the token with this mark, which waits.
     Keeps(u64),
     /// The token with this mark is out.
     IsOut(u64),
-    /// This comes next.
+    /// `Book::next` gives this.
     Next(Next),
-    /// The time is this.
+    /// The logical time is this.
     Now(u64),
-    /// The call with the least number that is due now.
+    /// The least number of a call that is due now is this, or none is due.
     Due(Option<u64>),
-    /// This answer of a call is refused.
+    /// The book refuses this answer of the call with this number, for this reason.
     Refuses(u64, Answer, BookFault),
-    /// The journal has so many entries, the cancels left out.
+    /// The journal has this many entries, cancels not counted.
     Entries(usize),
-    /// All passes to the program's own group have been left, and the book closes it, or not yet.
+    /// The replay has left all passes to the program's own group and the book closes it, or not yet.
     HasEnded(bool),
 }
 
-/// What a row shows of a book. `show_with` has the function that each stands for.
+/// What a row shows of a book. `show_with` has the function for each; the comments on these functions say what they show.
 #[derive(Clone, Copy)]
 pub(crate) enum Shows {
+    /// These steps hold, one after another, on one book.
     Steps(&'static [Step]),
     GivesPassesAgain,
     IsKilledOnce,
@@ -62,9 +63,10 @@ pub(crate) enum Shows {
     IsLive,
     RefusesOtherMoves,
     RefusesWordsThatAreNamed,
-    /// By moves of the token that has waited longest: so many entries before one is refused for this, and so many of the lent passes remain then.
+    /// If the token that has waited longest always moves next: the number of entries before a move is refused, the reason, and how many of the lent
+    /// passes remain then.
     MakesMoves(usize, BookFault, usize),
-    /// A single token moves until one of the engine's numbers is reached: so many entries.
+    /// The number of entries that a single token makes before a limit of the engine is reached.
     IsFullAfter(usize),
 }
 
@@ -80,7 +82,7 @@ pub(crate) struct Row {
     pub shows: Shows,
 }
 
-/// Lets `?` end a row where something isn't as it has to be.
+/// Some if `holds`, so that `?` ends a row in which something isn't as it has to be.
 pub(crate) fn so(holds: bool) -> Option<()> {
     if holds { Some(()) } else { None }
 }
@@ -228,7 +230,7 @@ pub(crate) fn show(alloc: Global, row: &Row) -> Option<()> {
     let limit = row.limit;
     let count = row.words;
     let passes = row.passes;
-    // What `Unnamed::new` and the ledger ask of the numbers; each row meets it.
+    // The ranges that `Unnamed::new` and the ledger require; each row is within them.
     if limit < 1 || limit > MOST_ENTRIES as usize || count < 2 || count > 65_536 {
         return None;
     }

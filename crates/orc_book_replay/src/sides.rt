@@ -1,4 +1,4 @@
-//! What the groups are, by the numbers of their words: the whole program, right sides of cells, left sides of otherwises.
+//! What each group is, by the number of its word: the whole program, the right side of a cell, or the left side of an otherwise.
 
 use orc_rules::limits::MOST_GROUPS;
 use std::alloc::{AllocError, Global};
@@ -56,7 +56,7 @@ impl Sides {
         self.group(word).side
     }
 
-    /// A side is entered, whose group has this word, inside the group with that one.
+    /// Notes that a side was entered: its group has the word `word`, and is inside the group with the word `parent`.
     pub(crate) fn enter(&mut self, word: u32, side: Side, parent: u32) {
         if let Some(group) = self.groups.get_mut(word as usize) {
             *group = Group {
@@ -68,8 +68,8 @@ impl Sides {
         }
     }
 
-    /// A publication passes the left sides from one group out to another. Answers whether no right side is between. Groups aren't nested deeper than
-    /// `MOST_GROUPS`, so the loop gets there.
+    /// Notes that a publication has left the left sides between the group `from` and the enclosing group `to`. Says whether no right side is between
+    /// them. Groups are nested at most `MOST_GROUPS` deep, so the loop reaches `to`.
     pub(crate) fn leave(&mut self, from: u32, to: u32) -> bool {
         let mut word = from;
         for _outwards in 0..MOST_GROUPS {

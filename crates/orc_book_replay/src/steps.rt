@@ -11,7 +11,7 @@ use orc_log::Run;
 use orc_word::Naming;
 use std::alloc::Global;
 
-// What no move, one, two, three and four of these moves write.
+// What the first moves write: none of them, one, two, three and four.
 const MOVES: [&str; 5] = [
     "",
     "seq 1 2\n",
@@ -20,7 +20,7 @@ const MOVES: [&str; 5] = [
     "seq 1 2\nfork 2 3 4\nsend 3 5 1\nsend 4 6 2\n",
 ];
 
-// The token that has waited longest moves by `step`, as often as the book accepts it. Answers why it accepts no more.
+// Has the token that has waited longest move by `step`, until the book refuses a move. Gives the reason.
 fn move_in_line<P: Run + Naming>(
     setup: &Setup<'_, P>,
     replay: &mut Replay<P>,
@@ -86,9 +86,8 @@ fn needs_one<P: Run + Naming>(
     so(matches!(view.what, Action::Fork) && view.needs.same == 1 && view.needs.idle == 0)
 }
 
-/// The tokens of `(1 | 2) >x> Add(x, 10)` move in the order in which they came, with one pass lent for the fork and an idle one, which no publication
-/// needs here. The book accepts so many moves (`entries`) and refuses the next for this reason (`why`). So many of the lent passes remain then
-/// (`left`).
+/// The tokens of `(1 | 2) >x> Add(x, 10)` move in the order in which they came. One pass is lent for the fork, and an idle one, which no publication
+/// needs here. The book accepts `entries` moves and refuses the next for the reason `why`; `left` of the lent passes remain then.
 pub(crate) fn makes_moves<P: Run + Naming>(
     alloc: Global,
     setup: &Setup<'_, P>,
@@ -113,7 +112,7 @@ pub(crate) fn makes_moves<P: Run + Naming>(
     has_written(alloc, setup, replay, MOVES.get(entries)?)
 }
 
-/// A single token moves by `step` until the book is full. There are so many entries then.
+/// A single token moves by `step` until the book is full, which has `entries` entries then.
 pub(crate) fn goes_on_until_full<P: Run + Naming>(
     alloc: Global,
     setup: &Setup<'_, P>,

@@ -1,4 +1,4 @@
-//! The rows: what each shows, in the words of whoever reads what the program writes.
+//! The rows: what each shows, in the words that the program writes for it.
 
 use crate::begin::{PASSES, WORDS};
 use crate::rows::{Row, Shows, Step};

@@ -42,7 +42,7 @@ const WAYS: [(&[u8], &[u8]); 4] = [
         way\nA(_) = 2\nB(1, true) = halt after 7\n-\nA(_) = 2\nB(1, true) = halt after 7\n\
         way\nA(_) = never\nB(1, true) = halt after 7\n-\nA(_) = never\nB(1, true) = halt after 7\n",
     ),
-    // Calls that are answered each for itself.
+    // A service whose calls are answered independently of each other.
     (
         b"case c\nA() = 1 | 2 in each of 2 calls\nB() = 3 | 4\n",
         b"way\n-\nA() = 1 then 1\nB() = 3\n\

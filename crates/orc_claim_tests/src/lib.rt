@@ -1,5 +1,5 @@
-//! Tests of the crates by which `orc test` judges a workflow: claims, cases, tallies, and searches of every schedule. Each of these would be proved twice
-//! if it had tests of its own.
+//! Tests of the crates by which `orc test` judges a workflow: claims, cases, tallies, and searches of every schedule. The tests are in a crate of
+//! their own, since the gate would prove each of those crates twice if it had tests.
 #![tactic(auto)]
 
 #[cfg(test)]

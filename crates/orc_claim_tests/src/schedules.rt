@@ -1,4 +1,5 @@
-//! Searches through every schedule of a program for a run that breaks a claim. Rows of `outcomes` and `tests` have what the program says of others.
+//! Searches through every schedule of a program for a run that breaks a claim. The rows in `outcomes` and `tests` of `crates/orc_rows/data` have more
+//! such searches, by the program `orc`.
 
 use orc_claims::happening::{Happening, Occurrence, Phase};
 use orc_load::{Loaded, load};
@@ -13,10 +14,10 @@ use std::test::Fail;
 // Both waits are over at time 1. Then either number is published first.
 const RACE: &[u8] = b"Rwait(1) >> 1 | Rwait(1) >> 2";
 
-// What is seen of a run.
+// One thing that a search sees in a run.
 #[derive(Clone, Copy)]
 enum Mark {
-    // A wait is over at time 1, or at no time where the claim asks for none.
+    // A wait is over, at time 1. If times make no difference to the claim, the search has time 0 in its place.
     Answer,
     Published(i64),
 }
@@ -24,7 +25,7 @@ enum Mark {
 #[derive(Clone, Copy)]
 enum Wanted {
     Holds,
-    // A run that halts breaks the claim, of which this is seen, and no more.
+    // A run that halts breaks the claim; this is all that is seen in it.
     Fails(&'static [Mark]),
     TooMany,
 }
@@ -60,7 +61,7 @@ const WAITS: [ClaimSite; 1] = [ClaimSite {
     arguments: 1,
 }];
 
-// Claims about the race, how many states a search may look at, and what it answers.
+// Claims about the race, how many states a search may look at, and what it has to answer.
 const CLAIMS: [(&[u8], usize, Wanted); 9] = [
     (
         b"always\nat most 1 Rwait(_) answered",

@@ -16,7 +16,8 @@ use std::test::Fail;
 
 const ONE: Value = Value::Number(1);
 
-// How a term is made, perhaps of terms that were made before it, which are given by their places in the row. Site 7 is the first that isn't built in.
+// How to make a term, perhaps from terms that were made before it, which are named by their places in the row. Site 7 is the first that isn't built
+// in.
 #[derive(Clone, Copy)]
 enum Make {
     Nothing,
@@ -27,7 +28,7 @@ enum Make {
     Awaits(u64),
     Pair(Joint, usize, usize),
     Changed(Change, usize),
-    // What `f >5> g` becomes, by the place of g, where f becomes the other one and publishes 1.
+    // What `f >5> g` becomes if f publishes 1 and becomes the second of these terms. The first one is g.
     Fed(usize, usize),
 }
 
@@ -44,7 +45,7 @@ fn pair(terms: &mut Terms, joint: Joint, f: usize, g: usize) -> Result<usize, Al
     terms.number_of(Node::Pair(joint, f, g))
 }
 
-// What the whole becomes if the part in this frame becomes that term and publishes 1. None where the whole publishes the 1, too.
+// What the whole term becomes if the part in this frame publishes 1 and becomes that term. None if the whole publishes the 1, too.
 fn taken(
     terms: &mut Terms,
     alloc: Global,

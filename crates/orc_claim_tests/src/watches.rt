@@ -11,7 +11,7 @@ use orc_ways::test::Test;
 use std::alloc::{AllocError, Global};
 use std::test::Fail;
 
-// A test with one claim. No test is an error, as refused memory is.
+// Reads a test with one claim. It is an error if the text is no test, or memory is refused.
 fn test_of<'a>(alloc: Global, text: &'a [u8]) -> Result<Test<'a>, AllocError> {
     match read_test(alloc, text, &Answers::builtin(alloc)?) {
         Ok(test) => Ok(test),
@@ -27,8 +27,8 @@ fn watch_of(alloc: Global, text: &[u8]) -> Result<Option<Watch>, AllocError> {
     }
 }
 
-// Claims, and the time after which all times are one to them. None where a search can't watch for the claim: it is about calls that pend at once, or
-// asks for a cancel.
+// Claims, and for each the time from which on it makes no difference when something happens. None if a search can't watch for the claim: it is about
+// calls that pend at the same time, or asks for a cancel.
 const LATEST: [(&[u8], Option<u64>); 7] = [
     (b"always\nat most 5 Rwait(_) at once", None),
     (

@@ -1,6 +1,6 @@
 //! A program that runs a workflow on sites of its own: a clerk on another thread serves each call, and takes a millisecond for it.
 //!
-//! Whoever builds the engine into a program writes these three: how a call is made (`Office`), what it is while it is out (`Errand`), and the run.
+//! A program that uses the engine needs three parts of its own: how to make a call (`Office`), a call that was made (`Errand`), and the run.
 #![tactic(auto)]
 
 mod office;
@@ -18,10 +18,10 @@ use std::sync::atomic::{AtomicU64, Ordering};
 use std::thread::Threads;
 use std::{io, thread};
 
-/// A hotel and a hostel are asked for a bed. Who answers first gets the guest.
+/// The workflow asks a hotel and a hostel for a bed. The first answer gets the guest.
 const WORKFLOW: &[u8] = b"val price = Hotel(2) | Hostel(2)\nprice";
 
-/// The script: what they answer, and after how much logical time.
+/// The script: what the two services answer, and after how much logical time.
 const SERVICES: &[u8] = b"Hotel(_) = 70 after 3\nHostel(_) = 35 after 5\n";
 
 /// How many threads run the workflow.

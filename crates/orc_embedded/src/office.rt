@@ -12,10 +12,10 @@ use std::sync::atomic::{AtomicU64, Ordering};
 use std::thread;
 use std::time::{Clock, Duration};
 
-/// What the clerk is handed: where to say that a call has been served. Nothing, where no more calls come.
+/// What the clerk gets for a call: the channel by which to say that it was served. None says that no more calls come.
 pub type Job = Option<Sender<(), Global>>;
 
-/// Serves calls until no more come, a millisecond each, and answers how many there were.
+/// The clerk's work: serves calls until no more come, a millisecond each, and gives how many there were.
 pub fn serve<R: Wait + Clock>(rt: &R, jobs: &Receiver<Job, Global>) -> u64 {
     let mut served = 0u64;
     for job in jobs.iter(rt) {
@@ -29,7 +29,7 @@ pub fn serve<R: Wait + Clock>(rt: &R, jobs: &Receiver<Job, Global>) -> u64 {
     served
 }
 
-/// Makes calls: each is handed to the clerk, and answered as the script says.
+/// Sites that hand each call to the clerk, and answer it as the script says.
 #[derive(Drop)]
 pub struct Office<'a, R: Wait> {
     pub rt: &'a R,
@@ -64,7 +64,7 @@ impl<'a, R: Wait> Sites for Office<'a, R> {
     }
 }
 
-/// A call that was made and has no answer yet. Once it is due, whoever polls it waits until the clerk has served it.
+/// A call that was made and has no answer yet. A poll of a call that is due blocks until the clerk has served the call.
 #[derive(Drop)]
 pub struct Errand<'a, R: Wait> {
     rt: &'a R,

@@ -17,9 +17,9 @@ use std::marker::Brand;
 // The slots in which tokens are looked for. No program here has more tokens at a time.
 const SLOTS: usize = 4;
 
-// Runs a task (a call of a definition) by a ledger of its own, in which each token moves in turn. None where a move is refused, or the run isn't over
-// after `limit` rounds. Where the call isn't the outermost, its publications aren't those of the enclosing run: a token that would publish stays
-// where it is, and its value is the result. `keeps` says whether the journal is kept or only counted.
+// Runs a task (a call of a definition) by a ledger of its own, in which each token moves in turn. None if a move is refused, or the run isn't over
+// after `limit` rounds. If the call isn't outermost, the enclosing run doesn't publish what it yields: then a token that would publish stays where it
+// is, and its value is the result. `keeps` says whether the ledger keeps the journal or only counts its entries.
 fn run_apart<Q: Run, P: Run>(
     alloc: Global,
     graph: &Graph,
@@ -56,7 +56,8 @@ fn run_apart<Q: Run, P: Run>(
     ledger.into_sub_run::<P>(&inputs, task, last)
 }
 
-// Whether the token in a slot could move, or waits, or there is none.
+// Moves the token in a slot once. True if it moved or waits, or if there is none. False if its move was refused, or its call isn't answered at once
+// with a value.
 fn move_on<Q: Run>(
     alloc: Global,
     ledger: &mut Ledger<Q>,
@@ -95,7 +96,8 @@ fn part_of<P: Run>(
     run_apart::<Brand, P>(alloc, &own, inputs.answers, keeps, task, 100)
 }
 
-// The slot of the first token that is at a call of a definition with values. All tokens move until there is one, ten times at most.
+// The slot of the first token that stands at a call of a definition whose arguments have values. All tokens move until there is one, ten times at
+// most.
 fn at_call<P: Run>(alloc: Global, ledger: &mut Ledger<P>, inputs: &Inputs<'_, P>) -> Option<usize> {
     for _round in 0..10_usize {
         for slot in 0..SLOTS {
@@ -224,7 +226,8 @@ const SOURCE: &[u8] = b"def f(n) = Add(n, 1)\nf(4)";
 // The rules allow these entries in this order alone.
 const JOURNAL: &[u8] = b"orc-journal 2\ndef 1 2\ncall 2 1 Add(4, 1)\nreturn 1 3 5\npublish 3 5\n";
 
-/// Whether the entries of a sub-run are in the place of its call, if the limit has room for them; and whether a run that isn't over is no sub-run.
+/// Whether the merged journal has the entries of a sub-run in the place of its call, if the limit has room for them; and whether a run that isn't
+/// over gives no sub-run.
 pub(crate) fn stands_in_its_place(alloc: Global) -> bool {
     has_text(alloc, SOURCE, 4, JOURNAL)
         && matches!(text_of(alloc, SOURCE, 3), Some(Err(LedgerFault::Limit)))
@@ -233,22 +236,22 @@ pub(crate) fn stands_in_its_place(alloc: Global) -> bool {
 
 // Programs, and the entries that the rules allow, one journal each.
 const PLACES: [(&[u8], &[u8]); 5] = [
-    // A call whose run opens a cell.
+    // A call whose sub-run opens a cell.
     (
         b"def f(n) = x <x< n\nf(4)",
         b"orc-journal 2\ndef 1 2\nopen 2 1 3 4\nbind 4 1 4\npublish 3 4\n",
     ),
-    // One in a right side.
+    // A call in the right side of a pruning.
     (
         b"def f(n) = x <x< n\ny <y< f(4)",
         b"orc-journal 2\nopen 1 1 2 3\ndef 3 4\nopen 4 2 5 6\nbind 6 2 4\n",
     ),
-    // One in the left side of a `>x>`.
+    // A call in the left side of a `>x>`.
     (
         b"def f(n) = Add(n, 1)\nf(4) >x> Add(x, 10)",
         b"orc-journal 2\nseq 1 2\ndef 2 3\ncall 3 1 Add(4, 1)\nreturn 1 4 5\n",
     ),
-    // Two that yield nothing there.
+    // A call that yields nothing in the right side of a pruning, and one in the left side of a `>x>`.
     (
         b"def f() = stop\ny <y< f()",
         b"orc-journal 2\nopen 1 1 2 3\ndef 3 4\nend 4\n",
@@ -259,8 +262,8 @@ const PLACES: [(&[u8], &[u8]); 5] = [
     ),
 ];
 
-/// Whether a sub-run may open cells, and yield a value or nothing, wherever its call is. One that yields two values is no sub-run where the enclosing
-/// run doesn't publish them.
+/// Whether a sub-run may open cells, and yield a value or nothing, wherever its call is; and whether a run that yields two values gives no sub-run if
+/// the enclosing run doesn't publish them.
 pub(crate) fn stands_anywhere(alloc: Global) -> bool {
     for (source, journal) in PLACES.iter() {
         if !has_text(alloc, source, 100, journal) {

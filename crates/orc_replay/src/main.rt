@@ -1,4 +1,4 @@
-//! Drives a ledger (the state of a run, `orc_ledger`) by its calls alone: what it writes, what comes next, and what it refuses.
+//! Drives a ledger (the state of a run, `orc_ledger`) by its calls alone, and compares what it writes, says and refuses with what it has to.
 //!
 //!     orc_replay                              writes of each family of rows whether the ledger does what they say
 //!     orc_replay PROGRAM SCRIPT JOURNAL       replays a journal of the second version, entry by entry, and writes whether the ledger's is the same
@@ -16,8 +16,8 @@ use orc_rules::entry::State;
 use std::alloc::Global;
 use std::{env, fs, io};
 
-/// Replays a journal's text: how many entries it has, and the state (Halted, Quiet, Running) in which the ledger is then. A text that isn't read is a
-/// `Stop` at 0.
+/// Replays a journal's text. Gives how many entries it has, and the state (Halted, Quiet, Running) in which the ledger is at its end. The error for a
+/// text that can't be read is a `Stop` at 0.
 pub(crate) fn replay_text(
     alloc: Global,
     source: &[u8],

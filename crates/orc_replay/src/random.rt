@@ -12,13 +12,13 @@ use std::alloc::{AllocError, Global};
 const SCRIPT: &[u8] =
     b"A() = 1 then halt then 2 after 1\nB(_) = 5 after 2\nC(1) = true\nC(_) = halt after 1\nN() = never\n";
 
-/// How many programs.
+/// How many programs are made.
 const PROGRAMS: u64 = 300;
 
 /// The most entries of a run.
 const ENTRIES: u64 = 60;
 
-/// Numbers that look like random ones (a linear congruential generator): the same ones each time.
+/// A linear congruential generator: pseudo-random numbers that are the same each time.
 #[derive(Drop)]
 struct Dice {
     state: u64,
@@ -65,7 +65,7 @@ const LEAVES: [&[u8]; 11] = [
     b"#",
 ];
 
-/// A sign that is still to be written, of an expression of so many levels (4 at most). Bit n of `names` says that the variable of level n is bound
+/// A sign that is still to be written, of an expression of `level` levels (4 at most). Bit n of `names` says that the variable of level n is bound
 /// there.
 #[derive(Clone, Copy)]
 struct Part {
@@ -139,7 +139,7 @@ fn program(alloc: Global, seed: u64) -> Result<Vec<u8>, AllocError> {
     Ok(text)
 }
 
-// Whether a run may end so in a place of which the ledger says this. Where the limit cuts a run, the last moves of marks may be left.
+// Whether a run that ends so may leave the ledger in this state. If the limit cuts a run, its last moves of marks may be missing.
 fn fits(end: End, state: State) -> bool {
     match end {
         End::Halted => state == State::Halted,
@@ -149,7 +149,7 @@ fn fits(end: End, state: State) -> bool {
     }
 }
 
-// How a program's run ends. None where its journal isn't replayed to its end, or leads elsewhere.
+// How a program's run ends. None if the replay of its journal fails, or leads to a state in which a run doesn't end so.
 fn replayed(alloc: Global, source: &[u8]) -> Option<End> {
     let loaded = load(alloc, source, SCRIPT).ok()?;
     let (program, answers) = (&loaded.program, &loaded.answers);

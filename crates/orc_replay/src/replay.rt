@@ -17,7 +17,7 @@ use orc_rules::value::{Answer, Args};
 use std::alloc::Global;
 use std::marker::Brand;
 
-/// Why an entry isn't replayed.
+/// Why the replay of an entry fails.
 #[derive(Clone, Copy, Debug, PartialEq, Eq)]
 pub enum Odd {
     /// The ledger has no such token, call or side.
@@ -31,14 +31,14 @@ pub enum Odd {
     Wrong,
     /// Something else comes next than this tick.
     Time,
-    /// Another entry was written.
+    /// The ledger wrote another entry.
     Other,
     /// A limit is reached.
     Limit,
     Memory,
 }
 
-/// The entry that isn't replayed, from 1, and why; 0 where nothing was replayed.
+/// The entry at which a replay fails, from 1, and why; 0 if nothing was replayed.
 #[derive(Clone, Copy, Debug, PartialEq, Eq)]
 pub struct Stop {
     pub at: usize,
@@ -61,7 +61,7 @@ struct Open {
     left: bool,
 }
 
-/// A run whose entries are told one after another.
+/// A ledger that does entries one after another, and what the replay has to note of them.
 pub struct Replay<P: Run> {
     pub ledger: Ledger<P>,
     // The slot in which the ledger keeps each token, by the token's serial (its mark in the journal); there is no serial 0.
@@ -98,7 +98,7 @@ impl From<LedgerFault> for Odd {
         match fault {
             LedgerFault::Full | LedgerFault::Limit => Odd::Limit,
             LedgerFault::Memory => Odd::Memory,
-            // `advance` has a claim that always succeeds, so this doesn't occur.
+            // The claim that `advance` makes here always succeeds, so this fault doesn't occur.
             LedgerFault::Unclaimed => Odd::Other,
         }
     }
@@ -171,7 +171,7 @@ impl<P: Run> Replay<P> {
         self.close_left()
     }
 
-    // Room for what is noted of an entry: two tokens and a group. So the notes are refused no memory once the ledger has moved.
+    // Makes room for the notes on an entry: two tokens and a group. So no memory is refused for them once the ledger has moved.
     fn make_room(&mut self) -> Result<(), Odd> {
         if self.slots.try_reserve(2).is_err() || self.groups.try_reserve(1).is_err() {
             return Err(Odd::Memory);
@@ -179,7 +179,7 @@ impl<P: Run> Replay<P> {
         Ok(())
     }
 
-    // Has the ledger do what an entry says, and once more where it was refused memory: it has changed nothing then.
+    // Has the ledger do what an entry says, and once more if memory was refused, since nothing has changed then.
     fn enter_again(&mut self, inputs: &Inputs<'_, P>, entry: &Entry) -> Result<(), Odd> {
         match self.enter(inputs, entry) {
             Err(Odd::Memory) => self.enter(inputs, entry),
@@ -214,7 +214,7 @@ impl<P: Run> Replay<P> {
         }
     }
 
-    // Notes what a token's move has done, which stood in this slot and group.
+    // Notes what the move of a token has done that stood in this slot and group.
     fn follow(&mut self, entry: &Entry, slot: usize, group: u32, moved: Moved) -> Result<(), Odd> {
         match moved {
             Moved::On => {
@@ -245,7 +245,7 @@ impl<P: Run> Replay<P> {
         }
     }
 
-    // The token in a slot is the newest one. Gives its group.
+    // Notes the slot of the newest token, and gives its group.
     fn stand(&mut self, slot: usize) -> Result<u32, Odd> {
         let Some(token) = self.ledger.held(slot) else {
             return Err(Odd::Gone);
@@ -276,7 +276,8 @@ impl<P: Run> Replay<P> {
         self.groups.iter().position(|open| open.number == number)
     }
 
-    // A publication passes the left sides from one group out to another. No more groups than `MOST_GROUPS` are nested, so the loop reaches that.
+    // Notes that a publication has left the left sides between the group `from` and the enclosing group `to`. At most `MOST_GROUPS` groups are
+    // nested, so the loop reaches `to`.
     fn leave(&mut self, from: u32, to: u32) -> Result<(), Odd> {
         let mut number = from;
         for _outwards in 0..MOST_GROUPS {
@@ -295,7 +296,7 @@ impl<P: Run> Replay<P> {
         Err(Odd::Other)
     }
 
-    // The groups inside the right side of a cell are gone, its own too.
+    // Drops the group of a cell's right side, and all groups inside it.
     fn drop_side(&mut self, cell: u64) -> Result<(), Odd> {
         let Some(place) = self
             .groups
@@ -348,7 +349,7 @@ impl<P: Run> Replay<P> {
         Err(Odd::Other)
     }
 
-    // A side halts: a cell is lost, or a right side starts.
+    // Halts a side: a cell is lost, or the right side of an otherwise starts.
     fn halt(&mut self, side: Side) -> Result<(), Odd> {
         let Some(place) = self.groups.iter().position(|open| open.side == side) else {
             return Err(Odd::Gone);
@@ -408,7 +409,7 @@ impl<P: Run> Replay<P> {
         }
     }
 
-    // Has the ledger do what the entries say, but for those that it has written already: the cancels behind a bind.
+    // Has the ledger do what the entries say, except for the cancels behind a bind, which it has written with the bind.
     fn follow_journal(&mut self, inputs: &Inputs<'_, P>, journal: &Journal) -> Result<(), Stop> {
         for at in 0..journal.len() {
             let Some(entry) = journal.get(at) else {
@@ -467,10 +468,10 @@ fn replay_named<P: Run>(
     }
 }
 
-/// Replays a journal of the second version, entry by entry, by calls of a ledger that begins with the program: each entry is done by the call for its
-/// kind, and groups that a publication has left are closed as soon as nobody is in them. Ok where that writes this journal, with what the ledger says
-/// of the place to which it has led. An entry that leaves a side, or a tick, which comes before moves of marks that are still to be made, is Live or
-/// Time: the rules allow it, and the ledger makes these moves first.
+/// Replays a journal of the second version: a ledger that begins with the program does each entry by the call for its kind. Groups that a publication
+/// has left are closed as soon as they have no members. Ok, with the state to which the entries have led, if the ledger writes the same journal. An
+/// entry that ends a side, or a tick, fails with Live or Time if moves of marks are still to be made: the rules allow it, but the ledger makes these
+/// moves first.
 pub fn replay_journal(
     alloc: Global,
     program: &Program,

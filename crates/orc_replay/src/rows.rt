@@ -15,22 +15,22 @@ use orc_rules::value::{Answer, Value};
 use std::alloc::{AllocError, Global};
 use std::marker::Brand;
 
-/// What is done with a ledger, or asked of it.
+/// What a row does with a ledger, or what the ledger has to say.
 #[derive(Clone, Copy)]
 pub(crate) enum Step {
-    /// These entries are done, a line each. Cancels are not: they come with a bind.
+    /// The ledger does these entries, a line each. Cancels aren't among them, since they come with a bind.
     Does(&'static str),
     /// The token with this mark waits.
     Waits(u64),
-    /// This is what `Ledger::next` answers.
+    /// `Ledger::next` gives this.
     Next(Next),
-    /// The call with the least number that is due now.
+    /// The least number of a call that is due now is this, or none is due.
     Due(Option<u64>),
-    /// This answer of a call is refused.
+    /// The ledger refuses this answer of the call with this number, for this reason.
     Refuses(u64, Answer, ReturnFault),
     /// The call with this number was made at this time, and is the n-th of its site with its arguments, n from 1.
     Asked(u64, u64, u64),
-    /// Whether the term has halted.
+    /// The term has halted, or it hasn't.
     Halted(bool),
 }
 
@@ -110,7 +110,7 @@ fn has_lines<P: Run>(
     Ok(whole && text.as_slice() == wanted.as_slice())
 }
 
-// The first step that isn't so, from 0; their number where the journal has other lines.
+// The first step that doesn't hold, from 0; the number of steps if all hold, but the journal has other lines.
 fn wrong_step<P: Run>(
     alloc: Global,
     graph: &Graph,
@@ -282,7 +282,7 @@ pub(crate) const CALLS: [Row; 6] = [
     },
 ];
 
-// Moves the token in slot 0 until the ledger refuses a move: how many entries the journal has then, and why.
+// Moves the token in slot 0 until the ledger refuses a move. Gives how many entries the journal has then, and the reason.
 fn refused_at<P: Run>(
     alloc: Global,
     graph: &Graph,
@@ -367,7 +367,7 @@ const EARLY: [(&[u8], &[u8], Stop); 3] = [
     ),
 ];
 
-/// Whether such an entry isn't replayed.
+/// Whether the replay of each of these journals fails at that entry.
 pub(crate) fn marks_move_first(alloc: Global) -> bool {
     for (source, journal, stop) in EARLY.iter() {
         if replay_text(alloc, source, b"", journal) != Err(*stop) {
@@ -403,7 +403,7 @@ const WRITTEN: [(&[u8], &[u8], &[u8], usize, State); 3] = [
     ),
 ];
 
-/// Whether what was written is replayed.
+/// Whether each of these journals is replayed to its end.
 pub(crate) fn are_replayed(alloc: Global) -> bool {
     for (source, script, journal, entries, state) in WRITTEN.iter() {
         if replay_text(alloc, source, script, journal) != Ok((*entries, *state)) {

@@ -1,4 +1,4 @@
-//! Rows that are a journal: what a check says of the whole, and of each prefix.
+//! Rows that are a journal: what a check says of the whole journal, and of each prefix of it.
 
 use crate::trial::Trial;
 use std::io;
@@ -8,8 +8,8 @@ use std::thread::Threads;
 /// The fields that such a row may have.
 pub const FIELDS: &str = "source script journal check fronts";
 
-// What a check has to say of the first bytes of a journal, cut anywhere: that it is a journal at the end of a line, else that its last line is at
-// fault.
+// What a check has to say of a prefix of a journal, cut anywhere: if the cut is at the end of a line, that it is a journal, and otherwise that its
+// last line is at fault.
 fn said_of(front: &str) -> Option<u64> {
     if front.contains('\n') {
         Some(front.split('\n').count() as u64)

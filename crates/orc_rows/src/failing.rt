@@ -5,7 +5,7 @@ use std::alloc::Global;
 use std::io;
 use std::io::{Empty, Read, Write};
 
-/// Files of which the first `good` that are asked for are empty, and the next one can't be read, for this reason.
+/// Files of which the first `good` ones that are read are empty, and the next one can't be read: its fault is `fault`.
 #[derive(Drop)]
 pub struct FailingFiles {
     pub alloc: Global,
@@ -30,7 +30,7 @@ impl Files for FailingFiles {
     }
 }
 
-/// A file in memory that gives so many bytes at a time, and fails when it has given `good` in all.
+/// A file in memory that gives `at_once` bytes at a time, and fails once it has given `good` bytes in all.
 #[derive(Drop)]
 pub struct ShortReader<'a> {
     pub bytes: &'a [u8],
@@ -56,7 +56,7 @@ impl Read for ShortReader<'_> {
     }
 }
 
-/// A writer that takes `room` bytes in all, so many of them at most in one call, and then fails.
+/// A writer that takes `room` bytes in all, at most `at_once` of them in one call, and then fails.
 #[derive(Drop)]
 pub struct ShortWriter {
     pub taken: Vec<u8>,

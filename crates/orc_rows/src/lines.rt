@@ -11,7 +11,7 @@ use std::thread::Threads;
 /// The fields that such a row may have.
 pub const FIELDS: &str = "line source script journal test status text begins err has";
 
-/// What only a shell can do. A row whose line has one of these is left to `checks/rows`.
+/// Signs that need a shell. Only `checks/rows` tries a row whose command line has one of these.
 const SHELL: [char; 6] = [';', '|', '<', '>', '$', '"'];
 
 /// Whether a command line can be done without a shell.

@@ -1,10 +1,11 @@
-//! Does the rows of this crate's `data` by the program's own function, over files and streams in memory: what a source with its script publishes on
-//! 1, 2, 4 and 16 workers, how and when it ends, what a check says of its journal, which texts are refused, and what each command line writes.
-//! `checks/rows` describes the tables, and does them with the built program; what needs a shell is left to it.
+//! Tries the rows of this crate's `data` by `orc_run::command`, the function behind the program `orc`, over files and streams in memory. A row says
+//! what a source with its script publishes on 1, 2, 4 and 16 workers, how and when it ends, what a check says of its journal, which texts are
+//! refused, or what a command line writes. `checks/rows` describes the tables, and tries them with the built program; only it tries rows that need a
+//! shell.
 //!
-//! Behind them come command lines over files and streams that fail (`streams`).
+//! After the rows the program tries command lines over files and streams that fail (`streams`).
 //!
-//!     orc_rows FILE..                         these tables, and the failing streams
+//!     orc_rows FILE..                         tries the tables in these files, and the failing streams
 #![tactic(auto)]
 
 mod checks;

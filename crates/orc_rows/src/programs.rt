@@ -15,13 +15,13 @@ use std::thread::Threads;
 pub const FIELDS: &str =
     "source script words workers status err text out each published entries counted time end check has lacks lost draw instead refuses marks explains";
 
-/// The numbers of workers on which a program is run, where its row says nothing.
+/// The numbers of workers on which a program is run if its row doesn't say it.
 const WORKERS: &str = "1 2 4 16";
 
-/// On how many workers a program is run that race each other.
+/// The number of workers of a run with `--unordered`, in which they race each other.
 const RACERS: &str = "4";
 
-/// How many entries a journal may have whose end is explained: the explanation of a long one takes long.
+/// The longest journal, in entries, for which the explanation of the run's end is tried: for a long one it takes long.
 const MOST_EXPLAINED: u64 = 10_000;
 
 // The words of a command line that runs the row's program.
@@ -66,7 +66,7 @@ fn is_end(status: u8) -> bool {
     matches!(status, 0 | 3 | 4)
 }
 
-// How many bytes a text's blanks and, behind a `|`, its `^` have: where it underlines, and how much.
+// Where a line of an explanation underlines, and how much: behind a `|` the number of its blanks, and the number of its `^`.
 fn underlined(line: &str) -> Option<(usize, usize)> {
     let (front, rest) = line.split_once('|')?;
     let marks = rest.trim_start();
@@ -91,7 +91,7 @@ fn marked(text: &str) -> &str {
 }
 
 impl<R: Threads + Wait + Sync> Trial<'_, R> {
-    // Notes what a fault's explanation says otherwise than the row.
+    // Notes in what the explanation of a fault differs from the row.
     fn look_at_fault(&mut self, words: &mut Vec<&str>) -> io::Result<()> {
         if !self.row.has("marks") && !self.row.has("explains") {
             return Ok(());
@@ -112,7 +112,7 @@ impl<R: Threads + Wait + Sync> Trial<'_, R> {
         Ok(())
     }
 
-    // Notes what a run publishes otherwise than the row says.
+    // Notes in what a run's publications differ from the row.
     fn look_at_values(&mut self, out: &str) -> io::Result<()> {
         let words = out.split_whitespace().collect::<Vec<&str>>(self.alloc)?;
         let mut values = joined(self.alloc, words.as_slice())?;
@@ -138,7 +138,7 @@ impl<R: Threads + Wait + Sync> Trial<'_, R> {
         Ok(())
     }
 
-    // Notes what a journal's lines are otherwise than the row says.
+    // Notes in what a journal's lines differ from the row.
     fn look_at_lines(&mut self, text: &str) -> Result<(), AllocError> {
         if let Some(line) = self.row.field("has") {
             if count_lines(text, line) != 1 {
@@ -158,7 +158,7 @@ impl<R: Threads + Wait + Sync> Trial<'_, R> {
         Ok(())
     }
 
-    // Notes how the end of a run is explained otherwise than it went.
+    // Notes in what the explanation of a run's end differs from that end.
     fn look_at_end(&mut self, words: &mut Vec<&str>, told: &Told, plain: &Done) -> io::Result<()> {
         let is_halted = plain.status == 0;
         if is_halted && !plain.out.is_empty() || told.entries > MOST_EXPLAINED {
@@ -186,7 +186,7 @@ impl<R: Threads + Wait + Sync> Trial<'_, R> {
         Ok(())
     }
 
-    // Notes what the journal of a run with this status has otherwise than the row or a check of it says.
+    // Notes in what the journal of a run with this status differs from the row, or from what a check says of it.
     fn look_at_journal<'t>(&mut self, text: &'t str, status: u8) -> io::Result<Told<'t>> {
         let bytes = Vec::from_slice(self.alloc, text.as_bytes())?;
         self.folder.put("a.journal", bytes)?;
@@ -204,7 +204,7 @@ impl<R: Threads + Wait + Sync> Trial<'_, R> {
         Ok(told)
     }
 
-    // Runs the program again with `--journal`, and notes what its journal has otherwise than the row or the run says.
+    // Runs the program again with `--journal`, and notes in what its journal differs from the row or from the run without it.
     fn try_run_journal(&mut self, words: &mut Vec<&str>, plain: &Done) -> io::Result<()> {
         words.push("--journal")?;
         let done = self.run(words.as_slice())?;
@@ -225,7 +225,7 @@ impl<R: Threads + Wait + Sync> Trial<'_, R> {
         self.look_at_end(words, &told, plain)
     }
 
-    // Notes a status and a text on standard error that aren't what the row says.
+    // Notes a status, or a text on standard error, that differs from the row.
     fn look_at_status(&mut self, done: &Done) -> io::Result<()> {
         let status = format!(in self.alloc; "{}", done.status)?;
         if !is_one_of(self.row.field("status").unwrap_or("0"), status.as_str()) {
@@ -235,7 +235,7 @@ impl<R: Threads + Wait + Sync> Trial<'_, R> {
         Ok(())
     }
 
-    // Notes what a run does otherwise than the row says.
+    // Notes in what a run differs from the row.
     fn look_at_run(&mut self, words: &mut Vec<&str>, done: &Done) -> io::Result<()> {
         self.look_at_status(done)?;
         let out = done.out.as_str();
@@ -255,8 +255,7 @@ impl<R: Threads + Wait + Sync> Trial<'_, R> {
         self.try_run_journal(words, done)
     }
 
-    // Runs the program on workers that race each other, and notes what its journal has otherwise than the row says. It is one run, since another may
-    // differ.
+    // Runs the program with `--unordered`, and notes in what its journal differs from the row. It looks at one run, since another may differ from it.
     fn try_unordered(&mut self, more: &str) -> io::Result<()> {
         let mut words = words_of(self.alloc, RACERS, more)?;
         words.extend_from_slice(["--unordered", "--journal"].as_slice())?;
@@ -269,7 +268,7 @@ impl<R: Threads + Wait + Sync> Trial<'_, R> {
         Ok(())
     }
 
-    /// Tries a row that is a program: with each of its lines of words, on each number of workers, and on workers that race each other.
+    /// Tries a row that is a program: with each of its lines of words, on each number of workers, and with `--unordered`.
     pub fn try_program(&mut self) -> io::Result<()> {
         let mut last: Option<String> = None;
         let mut is_run = !self.row.has("text") && !self.row.has("workers");

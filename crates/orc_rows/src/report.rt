@@ -1,4 +1,4 @@
-//! How many command lines did what their rows say, and what is written of the others.
+//! The report on a table: how many command lines did what their rows say, and the failures of the others.
 
 use std::alloc::{AllocError, Global};
 use std::io;
@@ -6,7 +6,7 @@ use std::io;
 /// How many failures are written in full; the others are only counted.
 const MOST_TOLD: u64 = 20;
 
-/// How many command lines did what their rows say, how many didn't, and what is written of these.
+/// How many command lines did what their rows say, how many didn't, and the text on these.
 #[derive(Drop)]
 pub struct Report {
     pub passed: u64,
@@ -35,7 +35,7 @@ impl Report {
         self.wrong.push('\n')
     }
 
-    /// Counts a command line of a row. Where something of it was noted, that is a failure.
+    /// Counts a command line of a row. It is a failure if something was noted of it.
     pub fn count(&mut self, sentence: &str, line: &str) -> Result<(), AllocError> {
         if self.wrong.is_empty() {
             self.passed = self.passed.saturating_add(1);

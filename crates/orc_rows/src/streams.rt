@@ -1,4 +1,4 @@
-//! What command lines answer over files that can't be read and streams that don't take what is written, and what they have written by then.
+//! Command lines over files that can't be read, and over streams that refuse what is written: their status, and what they have written by then.
 
 use crate::failing::{FailingFiles, IdleWriter, ShortReader, ShortWriter};
 use crate::folder::{Folder, orc, orc_into};
@@ -45,7 +45,7 @@ const HELP: &[&str] = &["orc", "print", "--help"];
 
 const VERSION: &[&str] = &["orc", "--version"];
 
-// Command lines and what they write to standard output; of `HELP` that isn't said here.
+// Command lines, and what each writes to standard output; the text of `HELP` isn't given here.
 const WHOLE: [(&[&str], &str); 7] = [
     (RUN, "6\n5\n"),
     (OUTCOMES, "order 0 (3 of 3) Halted: 6 5\n"),
@@ -60,12 +60,12 @@ const WHOLE: [(&[&str], &str); 7] = [
     (HELP, ""),
 ];
 
-// The line on standard error where standard output didn't take all, and the status of it.
+// The line on standard error if standard output didn't take all, and below it the status.
 const UNWRITTEN: &str = "orc: write\n";
 
 const UNWRITTEN_STATUS: u8 = 6;
 
-// What is tried with command lines over files in memory, and how many did what they have to.
+// Tries command lines over files in memory, and counts those that do what they have to.
 #[derive(Drop)]
 struct Streams<'a, R> {
     rt: &'a R,
@@ -119,8 +119,8 @@ impl<R: Threads + Wait + Sync> Streams<'_, R> {
         Ok(())
     }
 
-    // A writer that takes one byte a call and fails at the first call, the second and so on, until it takes all: what it has is always a front of the
-    // text.
+    // A writer takes one byte in each call, and fails at the first call, the second and so on, until it takes all. What it has is always a prefix of
+    // the text.
     fn fails_at_each_call_of_a_writer(&mut self) -> io::Result<()> {
         for (words, text) in WHOLE.iter() {
             let whole = orc(self.rt, self.alloc, words, &self.folder)?;
@@ -157,7 +157,7 @@ impl<R: Threads + Wait + Sync> Streams<'_, R> {
         Ok(())
     }
 
-    // A writer that takes 2 bytes and then fails has a front of the text, however many bytes it takes at once.
+    // A writer that takes 2 bytes and then fails has a prefix of the text, however many bytes it takes at once.
     fn fails_at_a_short_writer(&mut self) -> io::Result<()> {
         let words: &[&str] = &["orc", "run", "sum.orc"];
         for at_once in [1, 2, 10].iter() {
@@ -195,7 +195,7 @@ impl<R: Threads + Wait + Sync> Streams<'_, R> {
         command(self.rt, self.alloc, words, &mut files, &mut out, err)
     }
 
-    // FILE, JOURNAL and the script are read in this order, before anything else: here each is empty, so that FILE is no program.
+    // A command reads FILE, JOURNAL and the script in this order, before it does anything else. Here each is empty, so that FILE is no program.
     fn blames_the_first_file_that_is_not_read(&mut self) -> io::Result<()> {
         let rows: [(&[&str], usize, &str); 6] = [
             (RUN, 0, "orc: read a.orc\n"),
@@ -212,7 +212,7 @@ impl<R: Threads + Wait + Sync> Streams<'_, R> {
         Ok(())
     }
 
-    // Does a command line over files of which so many are read, and the next one isn't, for this reason.
+    // Tries a command line over files of which the first few can be read, and the next one can't, for this reason.
     fn is_unread(
         &mut self,
         words: &[&str],
@@ -232,7 +232,7 @@ impl<R: Threads + Wait + Sync> Streams<'_, R> {
         Ok(())
     }
 
-    // The check says the same of a journal that comes a byte at a time or many. If the journal can't be read to its end, the check reports that
+    // A check says the same of a journal whether it comes byte by byte or in larger pieces. If the journal can't be read to its end, it says that
     // alone.
     fn checks_a_journal_that_comes_in_pieces(&mut self) -> io::Result<()> {
         let bytes = JOURNAL.as_bytes();
@@ -245,7 +245,7 @@ impl<R: Threads + Wait + Sync> Streams<'_, R> {
         Ok(())
     }
 
-    // Checks a journal that gives so many bytes at a time, and fails when it has given `good` in all.
+    // Checks a journal that comes a few bytes at a time, from a file that fails once it has given `good` bytes in all.
     fn is_checked(
         &mut self,
         bytes: &[u8],

@@ -43,7 +43,7 @@ impl<'a> Row<'a> {
         self.field(name).is_some()
     }
 
-    /// A field that the row has and these names don't.
+    /// The name of a field of the row that isn't among `names`.
     pub fn stranger(&self, names: &str) -> Option<&'a str> {
         for field in &self.fields {
             if !names.split(' ').any(|name| name == field.name) {

@@ -19,7 +19,7 @@ pub struct Trial<'a, R> {
     pub report: Report,
 }
 
-/// The fields that spell a file, and its name.
+/// The fields that give the text of a file, each with the file's name.
 const FILES: [(&str, &str); 5] = [
     ("source", "a.orc"),
     ("script", "a.script"),
@@ -28,7 +28,7 @@ const FILES: [(&str, &str); 5] = [
     ("journal", "a.journal"),
 ];
 
-/// How a journal is drawn.
+/// The two ways in which a journal is drawn: options of `orc draw`.
 const DRAWN: [(&str, &str); 2] = [("--theme", "dark"), ("--text", "--all")];
 
 // The files of a row, as its fields spell them.
@@ -64,7 +64,7 @@ impl<'a, R: Threads + Wait + Sync> Trial<'a, R> {
         orc(self.rt, self.alloc, words, &self.folder)
     }
 
-    /// Notes what a command line has to do, and what it does in place of that.
+    /// Notes a difference: what a command line has to do, and what it does instead.
     pub fn note(&mut self, wanted: &str, got: &str) -> Result<(), AllocError> {
         self.report.note(wanted, got)
     }
@@ -98,7 +98,7 @@ impl<'a, R: Threads + Wait + Sync> Trial<'a, R> {
         self.report.note("standard error", done.err.as_str())
     }
 
-    /// Has a journal checked: it has to say this.
+    /// Runs a check of the journal, which has to say `wanted`.
     pub fn check(&mut self, wanted: &str, script: &str) -> io::Result<Done> {
         let words = ["orc", "check", "a.orc", "a.journal", "--script", script];
         let done = self.run(words.as_slice())?;
@@ -115,7 +115,7 @@ impl<'a, R: Threads + Wait + Sync> Trial<'a, R> {
         Ok(done)
     }
 
-    /// Has a journal drawn in two ways: it has to be a picture, or to say this.
+    /// Has the journal drawn in two ways: the result has to be a picture, or the message `wanted`.
     pub fn draw(&mut self, wanted: &str) -> io::Result<()> {
         for (kind, option) in DRAWN.iter() {
             let words = [

@@ -1,4 +1,4 @@
-//! Gates and sites for runs: they hold calls, sleep, or only say that they may. A call passes the run's gate before it is made.
+//! Gates and sites for runs: they hold calls, or sleep, or only say that they may. A call passes the run's gate before a site makes it.
 
 use orc_rules::answers::Answers;
 use orc_site::{Gate, Request, Scripted, SiteCall, Sites};
@@ -10,7 +10,7 @@ use std::time::{Clock, Duration};
 /// How often a gate looks before it gives up: some seconds, so that a run with a lost call ends.
 const LOOKS: u64 = 2_000_000_000;
 
-/// Holds nobody, and doesn't say so: so `run_pool` asks the gate for each call, and all workers are at work.
+/// A gate that holds no call, but doesn't say so. So `run_pool` asks it for each call, and runs the program on its workers.
 #[derive(Drop)]
 pub struct Slow;
 
@@ -22,7 +22,7 @@ impl Gate for Slow {
     }
 }
 
-/// Holds each call until `wanted` calls are in the gate: so that many workers have to make a call at one time.
+/// Holds each call until `wanted` calls are in the gate, so that `wanted` workers have to make a call at the same time.
 #[derive(Drop)]
 pub struct Turnstile {
     wanted: u64,
@@ -61,7 +61,7 @@ impl Gate for Turnstile {
     }
 }
 
-/// Sites by the table, whose calls of one site sleep so many microseconds.
+/// Sites that answer by the table; each call of one of them sleeps for some microseconds first.
 #[derive(Drop)]
 pub struct Sleepy<'a, R: Clock> {
     rt: &'a R,
@@ -71,7 +71,7 @@ pub struct Sleepy<'a, R: Clock> {
 }
 
 impl<'a, R: Clock> Sleepy<'a, R> {
-    /// Sites of which the calls of `Ask` sleep so many microseconds.
+    /// Sites whose calls of `Ask` sleep for `sleep` microseconds.
     pub fn new(rt: &'a R, answers: &'a Answers, sleep: u64) -> Sleepy<'a, R> {
         Sleepy {
             rt,

@@ -1,8 +1,8 @@
 //! Runs programs on many workers again and again, and writes how many of the runs were *odd*: ended otherwise than they have to, or left a journal
 //! that the check doesn't accept. `checks/storms` reads that.
 //!
-//!     orc_stress ROUNDS                       each program so often, on 2, 4 and 16 workers
-//!     orc_stress NAME WORKERS [ROUNDS]        one of them on so many workers, once where nothing is said; also `due`, `asks` and `nap`
+//!     orc_stress ROUNDS                       runs each program ROUNDS times on 2, 4 and 16 workers
+//!     orc_stress NAME WORKERS [ROUNDS]        runs one program on WORKERS workers, once by default; NAME may also be `due`, `asks` or `nap`
 #![tactic(auto)]
 
 mod gates;
@@ -20,7 +20,7 @@ use std::time::Clock;
 use std::{env, io};
 use storm::{ASKS, DUE, NAP, STORMS, Storm, run};
 
-/// How often each program is run where no argument says so.
+/// How often each program is run if no argument says it.
 const ROUNDS: u32 = 3;
 
 // Whether a run ended as it has to, and its journal is accepted.
@@ -43,7 +43,7 @@ fn run_scripted<R: Threads + Wait + Sync, G: Gate + Sync>(
     run(rt, alloc, loaded, &sites, gate, workers)
 }
 
-// How many runs of a program on so many workers are odd.
+// How many of `rounds` runs of a program on `workers` workers are odd.
 fn count_odd<R: Threads + Wait + Sync>(
     rt: &R,
     alloc: Global,
@@ -64,7 +64,8 @@ fn count_odd<R: Threads + Wait + Sync>(
     odd
 }
 
-// How many runs of a program are odd, in which each of so many workers holds a call until all do.
+// How many of `rounds` runs are odd in which a gate holds each call until `workers` calls are in it. A run in which a call gave up waiting is odd,
+// too.
 fn count_held<R: Threads + Wait + Sync>(
     rt: &R,
     alloc: Global,
@@ -86,7 +87,7 @@ fn count_held<R: Threads + Wait + Sync>(
     odd
 }
 
-// Every program so often.
+// Runs every program `rounds` times on each number of workers, and writes how many of the runs are odd.
 fn run_all<R: Threads + Wait + Sync + Print>(rt: &R, alloc: Global, rounds: u32) -> io::Result<()> {
     for storm in &STORMS {
         for workers in [2, 4, 16] {
@@ -119,7 +120,7 @@ fn run_all<R: Threads + Wait + Sync + Print>(rt: &R, alloc: Global, rounds: u32)
     Ok(())
 }
 
-// Writes how a run ended. A check that was refused memory is made again.
+// Writes how a run ended, and whether the check accepts its journal. It checks twice, since memory may be refused for the first check.
 fn tell<R: Print>(
     rt: &R,
     alloc: Global,
@@ -151,7 +152,7 @@ fn sleep_of(storm: &Storm) -> Option<u64> {
     }
 }
 
-// One program so often on so many workers.
+// Runs one program `rounds` times on `workers` workers, and writes how each run ended.
 fn run_one<R: Threads + Wait + Sync + Print + Clock>(
     rt: &R,
     alloc: Global,

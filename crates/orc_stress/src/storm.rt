@@ -19,7 +19,7 @@ pub struct Storm {
     pub source: &'static [u8],
     pub end: End,
     pub published: u64,
-    /// The numbers that may be published; any value, where the list is empty.
+    /// The numbers that may be published; if the list is empty, any value.
     pub values: &'static [i64],
 }
 
@@ -86,7 +86,7 @@ pub const STORMS: [Storm; 8] = [
     },
 ];
 
-/// A thousand calls that are due at one time.
+/// 1,024 calls that are due at the same time.
 pub const DUE: Storm = Storm {
     name: "due",
     source: b"def a() = Rwait(5) | Rwait(5) | (Rwait(5) | Rwait(5))\ndef b() = a() | a() | (a() | a())\ndef c() = b() | b() | (b() | b())\ndef d() = c() | c() | (c() | c())\nd() | d() | (d() | d())",
@@ -114,7 +114,7 @@ pub const NAP: Storm = Storm {
 };
 
 impl Storm {
-    /// A program in which each of so many workers can make a call of its own.
+    /// A program that makes `workers` calls in parallel, one for each worker, and publishes their answers.
     pub fn held(source: &'static [u8], workers: usize) -> Storm {
         Storm {
             name: "held",
@@ -157,7 +157,7 @@ impl Storm {
     }
 }
 
-/// A run of a program on so many workers.
+/// Runs a program on `workers` workers with these sites and this gate, and keeps the journal.
 pub fn run<R, S, G>(
     rt: &R,
     alloc: Global,

@@ -28,7 +28,7 @@ impl Turnstile {
         Turnstile::that_looks(first, last, wanted, LOOKS)
     }
 
-    /// A turnstile that gives up after so many looks.
+    /// A turnstile that gives up after `looks` looks.
     pub(crate) fn that_looks(first: u64, last: u64, wanted: u64, looks: u64) -> Turnstile {
         Turnstile {
             first,
@@ -65,7 +65,7 @@ impl Gate for Turnstile {
     }
 }
 
-/// Holds nobody, and doesn't say so: so `run_pool` asks it for each call.
+/// A gate that holds no call, but doesn't say so. So `run_pool` asks it for each call.
 #[derive(Drop)]
 pub(crate) struct Slow;
 
@@ -77,22 +77,22 @@ impl Gate for Slow {
     }
 }
 
-/// What these sites do otherwise than those that go by the table.
+/// How these sites differ from sites that go by the table.
 #[derive(Clone, Copy)]
 pub(crate) enum Twist<'a> {
     /// They hold each call at this gate.
     Held(&'a Turnstile),
-    /// They answer a call without its arguments.
+    /// They answer as if the call had no arguments.
     Value,
-    /// They take the call for one that was made two units later.
+    /// They answer as if the call had been made two units later.
     Time,
-    /// They take the call for one that was made at the greatest time, so that a delay is never due.
+    /// They answer as if the call had been made at the greatest time, so that it is never due after a delay.
     Never,
     /// They are refused memory for the call with this number.
     Refused(u64),
 }
 
-/// Sites that take each call for another one, or hold it, or are refused memory for one.
+/// Sites that answer each call as if it were another one, or hold it, or are refused memory for one.
 #[derive(Drop)]
 pub(crate) struct Twisted<'a> {
     pub(crate) scripted: Scripted<'a>,
@@ -187,7 +187,7 @@ impl SiteFuture for OddCall<'_> {
     }
 }
 
-/// Sites that answer all calls in this manner.
+/// Sites that answer all calls in one of these manners.
 #[derive(Drop)]
 pub(crate) struct Odd<'a> {
     pub(crate) answers: &'a Answers,

@@ -17,7 +17,7 @@ use std::thread::Threads;
 
 const NEVER: &[u8] = b"Never() = never\n";
 
-// A run by sites that do otherwise than the table's; None where the text is no program.
+// Makes a run with sites that differ from those of the table. None if the text is no program.
 fn by_twisted<R: Threads + Wait + Sync, G: Gate + Sync>(
     rt: &R,
     alloc: Global,
@@ -36,7 +36,7 @@ fn by_twisted<R: Threads + Wait + Sync, G: Gate + Sync>(
     Some(run_pool(rt, alloc, program, answers, &sites, gate, options))
 }
 
-// Programs, and how the answer to their call is one to another call.
+// Programs, and how the sites answer their call as if it were another one.
 const LIES: [(&[u8], Twist<'static>); 4] = [
     (b"Add(1, 1)", Twist::Value),
     (b"Rwait(1) >> 1", Twist::Value),
@@ -57,7 +57,7 @@ fn answers_of_other_calls_are_found(rt: HostRuntime) {
     }
 }
 
-// How a run goes whose sites answer calls in this manner.
+// Makes a run whose sites answer calls in this manner, and gives its result.
 fn by_odd<R: Threads + Wait + Sync>(
     rt: &R,
     alloc: Global,
@@ -126,7 +126,7 @@ fn are_told(board: &Board, journal: &Journal) -> bool {
     cancels == 0
 }
 
-// A run whose sites and gate note what the engine reports to them. None where it ends with a fault.
+// Makes a run whose sites and gate note what the engine reports to them. None if it ends with a fault.
 fn noted<R: Threads + Wait + Sync>(
     rt: &R,
     alloc: Global,
@@ -189,13 +189,13 @@ fn sites_are_told_of_each_call_and_cancel(rt: HostRuntime) -> Result<(), Fail> {
     Ok(())
 }
 
-// Whether a run halts that publishes this alone.
+// Whether a run has halted and published this number alone.
 fn halts_with(played: &Played, number: i64) -> bool {
     played.summary.end == End::Halted
         && played.published.as_slice() == [Value::Number(number)].as_slice()
 }
 
-// Whether a run halts that publishes 4, where call 1 is held until its cancel is reported.
+// Whether a run in which call 1 is held until its cancel is reported halts, and publishes 4 alone.
 fn counts_no_more<R: Threads + Wait + Sync>(
     rt: &R,
     alloc: Global,
@@ -245,8 +245,8 @@ fn a_call_that_was_cancelled_counts_no_more(rt: HostRuntime) -> Result<(), Fail>
     Ok(())
 }
 
-// Call 1 is in a side that is dropped at once, and is held while more races than there may be groups come and go: the dropped group's word must not
-// stay taken.
+// Call 1 is in a side that is dropped at once, and is held while more races than there may be groups come and go. The dropped group's word must
+// become free all the same.
 fn takes_no_group<R: Threads + Wait + Sync>(rt: &R, alloc: Global, workers: usize) -> bool {
     let source =
         b"def loop(n) = Lt(n, 1100) >b> (Iff(b) >> n | Ift(b) >> (x <x< (n | Never() | Rwait(5))) >> Add(n, 1) >m> loop(m))

@@ -1,5 +1,6 @@
-//! Tests over several crates of what the program by itself can't show: sites and gates of one's own, the parts of an engine with workers, and the
-//! reference. None needs `orc_run`, so the gate proves them beside it. A test that needs no more than the program is a row of `crates/orc_rows/data`.
+//! Tests over several crates, of what the program `orc` can't show: sites and gates of one's own, the parts of an engine with workers, and a
+//! comparison with the reference engine. None needs `orc_run`, so the gate proves them beside that crate. A test for which the program is enough is a
+//! row of `crates/orc_rows/data`.
 #![tactic(auto)]
 
 #[cfg(test)]

@@ -47,10 +47,10 @@ fn a_supply_of_two_gives_two(rt: HostRuntime) -> Result<(), Fail> {
     Ok(())
 }
 
-// A group's life: two passes name it, both mark it, one after the other leaves it, and it is opened again. Whether each of these holds:
+// A group's life: two passes name it, both try to mark it, each leaves it, and it is opened again. Says whether each of these holds:
 // - a supply of eight passes gives no part of nine;
 // - the first mark is won, and no other; both passes see that mark alone;
-// - the group isn't opened before its end; who leaves first isn't last, and who leaves then is the last of group 1;
+// - the group isn't opened before its end; the pass that leaves first isn't the last one, and the other is the last one of group 1;
 // - the new group has no mark; and of two words the second one counts one pass.
 fn live<J: Naming>(made: Unnamed) -> Option<[bool; 8]>
     requires named { made.table.shared.table_id ≡ J.table }
@@ -169,7 +169,7 @@ fn what_was_pushed_last_is_popped_and_what_was_first_is_stolen(
     Ok(())
 }
 
-// All that is stolen until the owner is done and nothing is left.
+// Steals until the owner is done and the queue is empty, and gives what was stolen.
 fn steal_all(
     rt: &impl Wait,
     alloc: Global,
@@ -188,7 +188,7 @@ fn steal_all(
     Ok(stolen)
 }
 
-// Pushes all tokens, pops some between, and pops what is left.
+// Pushes all tasks, pops some of them in between, and then pops what is left.
 fn push_all(alloc: Global, mut own: Own<u64>, done: &AtomicU64) -> Result<Vec<u64>, AllocError> {
     let mut kept = Vec::new(alloc);
     for token in 0..TOKENS {
@@ -366,7 +366,7 @@ fn a_cell_is_bound_once(rt: HostRuntime) -> Result<(), Fail> {
     Ok(())
 }
 
-// Whoever binds a cell has read it, and so has whoever comes too late.
+// A thread that binds a cell has read it, and so has one that comes too late to bind it.
 #[test]
 fn a_bind_reads(rt: HostRuntime) -> Result<(), Fail> {
     let alloc = rt.alloc();

@@ -1,5 +1,5 @@
-//! Worked programs on 1, 2, 4 and 16 workers, by a gate that may hold calls, so that all workers are at work, and by an open one: what they publish,
-//! how they end, after how many entries and when, and that a check takes their journals.
+//! Worked programs on 1, 2, 4 and 16 workers, each with an open gate and with one that may hold calls, so that all workers are at work. A row says
+//! what the program publishes, how it ends, after how many entries and when; and a check has to accept the journal.
 
 use crate::gates::Slow;
 use crate::pools::{play, state_of};
@@ -32,9 +32,9 @@ struct Worked {
     limit: u64,
     end: End,
     outs: Outs,
-    /// How many entries its journal has, cancels counted, where that isn't free.
+    /// How many entries its journal has, cancels counted; None if runs may differ in that.
     entries: Option<u64>,
-    /// The logical time at which it ends, where that isn't free.
+    /// The logical time at which it ends; None if runs may differ in that.
     now: Option<u64>,
 }
 
@@ -76,7 +76,7 @@ fn state_after(end: End) -> State {
     }
 }
 
-// Whether a check takes a run's journal and says what the run does of its length and its end.
+// Whether a check accepts a run's journal, and agrees with the run on its length and its end.
 fn is_confirmed(alloc: Global, source: &[u8], script: &[u8], played: &Played) -> bool {
     match &played.journal {
         Some(journal) => {
@@ -87,7 +87,7 @@ fn is_confirmed(alloc: Global, source: &[u8], script: &[u8], played: &Played) ->
     }
 }
 
-// Whether a row's run may have been so.
+// Whether the row allows this run.
 fn may_be(alloc: Global, row: &Worked, played: &Played) -> Result<bool, AllocError> {
     let summary = played.summary;
     Ok(
@@ -99,7 +99,7 @@ fn may_be(alloc: Global, row: &Worked, played: &Played) -> Result<bool, AllocErr
     )
 }
 
-// Whether a row's run on so many workers is as it may be.
+// Whether the row allows its run on `workers` workers.
 fn runs<R: Threads + Wait + Sync, G: Gate + Sync>(
     rt: &R,
     alloc: Global,
@@ -116,7 +116,7 @@ fn runs<R: Threads + Wait + Sync, G: Gate + Sync>(
     }
 }
 
-// A number of workers on which a row's run isn't as it may be, by an open gate or by one that may hold calls.
+// A number of workers on which the row doesn't allow its run, with an open gate or with one that may hold calls.
 fn fault_of<R: Threads + Wait + Sync>(
     rt: &R,
     alloc: Global,
@@ -130,7 +130,7 @@ fn fault_of<R: Threads + Wait + Sync>(
     Ok(None)
 }
 
-// The source of the first row whose run isn't as it may be, and a number of workers on which it isn't.
+// The source of the first row that doesn't allow its run, and the number of workers of that run.
 fn first_fault<R: Threads + Wait + Sync>(
     rt: &R,
     alloc: Global,

@@ -16,7 +16,7 @@ use std::sync::Wait;
 use std::test::Fail;
 use std::thread::Threads;
 
-/// How a run is made that keeps its journal.
+/// The options of a run that keeps its journal.
 pub(crate) fn keeping(workers: usize, limit: u64) -> RunOptions {
     RunOptions {
         workers,
@@ -91,7 +91,7 @@ pub(crate) fn is_accepted(alloc: Global, source: &[u8], script: &[u8], played: &
     state_of(alloc, source, script, played).is_some()
 }
 
-// How a run ends, where the check accepts its journal and it publishes these values, in any order.
+// How a run ends, if the check accepts its journal and it publishes these values, in any order.
 fn end_of<R: Threads + Wait + Sync, G: Gate + Sync>(
     rt: &R,
     alloc: Global,
@@ -258,7 +258,7 @@ const HELD: [HeldRow; 11] = [
         [2, 3, 3],
         2,
     ),
-    // Time passes while a call is held that is due later, or at the same time as the one that is waited for.
+    // Time passes while a call is held. The held call is due later than the one for which it waits, or at the same time.
     (
         b"Rwait(5) >> stop | Rwait(1) >> Add(1, 1)",
         TWO,
@@ -287,8 +287,8 @@ fn each_worker_makes_calls_while_others_are_held(rt: HostRuntime) {
     }
 }
 
-// How many values a program publishes on so many workers, by sites that hold each call until as many calls are made as there are workers. None where
-// a call gave up waiting.
+// How many values a program publishes on `workers` workers, with sites that hold each call until `workers` calls are made. None if a call gave up
+// waiting.
 fn published_when_held<R: Threads + Wait + Sync>(
     rt: &R,
     alloc: Global,

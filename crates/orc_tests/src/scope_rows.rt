@@ -9,7 +9,7 @@ use orc_syntax::parse;
 use std::alloc::{AllocError, Global};
 use std::test::Fail;
 
-// What the check of a source says; a fault of the text is that of none.
+// What the scope check says of a source. None if the text doesn't parse.
 fn checked(alloc: Global, source: &[u8]) -> Option<Result<Program, ScopeFault>> {
     let ast = parse(alloc, source).ok()?;
     Some(check(alloc, &ast, &[b"Add".as_slice(), b"Rwait".as_slice()]))
@@ -19,7 +19,7 @@ fn program(alloc: Global, source: &[u8]) -> Option<Program> {
     checked(alloc, source)?.ok()
 }
 
-// Adds `1|1|..|1` with so many operators: twice as many nodes and one.
+// Adds `1|1|..|1` with `operators` operators, which has twice as many nodes and one more.
 fn add_parallel(text: &mut Vec<u8>, operators: usize) -> Result<(), AllocError> {
     text.extend_from_slice(b"1")?;
     for _ in 0..operators {

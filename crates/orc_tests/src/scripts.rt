@@ -10,7 +10,7 @@ const SCRIPTS: usize = 60;
 
 const CALLS: usize = 200;
 
-// The patterns of a line, or the arguments of a call: numbers below 5. A 5 is a `_`.
+// The patterns of a line, or the arguments of a call: numbers below 5. In a pattern 5 stands for `_`.
 type Places = [u64; 3];
 
 const ANYTHING: u64 = 5;
@@ -33,7 +33,7 @@ impl Dice {
         (self.state >> 33).checked_rem(sides).unwrap_or(0)
     }
 
-    // A number, or a `_` in so many of a hundred cases.
+    // A number, or a `_` with a chance of `wildcards` in a hundred.
     fn place(&mut self, wildcards: u64) -> u64 {
         if self.roll(100) < wildcards {
             ANYTHING
@@ -60,7 +60,7 @@ fn is_match(line: &Places, call: &Places) -> bool {
     true
 }
 
-// The place of the first line that matches, found by looking at each: what the table's hash has to find, too.
+// The place of the first line that matches, found by a look at each line. The table, which uses a hash, has to find the same one.
 fn first_match(lines: &[Places], call: &Places) -> Option<usize> {
     for (place, line) in lines.iter().enumerate() {
         if is_match(line, call) {
@@ -77,7 +77,7 @@ fn word(place: u64) -> &'static str {
     }
 }
 
-// A script whose lines answer their places.
+// A script in which each line answers with its own place.
 fn script(alloc: Global, lines: &[Places]) -> Result<String, AllocError> {
     let mut text = String::new(alloc);
     for (place, [one, two, three]) in lines.iter().enumerate() {

@@ -40,7 +40,7 @@ const OPERATORS: [&[u8]; 8] = [
     b"\n def f(x)=",
 ];
 
-// How many prefixes of a text, and texts with one byte changed, `parse` answers so; None where one isn't.
+// For how many prefixes of a text, and for how many texts with one byte changed, `is_answered` holds. None if it fails for one.
 fn answered(alloc: Global, mut text: Vec<u8>, programs: &mut u32) -> Option<u32> {
     let mut answered = 0_u32;
     for at in 0..text.len() {
