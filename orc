@@ -1,7 +1,7 @@
 #!/bin/bash
-# Runs the program orc, and first proves and builds it where a source is newer than the program. While that is done for the first time, it shows
-# what the unproved program answers, and gives a run's proved answer as soon as the check of journals is proved, by the journal that the unproved
-# program wrote: `--no-preview` as the first word, or ORC_PREVIEW=0, leaves both out.
+# Runs the program orc. If a source is newer than the program, it first proves and builds it. The first time that takes long. Meanwhile this script
+# shows a preview, what the unproved program answers. As soon as the check of journals is proved, it has that check judge the journal that the
+# unproved program wrote of a run, and gives the run's proved answer. `--no-preview` as the first word, or ORC_PREVIEW=0, turns both off.
 set -eu
 top=$(cd "$(dirname "$(readlink -f "$0")")" && pwd)
 program=$top/crates/orc/out/orc
@@ -12,7 +12,7 @@ if [ "${1:-}" = --no-preview ]; then
     wants_preview=0
     shift
 fi
-# What takes the line of progress off a terminal before another line is written.
+# The control characters that take the line of progress off a terminal before another line is written; empty if there is no such line.
 clear=
 
 say() { printf '%sorc: %s\n' "$clear" "$*" >&2; }
@@ -47,14 +47,15 @@ processors() {
     echo "${ORC_JOBS:-$((found > 0 ? found : 1))}"
 }
 
-# number FILE: `found` becomes the number in a file, 0 where it has none, as on a full disk.
+# number FILE: sets `found` to the number in a file, or to 0 if the file has none, as on a full disk.
 number() {
     found=
     { read -r found <"$1"; } 2>/dev/null || true
     found=${found:-0}
 }
 
-# fail CRATE STATUS: the program can't be built any more. A file that is removed says so, since on a full disk none can be made.
+# fail CRATE STATUS: notes that a crate has failed, so that the program can't be built. It removes the file `going` for that, since on a full disk no file
+# can be made.
 fail() {
     rm -f "$room/going"
     echo "$2" >"$room/$1.failed"
@@ -63,7 +64,7 @@ fail() {
 # Whether a crate has failed, or the room is gone.
 has_failed() { [ ! -e "$room/going" ]; }
 
-# begin CRATE, tell CRATE: it is at work; it is proved.
+# begin CRATE: notes when the proof of a crate has begun. tell CRATE: notes that it is proved, and says so.
 begin() { echo "$SECONDS" >"$room/$1.since"; }
 tell() {
     local found
@@ -81,8 +82,8 @@ count_proved() {
     if [ -e "${proved[0]}" ]; then echo "${#proved[@]}"; else echo 0; fi
 }
 
-# weigh CRATE..: a line 'CRATE WEIGHT' for each. What is kept of an earlier start weighs nothing. Else it is the bytes of the crate's files, and a
-# third of those below it, which `rt` reads first: high up a small crate takes minutes.
+# weigh CRATE..: writes a line 'CRATE WEIGHT' for each. The weight stands for the time that its proof takes: the bytes of its files, and a third of those of
+# the crates below it, which `rt` reads first, so that a small crate high up takes minutes. A crate that an earlier start has built weighs nothing.
 weigh() {
     local crate each weight
     declare -A bytes=()
@@ -100,7 +101,7 @@ weigh() {
     done
 }
 
-# states: for each crate its weight, what it does, and for how many seconds it did.
+# states: writes for each crate its weight, whether it is proved, works or waits, and for how many seconds it took or has been at work.
 states() {
     local crate weight found
     while read -r crate weight; do
@@ -116,9 +117,9 @@ states() {
     done <"$room/weights"
 }
 
-# ways LANES: the seconds that are left, by what the proved crates took for their weight: all that is to be done, shared by the lanes, or the
-# longest way up to the program if that is longer. Nothing where no crate has told of its time yet. With no LANES, each crate after the weight of
-# the longest way from it to the program.
+# ways LANES: reads what `states` writes, and estimates the seconds that are left from what the proved crates took for their weight. That is the work that
+# is left, divided by the lanes, or the longest chain of crates up to the program if that takes longer. It writes nothing if no crate is proved yet.
+# ways: reads lines 'CRATE WEIGHT', and writes each crate behind the weight of the longest chain from it to the program.
 ways() {
     awk -v lanes="${1:-0}" '
         function way(crate,    i, parts, count, longest, next_way) {
@@ -158,7 +159,7 @@ ways() {
         }' - "$top/crates.txt"
 }
 
-# left: ', about N min left', where that is known.
+# left: writes ', about N min left' if that can be estimated.
 left() {
     local seconds
     seconds=$(states | ways "$lane_count")
@@ -189,20 +190,20 @@ watch() {
     done
 }
 
-# beside COMMAND..: runs it in the background, as a process group of its own. What is typed is for the program, and standard output is its.
+# beside COMMAND..: runs it in the background, as a process group of its own, without standard input and output: these are for the program.
 beside() {
     set -m
     "$@" </dev/null >/dev/null &
     set +m
 }
 
-# prove ROOT JOBS CRATE: proves and builds a library, or the program that checks journals. Those below it are built, so `rt` makes no quick pass over
-# the sources first. It is `nice` to the preview, for which somebody waits.
+# prove ROOT JOBS CRATE: proves and builds a library, or the program that checks journals. The crates below it are built, so `rt` makes no quick pass over
+# the sources first. The proof runs under `nice`, since somebody waits for the preview.
 prove() {
     local status=0 built=$1/crates/$3/out/$3
     if has_failed; then return 1; fi
     if [ "$3" = orc_certify ]; then
-        # It is run without words, so its status says nothing: it is built, or it isn't.
+        # `rt run` runs it without words, so the status says nothing. The built file shows whether the proof went through.
         rm -f "$built"
         (cd "$1/crates/$3" && exec nice rt run --jobs "$2") >"$room/$3.log" 2>&1 || status=$?
         if [ -x "$built" ]; then status=0; fi
@@ -214,17 +215,18 @@ prove() {
     return "$status"
 }
 
-# Whether all that a crate uses is proved: what it names, and so what that names. What the check of journals doesn't need waits for it.
+# is_ready CRATE: whether all crates that it names are proved; those that these name are then, too. Until the check of journals is proved, no crate is
+# ready that the check doesn't need, if the check is to give an early answer.
 is_ready() {
     local crate
     if [ -n "$early" ] && [[ " $early " != *" $1 "* ]] && [ ! -e "$room/orc_certify.proved" ]; then return 1; fi
     for crate in ${uses[$1]}; do
-        # The others are libraries of the kit.
+        # A crate that isn't in the list is a library of the kit.
         [ -z "${uses[$crate]+known}" ] || [ -e "$room/$crate.proved" ] || return 1
     done
 }
 
-# copy_sources ROOT CRATE..: a repository of these crates alone: `rt` wants the sources of each crate that its list names.
+# copy_sources ROOT CRATE..: makes a repository of these crates alone, since `rt` wants the sources of each crate that the repository's list names.
 copy_sources() {
     local root=$1 crate place
     shift
@@ -237,7 +239,7 @@ copy_sources() {
     done
 }
 
-# copy_built FROM TO: what is built, by links where the disk has them.
+# copy_built FROM TO: copies what is built of a crate, by hard links if the file system has them.
 copy_built() {
     mkdir -p "$2" || return 1
     cp -rl "$1/rlib" "$2" 2>/dev/null && return 0
@@ -245,7 +247,7 @@ copy_built() {
     cp -r "$1/rlib" "$2"
 }
 
-# furnish OWN CRATE: what a crate's proof reads, and what an earlier one made of it.
+# furnish OWN CRATE: puts into the folder OWN what the proof of a crate reads, and what an earlier proof has made of the crate.
 furnish() {
     local each
     # shellcheck disable=SC2046
@@ -256,13 +258,13 @@ furnish() {
     if [ -e "$top/crates/$2/out" ]; then mv "$top/crates/$2/out" "$1/crates/$2"; fi
 }
 
-# give_back OWN CRATE: what was made of a crate, whole or not.
+# give_back OWN CRATE: moves what was made of a crate, whole or not, back to the sources.
 give_back() {
     if [ -e "$1/crates/$2/out" ] && [ ! -e "$top/crates/$2/out" ]; then mv "$1/crates/$2/out" "$top/crates/$2"; fi
 }
 
-# apart CRATE JOBS: proves a crate in a folder of its own, over copies of what is built below it: two runs of `rt` can't work over one library
-# at a time. What was made of it, whole or not, goes back.
+# apart CRATE JOBS: proves a crate in a folder of its own, over copies of what is built below it, since two runs of `rt` can't use one library at the same
+# time. What was made of the crate, whole or not, goes back.
 apart() {
     local crate=$1 own=$room/$1 status=0
     begin "$crate"
@@ -279,8 +281,9 @@ apart() {
     tell "$crate"
 }
 
-# share PROCESSORS CRATE..: how many jobs the next of these crates gets: what there is by the crates that may be at work beside it. So the last
-# ones, which nothing can go beside, get all processors. Over three of them memory allows some jobs more than there are processors.
+# share PROCESSORS CRATE..: how many jobs the next of these crates gets: the processors, divided by the number of crates that may be at work at the same
+# time. So the last crates, beside which nothing else can work, get all processors. From four processors on the number is rounded up, since memory allows
+# a few more jobs than there are processors.
 share() {
     local processors=$1 crate many=0
     shift
@@ -293,19 +296,19 @@ share() {
     echo $(((processors < 4 ? processors : processors + many - 1) / many))
 }
 
-# lane PROCESSORS CRATE..: proves one of these crates after another, each as soon as what it stands on is proved, and those that no other lane has
-# begun.
+# lane PROCESSORS CRATE..: one of several background processes that share these crates. It takes the first crate that no lane has begun and whose own crates
+# are proved, proves it, and goes on with the next.
 lane() {
     local processors=$1 crate waits
     shift
-    # One that was left alone ends with its crate: the next start waits for the lock, which it holds.
+    # A lane whose script was killed ends after its crate. It holds the lock, so that the next start waits for it.
     while ! has_failed && kill -0 "$$" 2>/dev/null; do
         waits=
         for crate; do
             [ ! -e "$room/$crate.begun" ] || continue
             waits=$crate
             is_ready "$crate" || continue
-            # One lane alone can make the folder.
+            # Only one lane can make the folder, so no other takes the crate.
             if ! mkdir "$room/$crate.begun" 2>/dev/null; then
                 [ -d "$room/$crate.begun" ] && continue
                 echo "orc: no folder can be made in $room" >"$room/$crate.log"
@@ -321,7 +324,7 @@ lane() {
     return 1
 }
 
-# in_turn JOBS CRATE..: proves these crates in their places.
+# in_turn JOBS CRATE..: proves these crates one after another, in the repository itself and not in folders of their own.
 in_turn() {
     local jobs=$1 crate
     shift
@@ -336,8 +339,8 @@ in_turn() {
 
 compile() { cd "$top/crates/orc" && exec rt run --jobs "$1" -- --version >"$room/orc.log" 2>&1; }
 
-# plan_answer WORD..: whether a journal can answer this command, which is `run` with what it publishes or with its journal. Sets `form`, which is
-# empty if not, and what the run is given: `file`, `script` and `limit`.
+# plan_answer WORD..: finds whether a journal can answer this command: whether it is `run`, and writes values or the journal. Then it sets `form` to
+# `values` or `journal`, and `file`, `script` and `limit` to the arguments of the run; otherwise `form` is empty.
 plan_answer() {
     local word wanted=values
     form='' file='' script=/dev/null limit=''
@@ -368,8 +371,8 @@ plan_answer() {
     if [ -n "$file" ] && [ "$script" != - ]; then form=$wanted; fi
 }
 
-# plan_preview OWN WORD..: `rt try` reads only files that are handed to it by a name without folders. Copies the files that the words name, and sets
-# `data` and `words`; or says in `reason` why that can't be.
+# plan_preview OWN WORD..: prepares a preview. `rt try` lets the program read only files that it is handed, each by a name without folders. So this copies
+# the files that the words name, and sets `data` and `words` for `rt try`; or it fails, and says in `reason` why.
 plan_preview() {
     local own=$1 word option value name
     declare -A given=()
@@ -381,12 +384,12 @@ plan_preview() {
         if [ "$value" = - ]; then
             reason="the command reads standard input"
         elif [ "${#words[@]}" = 0 ]; then
-            # A command, whatever is in this folder.
+            # The first word is a command, even if a file has that name.
             words+=("$word")
         elif [ -f "$value" ]; then
             name=$(basename -- "$value")
             case $name in
-            # `rt try` keeps these names for itself, or takes them for something else.
+            # Names that `rt try` uses itself, or would misread.
             program | stdin | stdout | stderr | -* | *=*) reason="no file can be called $name there" ;;
             esac
             if [ -n "${given[$name]:-}" ] && [ ! "$value" -ef "${given[$name]}" ]; then reason="two files are called $name"; fi
@@ -407,7 +410,7 @@ plan_preview() {
         fi
         if [ -n "$reason" ]; then return 1; fi
     done
-    # The journal has the values that are wanted.
+    # The preview writes the journal, which has the values, so that the check can judge it.
     if [ "$form" = values ]; then words+=(--journal); fi
 }
 
@@ -445,11 +448,11 @@ show_preview() {
     rm -f "$room/hush"
 }
 
-# preview WORD..: the same command by `rt try`, which proves nothing, over copies of the sources: the lanes move what lies beside the real ones. It
-# has no say in the answer.
+# preview WORD..: runs the same command by `rt try`, which proves nothing, and shows what it writes. It uses copies of the sources, since the lanes move what
+# is built beside the real ones. A failed preview changes nothing in the proved answer.
 preview() {
     local own=$room/.preview tried begun=$SECONDS
-    # Where memory runs out, the system ends this before a proof.
+    # If memory runs out, the system kills the preview before it kills a proof.
     { echo 1000 >/proc/self/oom_score_adj; } 2>/dev/null || true
     if ! mkdir -p "$own/data" "$own/tmp" || ! plan_preview "$own" "$@"; then
         say "no preview: ${reason:-there is no room for it}"
@@ -461,7 +464,7 @@ preview() {
         return
     fi
     if [ -e "$top/HANDLES" ]; then cp "$top/HANDLES" "$own" || true; fi
-    # From here on nothing is made in the room, and the start after one that was killed may take it away.
+    # The preview gives up the lock here. If this start is killed, the next one needn't wait for the preview, and may remove its files.
     exec {lock}<&-
     (cd "$own/crates/orc" && TMPDIR=$own/tmp exec rt try "${data[@]}" -- "${words[@]}") >"$own/out" 2>"$own/err" &
     tried=$!
@@ -471,7 +474,7 @@ preview() {
     trap - TERM
     if kill -0 "$$" 2>/dev/null; then
         show_preview "$own" "$((SECONDS - begun))"
-        # From here on its journal is there.
+        # This file says that the preview's journal is whole.
         sed -n '$s/^run=ended status=\([0-9]*\) .*/\1/p' "$own/err" >"$own/status" || true
     fi
 }
@@ -479,16 +482,16 @@ preview() {
 # can_answer: whether the journal of the preview can be checked now.
 can_answer() { [ -n "$early" ] && [ -z "$was_tried" ] && [ -e "$room/orc_certify.proved" ] && [ -s "$room/.preview/status" ]; }
 
-# answer_early: gives the proved answer, if the check takes the journal that the unproved program wrote as that of a whole run.
+# answer_early: gives the proved answer, if the check accepts the journal that the unproved program wrote as that of a whole run.
 answer_early() {
     local found status=0
     was_tried=yes
     number "$room/.preview/status"
-    # A run that a limit has cut has no such journal, nor has what is no run.
+    # Only a run with status 0 (Halted) or 3 (Quiet) has the journal of a whole run.
     case $found in 0 | 3) ;; *) return ;; esac
     : >"$room/hush"
     printf '%s' "$clear" >&2
-    # What breaks this script off reaches it while it waits, and not while it runs a command.
+    # The check runs in the background: bash handles a signal at once while it waits, but not while it runs a command in the foreground.
     set -m
     "$certifier" "$form" "$file" "$room/.preview/out" "$script" ${limit:+"$limit"} 2>>"$log" </dev/null &
     set +m
@@ -508,7 +511,7 @@ answer_early() {
     rm -f "$room/hush"
 }
 
-# await PID..: waits for these lanes, and gives an early answer as soon as it can be given.
+# await PID..: waits for these lanes, and gives an early answer as soon as it can.
 await() {
     local each
     for each; do
@@ -536,7 +539,7 @@ stop_all() {
     wait 2>/dev/null || true
 }
 
-# tidy ROOM: what a lane that was broken off had made of a crate goes back, and the room goes.
+# tidy ROOM: moves what a broken-off lane had made of a crate back to the sources, and removes the room, the working folder of a start.
 tidy() {
     local own crate
     for own in "$1"/*/crates; do
@@ -546,9 +549,9 @@ tidy() {
     rm -rf "$1" || true
 }
 
-# On each way out but that to the program.
+# leave: runs when this script exits, unless it goes on to the program.
 leave() {
-    # Who breaks off twice is in a hurry, but what was proved has to go back.
+    # Further signals are ignored, since what was proved has to go back.
     trap '' INT TERM HUP
     stop_all
     [ -z "$clear" ] || printf '%s' "$clear" >&2
@@ -561,7 +564,8 @@ give_up() {
     exit 70
 }
 
-# One start builds at a time. The lock is the folder's own, so that nothing is left of one that was killed; what it started holds it too.
+# lock_up: waits until no other start builds. It locks the folder `crates` itself, so that a killed start leaves no lock file. The processes that a start has
+# begun hold the lock, too.
 lock_up() {
     exec {lock}<"$top/crates"
     if ! command -v flock >/dev/null || flock -n "$lock"; then return; fi
@@ -582,7 +586,7 @@ first_start() {
         if [[ $each == [a-z]* ]]; then uses[${each%% *}]=$names; fi
     done <"$top/crates.txt"
     crates=$(ways <"$room/weights" | sort -rn | cut -d ' ' -f 2 | grep -v '^orc$')
-    # By the longest chain to the check of journals, then to the program.
+    # The crates with the longest chain to the check of journals come first, then those with the longest chain to the program.
     if [ -n "$early" ]; then
         crates=$( (grep -wF "${early// /$'\n'}" "$room/weights" | ways | sort -rn | cut -d ' ' -f 2 && echo "$crates") | awk '!seen[$1]++')
     fi
@@ -594,7 +598,7 @@ first_start() {
     done
 }
 
-# Why the program wasn't built: the end of the log of what failed first.
+# tell_failure: says why the program wasn't built, by the end of the log of the crate that failed first.
 tell_failure() {
     local each crate found
     # shellcheck disable=SC2012
@@ -603,7 +607,7 @@ tell_failure() {
         crate=$(basename "$each" .failed)
         tail -n 20 "$room/$crate.log" >&2 || true
         number "$each"
-        # Killed, as a shell and as Python tell it.
+        # A signal has killed the proof: bash gives status 137 for that, Python 247.
         if [ "$found" = 137 ] || [ "$found" = 247 ]; then say "a proof was killed, maybe for want of memory: ORC_JOBS=1 ./orc takes less"; fi
     fi
     if ! { echo >"$room/written"; } 2>/dev/null; then say "nothing more can be written to $top: the disk may be full"; fi
@@ -625,7 +629,7 @@ build() {
     started=$SECONDS
     trap leave EXIT
     trap 'exit 130' INT TERM HUP
-    # Of a start that was killed.
+    # Working folders of starts that were killed.
     for each in "$top"/.build.??????; do
         if [ -d "$each" ]; then tidy "$each"; fi
     done
@@ -669,7 +673,7 @@ build() {
         wait $! || fail orc "$?"
         cat "$room/orc.log" >>"$log" || true
     fi
-    # A preview that isn't there by now comes too late.
+    # If the preview isn't ready by now it isn't needed any more.
     stop_all
     if [ -n "$broken" ] || has_failed || [ ! -x "$program" ]; then
         tell_failure
@@ -682,7 +686,7 @@ build() {
     exec {lock}<&-
 }
 
-# The status of an answer that was given early.
+# The status of the run, if an early answer was given.
 answered=
 if is_stale orc; then build "$@"; fi
 if [ -n "$answered" ]; then exit "$answered"; fi

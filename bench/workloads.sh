@@ -1,4 +1,4 @@
-# The workloads of the measurements. Whoever sources this sets `words`, defines `run NAME SIZE SOURCE [SCRIPT [LIMIT]]` and calls `workloads`.
+# The workloads of the measurements. A script that sources this sets `words`, defines `run NAME SIZE SOURCE [SCRIPT [LIMIT]]` and calls `workloads`.
 # shellcheck shell=bash disable=SC2154
 
 # Whether a workload's name has one of the words, if there are any.
@@ -10,7 +10,7 @@ wanted() {
     return 1
 }
 
-# `1`, and TEXT so many times behind it.
+# Writes `1`, and behind it TEXT a given number of times.
 repeated() {
     printf '1'
     yes "$2" | head -n "$1" | tr -d '\n'
@@ -55,7 +55,7 @@ fallback="def loop(n) = Lt(n, COUNT) >b> (Iff(b) >> n | Ift(b) >> ($(yes 'Down()
 wide="def leaves(n) = Add(n, 1)$(seq -f ' | Add(n, %.0f)' 2 1000 | tr -d '\n')
 def loop(n) = Lt(n, COUNT) >b> (Iff(b) >> n | Ift(b) >> (leaves(n) >> stop ; Add(n, 1)) >m> loop(m)) (loop(0))"
 
-# A script of so many sites, and of `Last` behind them.
+# A script with a given number of sites, and with `Last` behind them.
 many_sites() {
     seq -f 'S%.0f() = 1' "$1"
     echo 'Last() = 1'

@@ -1,6 +1,6 @@
-// A heap that refuses one request: preloaded before a program, the one whose number, counted from 1, stands in REFUSE. The start of a thread is
-// a request too. The file that is open as descriptor 9 gets a byte when one is refused, so that whoever runs the program knows whether that many
-// requests came; the one that is open as descriptor 8 gets a byte for each thread that starts.
+// A heap that refuses one request for memory, to be preloaded into a program. The environment variable REFUSE has the number of that request, counted from
+// 1. The start of a thread counts as a request. When the request is refused a byte is written to file descriptor 9, which shows that so many requests were
+// made; a byte is written to descriptor 8 for each thread that starts.
 typedef __SIZE_TYPE__ size_t;
 
 extern char **environ;
