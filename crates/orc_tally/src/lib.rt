@@ -7,11 +7,13 @@
 pub mod laws;
 mod sight;
 mod table;
+mod text;
 mod told;
 
 pub use sight::{ClaimSite, claim_number, happenings_of};
 pub use table::{
-    Broken, Call, CaseReport, Counterexample, Report, Row, Searched, Shown, claim_text, failing,
-    failure_at, is_held, is_open, note, write_sum,
+    Broken, CaseReport, Counterexample, Report, Row, Searched, Shown, failing, failure_at, is_held,
+    is_open,
 };
+pub use text::{Call, claim_text, note, write_sum};
 pub use told::{Failure, Told, joined, noted, nothing_told};

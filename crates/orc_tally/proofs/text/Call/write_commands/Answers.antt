@@ -1,6 +1,6 @@
 -- The seven parts of the text.
 use Rattle.orc_tally.proofs.Appended.{more_appended}
-use Rattle.orc_tally.proofs.table.Call.write_commands.Goals as goal
+use Rattle.orc_tally.proofs.text.Call.write_commands.Goals as goal
 
 pub returns : goal.returns
 returns c = more_appended _ _ _ _ _ _ _ _ _ _ _ _ _ _ _ _ c.as_bytes.ensures.value c.in_ok-extend_from_slice.ensures.items c.in_ok-write_call.ensures c.in_ok-extend_from_slice-2.ensures.items c.in_ok-write_call-2.ensures c.in_ok-extend_from_slice-3.ensures.items c.in_ok-extend_from_slice-4.ensures.items c.in_ok-extend_from_slice-5.ensures.items

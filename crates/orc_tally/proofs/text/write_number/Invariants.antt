@@ -1,7 +1,7 @@
 -- What is left gives the rest of the number.
 use Rattle.std.proofs.Common.{◌≡◌, ◌++◌, length}
 use Rattle.orc_tally.specs.Table.{grouped, number_text}
-use Rattle.orc_tally.proofs.table.write_number.Given as goal
+use Rattle.orc_tally.proofs.text.write_number.Given as goal
 
 abbrev pub decreases-loop-rest : goal.decreases-loop-rest
 decreases-loop-rest l = length l.rest

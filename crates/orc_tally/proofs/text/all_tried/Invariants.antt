@@ -1,7 +1,7 @@
 -- What is left has the other ways.
 use Rattle.std.proofs.Common.{◌≡◌, ◌+◌, length}
 use Rattle.orc_tally.specs.Table.{all_tried}
-use Rattle.orc_tally.proofs.table.all_tried.Given as goal
+use Rattle.orc_tally.proofs.text.all_tried.Given as goal
 
 abbrev pub decreases-loop-rest : goal.decreases-loop-rest
 decreases-loop-rest l = length l.rest

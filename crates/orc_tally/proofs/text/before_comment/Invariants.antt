@@ -1,7 +1,7 @@
 -- What is left ends where the text does.
 use Rattle.std.proofs.Common.{◌≡◌, ◌+◌, ◌++◌, length, drop, take}
 use Rattle.orc_tally.specs.Table.{before_comment}
-use Rattle.orc_tally.proofs.table.before_comment.Given as goal
+use Rattle.orc_tally.proofs.text.before_comment.Given as goal
 
 abbrev pub decreases-loop-rest : goal.decreases-loop-rest
 decreases-loop-rest l = length l.rest
