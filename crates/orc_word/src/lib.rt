@@ -2,8 +2,8 @@
 //!
 //! [`Unnamed::new`] makes the words and as many passes as there will ever be, all in one [`Supply`]; it is the one call that takes memory. A [`Pass`]
 //! is idle or names a group. [`Groups::open`] lets an idle pass name a group that no pass names, [`Groups::enter`] lets it name the group
-//! of another pass, and [`Groups::leave`] makes it idle again and says who was last. Threads share the words without a lock: each call makes one
-//! exchange on one word, or two, and none waits.
+//! of another pass, and [`Groups::leave`] makes it idle again and says who was last. Threads share the words without a lock: each call makes at
+//! most two exchanges on one word, and none waits.
 //!
 //! Of the words nothing is known but a rule, which holds between any two exchanges: a word's count is the number of passes that name its group, what
 //! a pass has seen of the bits is set, each set bit was won by one pass at most, and idle, naming and supplied passes together are those that were
