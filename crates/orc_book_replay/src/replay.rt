@@ -363,6 +363,7 @@ impl<P: Run + Naming> Replay<P> {
         }
     }
 
+    // The entry `other`: an idle pass opens the word of the group of the otherwise's left side, which this mark names.
     fn other(&mut self, setup: &Setup<'_, P>, token: Token<P>, mark: u64) -> Result<(), Odd> {
         let around = token.pass.group();
         let Some(idle) = self.passes.idle(setup.groups) else {

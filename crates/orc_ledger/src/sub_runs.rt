@@ -124,7 +124,8 @@ impl<P: Run> SubRun<P> {
     }
 }
 
-// Whether the values are the same, as many and in the same order.
+// Whether the values are the same, as many and in the same order. Its contract says so outright; that of `orc_rules::builtin::are_same` says what the
+// site `Eq` makes of them.
 fn are_same(values: &[Value], others: &[Value]) -> bool
     ensures { result ≡ true → values.now ≡ others.now }
 {
