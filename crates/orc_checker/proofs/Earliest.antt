@@ -18,16 +18,6 @@ use Rattle.orc_term.proofs.Lists.{get-more}
 same_some : {X : Type 0} (x y : X) → Some x ≡ Some y → x ≡ y
 same_some x y e = cc e
 
--- a call is due once
-pub time_once : (c : Called) (t u : ℕ) → IsTime c t → IsTime c u → t ≡ u
-time_once c t u a b = let d : a.1.delay ≡ b.1.delay = cc (sym a.1.says ∙ b.1.says) in omega (arith, a.1.sum, b.1.sum, d)
-
-pub due_once : (calls : List Called) (k t u : ℕ) → IsDueOf calls k t → IsDueOf calls k u → t ≡ u
-due_once calls k t u a b =
-    let i : a.index ≡ b.index = omega (arith, a.is_k, b.is_k) in
-    let c : a.by ≡ b.by = same_some a.by b.by (sym a.there ∙ ap (slice_get calls) i ∙ b.there) in
-    time_once b.by t u (subst (λ z. IsTime z t) c a.time) b.time
-
 -- a node's call that is never due
 module _ (nodes : List Node) (calls : List Called) (i k t : ℕ) (is : kind_at nodes i ≡ Leaf (Waits k)) where
   its_call : IsDueAt nodes calls i t → IsDueOf calls k t

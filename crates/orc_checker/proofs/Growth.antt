@@ -1,5 +1,5 @@
 -- Names and cells that come change no environment that is there.
-use Rattle.std.proofs.Common.{◌≡◌, ◌≤◌, ◌<◌, ◌+◌, ℕ, zero, suc, List, [], ◌∷◌, ◌++◌, length, get_or, refl, sym, ap, ◌∙◌, arith, length-append}
+use Rattle.std.proofs.Common.{◌≡◌, ◌≤◌, ◌+◌, ℕ, zero, suc, List, [], ◌∷◌, ◌++◌, length, get_or, refl, sym, ap, ◌∙◌, arith, length-append}
 use Rattle.std.proofs.lemmas.List.{get_or_append_left}
 use Rattle.std.proofs.Math.Seq.{get_or-append_seam}
 use Rattle.orc_env.specs.declared.names.Bound.{Bound}
@@ -34,20 +34,6 @@ module _ (cells : List Bound) where
   env-new ss s n is =
       let es = envs_from cells ([] ∷ []) ss in
       ap (λ z. get_or z n []) (envs_from-push ([] ∷ []) ss s) ∙ ap (λ z. get_or (es ++ next_env cells es s ∷ []) z []) (is ∙ sym (length-envs ss)) ∙ get_or-append_seam es (next_env cells es s) [] []
-
-  envs_from-stays : (e : ℕ) (es : List Env) (more : List Scope) → e < length es → get_or (envs_from cells es more) e [] ≡ get_or es e []
-  envs_from-stays e es [] lt = refl
-  envs_from-stays e es (x ∷ more) lt =
-      envs_from-stays e (es ++ next_env cells es x ∷ []) more (omega (arith, lt, length-append es (next_env cells es x ∷ []))) ∙ get_or_append_left es (next_env cells es x ∷ []) [] e lt
-
-  envs_from-after : (es : List Env) (ss more : List Scope) → envs_from cells es (ss ++ more) ≡ envs_from cells (envs_from cells es ss) more
-  envs_from-after es [] more = refl
-  envs_from-after es (x ∷ ss) more = envs_from-after (es ++ next_env cells es x ∷ []) ss more
-
-  -- those that are there, where several come
-  pub env-kept_all : (ss more : List Scope) (e : ℕ) → e ≤ length ss → env_of cells (ss ++ more) e ≡ env_of cells ss e
-  env-kept_all ss more e le =
-      ap (λ z. get_or z e []) (envs_from-after ([] ∷ []) ss more) ∙ envs_from-stays e (envs_from cells ([] ∷ []) ss) more (omega (arith, le, length-envs ss))
 
 get_or-more : {X : Type 0} (xs : List X) (d : ℕ) (f : ℕ → X) → get_or (xs ++ f (length xs) ∷ []) d (f d) ≡ get_or xs d (f d)
 get_or-more [] zero f = refl

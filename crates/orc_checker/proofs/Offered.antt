@@ -1,5 +1,5 @@
 -- What a token can do, by its node; whether the side of a node has halted.
-use Rattle.std.proofs.Common.{◌≡◌, ℕ, List, [], ◌∷◌, ◌++◌, map, Option, Some, None, refl, sym, ap, ◌∙◌, subst, append_assoc, inl, inr, Bool, true, false}
+use Rattle.std.proofs.Common.{◌≡◌, ℕ, List, map, Option, Some, None, refl, sym, ap, ◌∙◌, subst, inl, inr}
 use Rattle.std.specs.Prelude.{IfSome}
 use Rattle.orc_rules.specs.declared.value.Value.{Value}
 use Rattle.orc_rules.specs.declared.value.Answer.{Answer}
@@ -7,7 +7,7 @@ use Rattle.orc_rules.specs.declared.value.Found.{Found}
 use Rattle.orc_rules.specs.declared.value.Found.TheVariants.{After}
 use Rattle.orc_rules.specs.declared.param.Param.TheVariants as is
 use Rattle.orc_rules.specs.declared.param.Operand.{Operand}
-use Rattle.orc_rules.specs.Term.{Term, param, values_of}
+use Rattle.orc_rules.specs.Term.{Term, param}
 use Rattle.orc_rules.specs.Nodes.{Listing, code, param_of}
 use Rattle.orc_rules.specs.Step.{publishes}
 use Rattle.orc_rules.specs.Marked.{Marked, ended, token, Emits, emits}
@@ -17,7 +17,7 @@ use Rattle.orc_rules.specs.Refusal.{Stands}
 use Rattle.orc_env.specs.declared.names.Bound.{Bound}
 use Rattle.orc_env.specs.declared.names.Scope.{Scope}
 use Rattle.orc_env.specs.Scopes.{Env, close, close_param, env_of}
-use Rattle.orc_env.proofs.Scopes.{close-of-param, close-site, values-more}
+use Rattle.orc_env.proofs.Scopes.{close-of-param, close-site}
 use Rattle.orc_calls.specs.Due.{DueNow}
 use Rattle.orc_term.specs.declared.arena.Kind.TheVariants.{Leaf, One, Two}
 use Rattle.orc_term.specs.declared.arena.Tip.{Tip}
@@ -30,9 +30,8 @@ use Rattle.orc_term.specs.declared.walk.Taker.TheVariants.{Whole, Fed, Bound as 
 use Rattle.orc_term.specs.Arena.{at, living_kind, of_tip, spelled, plug}
 use Rattle.orc_term.specs.Rising.{act_of, IsTaker}
 use Rattle.orc_term.specs.Settling.{flag}
-use Rattle.orc_checker.specs.Stillness.{params_in}
 use Rattle.orc_checker.specs.Checker.{State, Spells}
-use Rattle.orc_checker.specs.Offers.{AddsValues, Allows, HasAt, IsOperandAt, IsPublished, Offers, taken}
+use Rattle.orc_checker.specs.Offers.{Allows, HasAt, IsOperandAt, IsPublished, Offers, taken}
 use Rattle.orc_checker.specs.Over.{LeftIs, RightIs}
 use Rattle.orc_checker.proofs.CallsMade.{get-map}
 use Rattle.orc_checker.proofs.Shown.{shown}
@@ -41,12 +40,6 @@ use Rattle.orc_checker.proofs.Takers.{emits_up}
 pub if_some : {X : Type 0} {P Q : X → Type 0} (o : Option X) → ((x : X) → P x → Q x) → IfSome o P → IfSome o Q
 if_some None f h = tt
 if_some (Some x) f h = f x h
-
--- the values of operands, one after another
-pub adds_more : (cells : List Bound) (ss : List Scope) (e : ℕ) (p : Operand) (ps : List Operand) (v : Value) (args more args' : List Value) (r : Bool) → close_param (env_of cells ss e) (param_of p) ≡ is.Is v → more ≡ args ++ v ∷ [] → AddsValues cells ss e ps more args' r → AddsValues cells ss e (p ∷ ps) args args' r
-adds_more cells ss e p ps v args more args' true means is (vs, values, all) =
-    (v ∷ vs, values-more (close_param (env_of cells ss e) (param_of p)) (params_in cells ss e ps) v vs means values, all ∙ ap (λ z. z ++ vs) is ∙ append_assoc args (v ∷ []) vs)
-adds_more cells ss e p ps v args more args' false means is none = ap (λ z. values_of (z ∷ params_in cells ss e ps)) means ∙ rw none refl
 
 -- a cell at a position of the term on which a token stands
 pub has_at : (cells : List Bound) (ss : List Scope) (e : ℕ) (t : Term) (i : ℕ) (o : Operand) (c : ℕ) → IsOperandAt t i o → close_param (env_of cells ss e) (param_of o) ≡ is.Cell c → HasAt i c (close (env_of cells ss e) t)

@@ -102,10 +102,6 @@ module _ (l : Listing) (t : Table) (cancels : Bool) (s : State) (p : Place) (r :
   pub stands_on : (m i q f e : ℕ) → at s.nodes q i (Leaf (Token m f e)) → (u : Term) → Stands (token m u) p.marked → close (env_of s.cells s.scopes e) (code l f) ≡ u
   stands_on m i q f e a u st = token_one m _ u p.marked (IsNumbered.single numbered (mark m)) (token_stands x l s p sp q i (Token m f e) a refl m _ refl) st
 
-  -- it isn't of another kind
-  pub other_sort : (m i q f e : ℕ) (n : TermNode) → at s.nodes q i (Leaf (Token m f e)) → code l f ≡ unfold_node (code l) l.lists n → (u : Term) → (node_sort n ≡ sort u → ⊥) → Stands (token m u) p.marked → ⊥
-  other_sort m i q f e n a is u off st = off (sym (sort_under (env_of s.cells s.scopes e) (code l) l.lists n (code l f) is) ∙ ap sort (stands_on m i q f e a u st))
-
   -- a token that isn't found, where an entry asks for it
   pub lacks_token : (m : ℕ) (why : RuleFault) → Lacks s (NoToken s.nodes m) why → (e : Entry) → (Meets x p e reason.Cancel → p.to_cancel ≡ []) → (Meets x p e reason.Mark → HasToken p m) → Meets x p e why → ⊥
   lacks_token m reason.Cancel lacks e free there h = lacks (sym sp.rest.due ∙ free h)
@@ -205,10 +201,6 @@ module _ (l : Listing) (t : Table) (e : Entry) (s : State) where
   lacks_refused Missing reason.Cancel lacks free there not_memory cancels p r sp h = lacks (sym sp.rest.due ∙ free (context l t cancels) p h)
   lacks_refused Missing reason.Mark lacks free there not_memory cancels p r sp h = there (context l t cancels) p sp h lacks
   lacks_refused Missing _ lacks free there not_memory cancels p r sp h = absurd lacks
-
-  -- a cancel is due
-  pub cancel_refused : (s.rest.to_cancel ≡ [] → ⊥) → ((x : Context) (p : Place) → Meets x p e reason.Cancel → p.to_cancel ≡ []) → IsRightlyRefused l t e s reason.Cancel
-  cancel_refused due free not_memory cancels p r sp h = due (sym sp.rest.due ∙ free (context l t cancels) p h)
 
   -- its call has another answer, or is due at another time
   pub answer_refused : (k : ℕ) (c : Called) (a : Answer) (now : ℕ) (why : RuleFault) → IsCall s.rest k c → now ≡ s.rest.time → IsNotDue c.at c.found a now why → ((x : Context) (p : Place) → Meets x p e reason.Answer → IsAnswer x p k a) → ((x : Context) (p : Place) → Meets x p e reason.Time → IsDue x.sites p.calls k a p.now)

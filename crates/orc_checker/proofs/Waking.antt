@@ -109,13 +109,6 @@ module _ (moves : ℕ → Bool) (node : ℕ) (active active' : List Bool) where
         up = λ k lt on yes. ⊎_elim (λ was. l.up k (omega (arith, lt, is)) was yes) (λ f. l.up n (omega (arith, is)) here (f yes)) (w.woken k on);
       }
 
-  pub looks_past : (m n : ℕ) → m ≡ n + 1 → flag active n ≡ false → Looks moves node active m → Looks moves node active n
-  looks_past m n is off l =
-      record {
-        down = λ h. l.down (λ k lt on. ⊎_elim (λ (a : k < n). h k a on) (λ same. absurd (cc (sym on ∙ ap (flag active) same ∙ off))) (below_or k n (omega (arith, lt, is))));
-        up = λ k lt on yes. l.up k (omega (arith, lt, is)) on yes;
-      }
-
 -- the flags of the nodes before n are cleared
 abbrev pub AreCleared : List Bool → ℕ → Type 0
 AreCleared active n = (k : ℕ) → k < n → k < length active → flag active k ≡ false

@@ -115,7 +115,3 @@ close-more (b ∷ e) x v g = go (nat_eq b.0 x) refl (close-more e x v g) (close-
         → put (given v) x (close (cond a (without x e) (b ∷ without x e)) g) ≡ close e (put (given b.1) b.0 (put (given v) x g))
     go true h same swap = same ∙ ap (close e) (sym (ap (λ y. put (given b.1) y (put (given v) x g)) (eqb-true b.0 x h) ∙ put-same b.1 v x g))
     go false h same swap = swap ∙ ap (close e) (sym (put-swap b.1 v b.0 x h g))
-
-pub close-value : (e : Env) (v : _) → close e (param (Is v)) ≡ param (Is v)
-close-value [] v = refl
-close-value (b ∷ e) v = close-value e v

@@ -3,13 +3,13 @@ use Rattle.std.proofs.Common.{◌≡◌, ◌≤◌, ◌-◌, ℕ, List, refl, ap
 use Rattle.std.specs.Prelude.{slice_get}
 use Rattle.orc_rules.specs.Term.{Term}
 use Rattle.orc_env.specs.Scopes.{Env, close, without}
-use Rattle.orc_frames.specs.Spelling.{Path, whole, feeding, aiding, trying, seen}
+use Rattle.orc_frames.specs.Spelling.{Path, feeding, aiding, trying, seen}
 use Rattle.orc_frames.specs.Paths.{path, inwards}
 use Rattle.orc_frames.specs.Taking.{taker}
 use Rattle.orc_tables.specs.Steps.{AreOutwards}
 use Rattle.orc_tables.specs.declared.records.Frame.TheVariants.{SeqLeft, PruneRight, OtherwiseLeft}
 use Rattle.orc_tables.specs.declared.records.Step.{Step}
-use Rattle.orc_frames.proofs.Growth.{path-unfold, path-none}
+use Rattle.orc_frames.proofs.Growth.{path-unfold}
 
 pub taker-try : (left : ℕ → Bool) (n : ℕ) (p : Path) → taker (seen left (trying n p)) ≡ taker (seen left p)
 taker-try left n p = go (left n)
@@ -33,6 +33,3 @@ module _ (ss : List Step) (outwards : AreOutwards ss) (i : ℕ) (p : Step) (off 
 
   pub on-try : (n : ℕ) → p.entered ≡ OtherwiseLeft n → (code : ℕ → Term) (env : ℕ → Env) (left : ℕ → Bool) → taker (seen left (path code env ss i)) ≡ taker (seen left (path code env ss p.outer))
   on-try n is code env left = ap (λ z. taker (seen left z)) (here code env ∙ ap (λ z. inwards code env z (path code env ss p.outer)) is) ∙ taker-try left n (path code env ss p.outer)
-
-pub at-whole : (ss : List Step) (i : ℕ) → i ≡ 0 → (code : ℕ → Term) (env : ℕ → Env) (left : ℕ → Bool) → taker (seen left (path code env ss i)) ≡ whole
-at-whole ss i e code env left = ap (λ z. taker (seen left (path code env ss z))) e ∙ ap (λ z. taker (seen left z)) (path-none code env ss)

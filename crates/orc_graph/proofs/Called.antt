@@ -2,7 +2,7 @@
 use Rattle.std.proofs.Common.{◌≡◌, ◌<◌, ◌+◌, ◌⊎◌, ⊎_elim, inl, inr, ℕ, zero, suc, List, [], ◌∷◌, ◌++◌, length, map, take, get_or, refl, sym, ap, subst, ◌∙◌, arith, length-append}
 use Rattle.std.specs.Prelude.{slice_get, Some}
 use Rattle.std.specs.List.{AllByRecursion}
-use Rattle.std.proofs.lemmas.List.{map-append, map_more, take_more, get_or_append_left, get_or_at}
+use Rattle.std.proofs.lemmas.List.{map-append, take_more, get_or_append_left, get_or_at}
 use Rattle.orc_rules.specs.declared.value.Value.{Value}
 use Rattle.orc_rules.specs.declared.param.Param.TheVariants.{Is as param_is}
 use Rattle.orc_rules.specs.declared.param.Operand.{Operand}
@@ -23,11 +23,6 @@ use Rattle.orc_graph.specs.Called.{with_call, HasList, HasBody}
 all_push : {X : Type 0} (P : X → Type 0) (xs : List X) (x : X) → AllByRecursion P xs → P x → AllByRecursion P (xs ++ x ∷ [])
 all_push P [] x all holds = (holds, tt)
 all_push P (y ∷ xs) x all holds = (all.0, all_push P xs x all.1 holds)
-
--- one item more
-pub all_more : {X Y : Type 0} (P : Y → Type 0) (f : X → Y) (xs : List X) (i : ℕ) (d : X) → i < length xs → AllByRecursion P (map f (take i xs)) → P (f (get_or xs i d))
-    → AllByRecursion P (map f (take (i + 1) xs))
-all_more P f xs i d within all holds = subst (AllByRecursion P) (sym (map_more f xs i d within)) (all_push P (map f (take i xs)) (f (get_or xs i d)) all holds)
 
 pub have_bodies : (n : ℕ) (names : List ℕ) (bs : List Body) → AllByRecursion (λ b. b.node < n) bs → AllByRecursion (HasBody n) (map (routine_in names) bs)
 have_bodies n names [] all = tt

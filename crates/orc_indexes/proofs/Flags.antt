@@ -69,12 +69,6 @@ now-set (b ∷ bs) (suc k) (suc j) h = elim (now-set bs k j h) [
 -- ---- notes
 
 module _ {Z : Type 0} where
-  pub more-notes : (xs : List (Vec Note Z)) (v : Vec Note Z) → vec_items v ≡ [] → (c : ℕ) → notes_at (map vec_items (xs ++ v ∷ [])) c ≡ notes_at (map vec_items xs) c
-  more-notes [] v e zero = e
-  more-notes [] v e (suc c) = refl
-  more-notes (x ∷ xs) v e zero = refl
-  more-notes (x ∷ xs) v e (suc c) = more-notes xs v e c
-
   pub notes-set : (xs : List (Vec Note Z)) (k : ℕ) (v : Vec Note Z) → k < length xs → notes_at (map vec_items (slice_set xs k v)) k ≡ vec_items v
   notes-set [] k v lt = absurd (omega (arith, lt))
   notes-set (x ∷ xs) zero v lt = refl

@@ -1,6 +1,6 @@
 -- The notes of calls' due times, read as a list.
 use Rattle.std.proofs.Common.{◌≡◌, ◌≤◌, ◌<◌, ◌⊎◌, ⊎_elim, ℕ, suc, List, ◌∷◌, [], length, refl, sym, ap, ◌∙◌, arith, inl, inr, subst, Bool, true, false, cond, nat_eq, nat_lt, eqb-true}
-use Rattle.std.specs.Prelude.{Option, Some, None, IfSome, IfNone, IsSome, MatchOption, slice_get}
+use Rattle.std.specs.Prelude.{Option, Some, None, IfSome, IfNone, IsSome, MatchOption}
 use Rattle.std.specs.List.{All}
 use Rattle.std.specs.declared.cmp.Ordering.TheVariants.{Less, Equal, Greater}
 use Rattle.std.specs.Ordering.{nat_cmp, ordering_then, is_eq, is_gt}
@@ -30,10 +30,6 @@ keeps_but t k old new sets u j h = go (is_eq (compared (t, k) (u, j))) refl
     go : (b : Bool) → is_eq (compared (t, k) (u, j)) ≡ b → IsNoted new u j ⊎ ((u ≡ t) × (j ≡ k))
     go true e = let w = same_note (t, k) (u, j) e in inr (sym w.0, sym w.1)
     go false e = inl (stands (u, j) new (sets (u, j) ∙ ap (λ z. cond z false (is_found old (u, j))) e ∙ found (u, j) old h))
-
-pub first_in : (ks : List Timed) (a : Timed) → slice_get ks 0 ≡ Some a → IsIn a ks
-first_in [] a h = absurd (cc h)
-first_in (k ∷ ks) a h = inl (cc h)
 
 -- the first one from here on
 module _ (t from : ℕ) (ks : List Timed) (a : Timed) (start : is_gt (compared (t, from) a) ≡ false) (least : (q : Timed) → is_gt (compared (t, from) q) ≡ false → is_found ks q ≡ true → is_gt (compared a q) ≡ false) where

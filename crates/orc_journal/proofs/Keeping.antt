@@ -1,18 +1,17 @@
 -- What is added behind the tables leaves the entries of the rows as they are.
 use Rattle.std.proofs.Common.{◌≡◌, ℕ, ◌+◌, ◌≤◌, List, [], ◌∷◌, ◌++◌, length, get_or, take, drop, map, refl, sym, ap, subst, ◌∙◌, arith, length-drop, length-append}
-use Rattle.std.proofs.lemmas.List.{take-append-le, drop-append-le, map-append, take_all, drop_at, append-nil, get_or_append_left, get_or_at, drop_more}
+use Rattle.std.proofs.lemmas.List.{take-append-le, drop-append-le, map-append, append-nil, get_or_append_left, drop_more}
 use Rattle.orc_rules.specs.declared.value.Value.{Value}
 use Rattle.orc_rules.specs.declared.value.Value.TheVariants.{Signal}
 use Rattle.orc_rules.specs.declared.entry.Entry.{Entry}
 use Rattle.orc_rules.specs.declared.entry.Entry.TheVariants.{Send, Call, Return, Bind, Publish}
 use Rattle.orc_rules.specs.declared.kind.Kind.{Kind}
 use Rattle.orc_rules.specs.declared.kind.Kind.TheVariants as kinds
-use Rattle.orc_rules.specs.declared.limits.TheConstants.{MOST_ARGUMENTS}
 use Rattle.orc_journal.specs.declared.rows.Parts.{Parts}
 use Rattle.orc_journal.specs.declared.rows.Called.{Called}
 use Rattle.orc_journal.specs.declared.rows.Row.{Row}
 use Rattle.orc_journal.specs.declared.rows.Row.TheVariants.{Narrow, Wide}
-use Rattle.orc_journal.specs.Rows.{Contents, no_parts, no_call, parts_in, call_by, plain, given, entry_by, entry_from, entry_of, grown, HasArguments, HasCall, HasValue, IsPlain, IsPlaced, IsThere, ArePlaced, IsWithin, AreWithin, Keeps, Names, StandsAt, StandFrom, StandsFor}
+use Rattle.orc_journal.specs.Rows.{Contents, no_parts, no_call, parts_in, call_by, entry_by, entry_from, entry_of, grown, HasArguments, HasCall, IsPlaced, IsThere, ArePlaced, IsWithin, AreWithin, Keeps, StandsAt, StandFrom, StandsFor}
 use Rattle.orc_journal.specs.Written.{Written, journal_with}
 use Rattle.orc_journal.specs.declared.journal.Version.{Version}
 
@@ -88,9 +87,6 @@ keeps_both t u w first second r within =
     let two = second r one.0 in
     (two.0, two.1 ∙ one.1)
 
-pub keeps_values : (t : Contents) (vs : List Value) → Keeps t (record { values = t.values ++ vs; calls = t.calls; wides = t.wides })
-keeps_values t vs = subst (Keeps t) (λ i. record { values = t.values ++ vs; calls = append-nil t.calls i; wides = append-nil t.wides i }) (keeps_grown t vs [] [])
-
 pub keeps_call : (t : Contents) (site count start : ℕ) → Keeps t (with_call t site count start)
 keeps_call t site count start =
     let c : Called = record { site = site; count = count; start = start } in
@@ -123,66 +119,6 @@ row_more v t u rs rs' r e keeps w stands more =
 
 -- ---- a new row
 
-pub wide_names : (ws : List Parts) (p : Parts) → Names (ws ++ p ∷ []) (Wide (length ws)) p
-wide_names ws p = (omega (arith, length-append ws (p ∷ [])), get_or_at ws p [] no_parts (length ws) refl)
-
--- where values are added they stand at the end
-pub own_value : (values : List Value) (v : Value) → StandsAt (values ++ v ∷ []) (length values) v
-own_value values v = (omega (arith, length-append values (v ∷ [])), get_or_at values v [] Signal (length values) refl)
-
-pub own_values : (values vs : List Value) → StandFrom (values ++ vs) (length values) vs
-own_values values vs = (omega (arith, length-append values vs), ap (take (length vs)) (drop_at values vs (length values) refl) ∙ take_all (length vs) vs (omega arith))
-
 -- one value that stands at a place
 pub one_value : (values : List Value) (at : ℕ) (v : Value) → StandsAt values at v → StandFrom values at (v ∷ [])
 one_value values at v stands = (omega (arith, stands.0), ap (take 1) (drop_more values at Signal stands.0) ∙ ap (λ (w : Value). w ∷ []) stands.1)
-
--- the row of parts that stand for an entry
-row_stands : (t : Contents) (r : Row) (p : Parts) (e : Entry) → Names t.wides r p → ArePlaced t p → entry_from t p ≡ e → StandsFor t r e
-row_stands t r p e names placed same = ((names.0, subst (ArePlaced t) (sym names.1) placed), ap (entry_from t) names.1 ∙ same)
-
-plain_stands : (t : Contents) (k : Kind) (a b c d : ℕ) → IsPlain k → IsPlaced t k c × (entry_by t k a b c d ≡ plain k a b c d)
-plain_stands t kinds.Send a b c d is = absurd is
-plain_stands t kinds.Return a b c d is = absurd is
-plain_stands t kinds.Bind a b c d is = absurd is
-plain_stands t kinds.Publish a b c d is = absurd is
-plain_stands t kinds.Call a b c d is = absurd is
-plain_stands t _ a b c d is = (tt, refl)
-
-given_stands : (t : Contents) (k : Kind) (a b at : ℕ) (v : Value) → HasValue k → StandsAt t.values at v → IsPlaced t k at × (entry_by t k a b at 0 ≡ given k a b v)
-given_stands t kinds.Send a b at v has there = (there.0, ap (Send a b) there.1)
-given_stands t kinds.Return a b at v has there = (there.0, ap (Return a b) there.1)
-given_stands t kinds.Bind a b at v has there = (there.0, ap (Bind a b) there.1)
-given_stands t kinds.Publish a b at v has there = (there.0, ap (Publish a) there.1)
-given_stands t _ a b at v has there = absurd has
-
-call_stands : (t : Contents) (s k m start : ℕ) (args : List Value) → length args ≤ MOST_ARGUMENTS → StandFrom t.values start args
-    → IsPlaced (with_call t m (length args) start) kinds.Call (length t.calls) × (entry_by (with_call t m (length args) start) kinds.Call s k (length t.calls) 0 ≡ Call s k m args)
-call_stands t s k m start args few there =
-    let c : Called = record { site = m; count = length args; start = start } in
-    let same = get_or_at t.calls c [] no_call (length t.calls) refl in
-    let has : HasArguments t.values c = (there.0, few) in (
-      (omega (arith, length-append t.calls (c ∷ [])), subst (HasArguments t.values) (sym same) has),
-      ap (call_by t.values s k) same ∙ ap (Call s k m) there.1,
-    )
-
--- ---- what is added to the tables
-
--- parts of numbers alone
-pub plain_added : (t u : Contents) (r : Row) (k : Kind) (a b c d : ℕ) → IsPlain k → Names u.wides r (record { kind = k; first = a; second = b; third = c; fourth = d }) → StandsFor u r (plain k a b c d)
-plain_added t u r k a b c d is names =
-    let one = plain_stands u k a b c d is in
-    row_stands u r (record { kind = k; first = a; second = b; third = c; fourth = d }) (plain k a b c d) names one.0 one.1
-
--- parts with the place of a value
-pub given_added : (t : Contents) (r : Row) (k : Kind) (a b at : ℕ) (v : Value) → HasValue k → StandsAt t.values at v → Names t.wides r (record { kind = k; first = a; second = b; third = at; fourth = 0 }) → StandsFor t r (given k a b v)
-given_added t r k a b at v has there names =
-    let one = given_stands t k a b at v has there in
-    row_stands t r (record { kind = k; first = a; second = b; third = at; fourth = 0 }) (given k a b v) names one.0 one.1
-
--- parts with the place of a call
-pub call_added : (t : Contents) (r : Row) (s k m start : ℕ) (args : List Value) → length args ≤ MOST_ARGUMENTS → StandFrom t.values start args
-    → Names t.wides r (record { kind = kinds.Call; first = s; second = k; third = length t.calls; fourth = 0 }) → StandsFor (with_call t m (length args) start) r (Call s k m args)
-call_added t r s k m start args few there names =
-    let one = call_stands t s k m start args few there in
-    row_stands (with_call t m (length args) start) r (record { kind = kinds.Call; first = s; second = k; third = length t.calls; fourth = 0 }) (Call s k m args) names one.0 one.1

@@ -16,7 +16,7 @@ use Rattle.orc_journal_text.specs.Faults.{journal_fault_of}
 use Rattle.orc_journal_text.specs.Reading.{after, header_at, or_else}
 use Rattle.orc_journal_text.specs.Lines.{Left, HasRead, HasTooMany, IsLinesFault, IsUnfilled, with_piece}
 use Rattle.orc_journal_text.specs.Pieces.{MayCome}
-use Rattle.orc_journal_text.specs.Texts.{header, entry_lines, IsFault, IsJournal, NoLine}
+use Rattle.orc_journal_text.specs.Texts.{header, entry_lines, IsFault, NoLine}
 use Rattle.orc_journal_text.proofs.Codes.{after_again, after_takes, same_some}
 use Rattle.orc_journal_text.proofs.Coming.{all_has_come, may_come, some_may_come}
 use Rattle.orc_journal_text.proofs.Lengths.{front_of, no_line_with}
@@ -107,14 +107,6 @@ module _ (names : List (List ℕ)) where
     go Unread is = tt
 
   -- ---- the end
-
-  pub journal_read : (text : List ℕ) (l : Left) (es : List Entry) → HasRead names text l es → l.coming.came ≤ LONGEST_JOURNAL → l.counted ≤ MOST_ENTRIES → l.coming.rest ≡ [] → IsJournal names text (record { version = l.version; entries = es })
-  journal_read text l es read fits few none = record {
-    whole = read.front ∙ ap (λ (t : List ℕ). header l.version ++ (entry_lines names es ++ t)) none ∙ ap (λ (t : List ℕ). header l.version ++ t) (append-nil (entry_lines names es));
-    each = read.each;
-    size = omega (arith, read.came, fits);
-    limit = omega (arith, read.counts, few);
-  }
 
   pub arrived : (text : List ℕ) (now l : Left) (es : List Entry) (piece : List ℕ) (left : Option (List ℕ)) → l ≡ with_piece now piece left → HasRead names text now es → HasRead names (text ++ piece) l es
   arrived text now l es piece left so read = subst (λ (z : Left). HasRead names (text ++ piece) z es) (sym so) (read_with text now es piece left read)

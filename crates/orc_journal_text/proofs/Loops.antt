@@ -1,9 +1,7 @@
 -- Reading as a loop does.
-use Rattle.std.proofs.Common.{◌≡◌, ℕ, zero, suc, ◌+◌, ◌-◌, ◌<◌, ◌≤◌, List, [], ◌∷◌, ◌++◌, length, get_or, take, drop, Option, Some, None, refl, sym, ap, ◌∙◌, append_assoc, arith}
+use Rattle.std.proofs.Common.{◌≡◌, ℕ, suc, ◌+◌, ◌-◌, ◌<◌, ◌≤◌, List, [], ◌∷◌, ◌++◌, take, drop, Option, Some, None, refl, sym, ap, ◌∙◌, append_assoc, arith}
 use Rattle.orc_rules.specs.declared.value.Value.{Value}
-use Rattle.orc_rules.specs.Kinds.{word_of}
-use Rattle.orc_rules.specs.declared.kind.Kind.{Kind}
-use Rattle.orc_journal_text.specs.Reading.{kind_from, ◌>>=◌, after, split_name, value_at, values_at}
+use Rattle.orc_journal_text.specs.Reading.{◌>>=◌, after, split_name, value_at, values_at}
 
 -- ---- the bytes before a bracket
 
@@ -18,17 +16,9 @@ with_front front read = read >>= λ x. Some (front ++ x.0, x.1)
 one_more : (count i : ℕ) → i < count → count - i ≡ suc (count - (i + 1))
 one_more count i lt = omega arith
 
-pub no_value : (front : List Value) (count i : ℕ) (bytes : List ℕ) (total : Option (List Value × List ℕ)) → i < count → value_at bytes ≡ None
-    → with_front front (values_at (count - i) bytes) ≡ total → total ≡ None
-no_value front count i bytes total lt h so_far = sym so_far ∙ rw (one_more count i lt, h) refl
-
 pub closed : (front : List Value) (count i : ℕ) (bytes behind rest : List ℕ) (v : Value) (total : Option (List Value × List ℕ)) → i < count → value_at bytes ≡ Some (v, behind) → after (41 ∷ []) behind ≡ Some rest
     → with_front front (values_at (count - i) bytes) ≡ total → total ≡ Some (front ++ v ∷ [], rest)
 closed front count i bytes behind rest v total lt h a so_far = sym so_far ∙ rw (one_more count i lt, h, a) refl
-
-pub no_comma : (front : List Value) (count i : ℕ) (bytes behind : List ℕ) (v : Value) (total : Option (List Value × List ℕ)) → i < count → value_at bytes ≡ Some (v, behind) → after (41 ∷ []) behind ≡ None → after (44 ∷ 32 ∷ []) behind ≡ None
-    → with_front front (values_at (count - i) bytes) ≡ total → total ≡ None
-no_comma front count i bytes behind v total lt h a b so_far = sym so_far ∙ rw (one_more count i lt, h, a, b) refl
 
 regroup : (front : List Value) (v : Value) (read : Option (List Value × List ℕ)) → with_front front (read >>= λ x. Some (v ∷ x.0, x.1)) ≡ with_front (front ++ v ∷ []) read
 regroup front v (Some x) = ap (λ (vs : List Value). Some (vs, x.1)) (sym (append_assoc front (v ∷ []) x.0))
@@ -47,11 +37,3 @@ too_many front count i bytes total le so_far =
 
 one_up : (i : ℕ) → suc i + 1 ≡ suc (i + 1)
 one_up i = omega arith
-
--- ---- kinds, one after the other
-
-pub kind_next : (ks : List Kind) (i : ℕ) (bytes : List ℕ) (d : Kind) (total : Option (Kind × List ℕ)) → i < length ks → after (word_of (get_or ks i d)) bytes ≡ None
-    → kind_from (drop i ks) bytes ≡ total → kind_from (drop (i + 1) ks) bytes ≡ total
-kind_next [] i bytes d total lt h e = absurd (omega (arith, lt))
-kind_next (k ∷ ks) zero bytes d total lt h e = sym (rw h refl) ∙ e
-kind_next (k ∷ ks) (suc i) bytes d total lt h e = rw (one_up i) (kind_next ks i bytes d total (omega (arith, lt)) h e)

@@ -4,8 +4,7 @@ use Rattle.orc_rules.specs.Nodes.{Listing}
 use Rattle.orc_rules.specs.Sites.{Site}
 use Rattle.orc_ledger_spec.specs.Records.{Records}
 use Rattle.orc_ledger_spec.specs.Moves.{Moves, Feeds}
-use Rattle.orc_ledger_spec.specs.Passing.{goes, GoesOn, Passes}
-use Rattle.orc_ledger_spec.specs.declared.results.Moved.{Moved}
+use Rattle.orc_ledger_spec.specs.Passing.{GoesOn, Passes}
 use Rattle.orc_ledger_spec.specs.declared.results.Moved.TheVariants as moved
 use Rattle.orc_ledger_spec.specs.declared.results.Passed.{Passed}
 use Rattle.orc_ledger_spec.specs.declared.results.Passed.TheVariants as passed
@@ -15,16 +14,6 @@ use Rattle.orc_tables.specs.declared.records.Frame.TheVariants.{SeqLeft}
 use Rattle.orc_tables.specs.declared.records.Standing.TheVariants.{At}
 use Rattle.orc_tables.specs.declared.records.Step.{Step}
 use Rattle.orc_tables.specs.declared.records.Token.{Token}
-
--- a move is one way to go on
-pub moved-passes : (l : Listing) (sites : List Site) (s : Records) (slot : ℕ) (t : Token) (m : Moved) (ks : List ℕ) (s' : Records) → Moves l s slot t m ks s' → Passes l sites s slot t (goes m) ks s'
-moved-passes l sites s slot t moved.On ks s' h = h
-moved-passes l sites s slot t (moved.Forked k) ks s' h = h
-moved-passes l sites s slot t (moved.Sent g) ks s' h = h
-moved-passes l sites s slot t (moved.Gone g) ks s' h = h
-moved-passes l sites s slot t (moved.Bound c g) ks s' h = h
-moved-passes l sites s slot t moved.Calls ks s' h = h
-moved-passes l sites s slot t moved.Waits ks s' h = h
 
 -- the token that stands in the left side
 pub fed-held : (l : Listing) (s : Records) (slot : ℕ) (t : Token) (s1 : Records) (F : Feeds l s slot t s1) (serial step : ℕ) → serial ≡ s.next_mark → step ≡ length s1.steps → IsHeld s1.slots slot (record { serial = serial; standing = At F.left F.scope; step = step })

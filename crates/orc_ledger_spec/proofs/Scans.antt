@@ -3,16 +3,13 @@ use Rattle.std.proofs.Common.{◌≡◌, ◌≤◌, ◌<◌, ◌+◌, ℕ, List,
 use Rattle.std.specs.Option.{MatchOption, is_some}
 use Rattle.std.proofs.lemmas.List.{take_more, take_all}
 use Rattle.orc_indexes.specs.Same.{weight}
-use Rattle.orc_indexes.proofs.Weight.{weight-append, weight-in, in-got}
+use Rattle.orc_indexes.proofs.Weight.{weight-append}
 
 pub none-so-far : {X : Type 0} (w : X → ℕ) (xs : List X) (i : ℕ) (d : X) → i < length xs → weight w (take i xs) ≡ 0 → w (get_or xs i d) ≡ 0 → weight w (take (i + 1) xs) ≡ 0
 none-so-far w xs i d lt before this = ap (weight w) (take_more xs i d lt) ∙ (weight-append w (take i xs) (get_or xs i d ∷ []) ∙ omega (arith, before, this))
 
 pub none-at-all : {X : Type 0} (w : X → ℕ) (xs : List X) (i : ℕ) → length xs ≤ i → weight w (take i xs) ≡ 0 → weight w xs ≡ 0
 none-at-all w xs i past before = omega (arith, before, ap (weight w) (take_all i xs past))
-
-pub one-there : {X : Type 0} (w : X → ℕ) (xs : List X) (i : ℕ) (d : X) → i < length xs → w (get_or xs i d) ≡ 1 → 1 ≤ weight w xs
-one-there w xs i d lt this = omega (arith, this, weight-in w xs (get_or xs i d) (in-got xs i d lt))
 
 -- what such a walk has found
 pub the-found : {X : Type 0} (none : Type 0) (some : X → Type 0) (o : Option X) → MatchOption o none some → is_some o ≡ true → (x : X) × some x

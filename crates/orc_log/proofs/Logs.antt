@@ -62,14 +62,6 @@ pub silent-more : (es fs : List Entry) → AreSilent es → AreSilent fs → Are
 silent-more [] fs h k = k
 silent-more (e ∷ es) fs h k = (h.0, silent-more es fs h.1 k)
 
--- the first entries, of which those that aren't held any more are some
-pub take-behind : (es fs : List Entry) (n : ℕ) → length es ≤ n → take n (es ++ fs) ≡ es ++ take (n - length es) fs
-take-behind [] fs n h = let same : n ≡ n - 0 = omega (arith) in ap (λ k. take k fs) same
-take-behind (e ∷ es) fs zero h = absurd (omega (arith, h))
-take-behind (e ∷ es) fs (suc n) h =
-    let same : n - length es ≡ suc n - suc (length es) = omega (arith) in
-    ap (λ zs. e ∷ zs) (take-behind es fs n (omega (arith, h)) ∙ ap (λ k. es ++ take k fs) same)
-
 -- cancels publish nothing
 pub cancels-publish-none : (ks : List ℕ) → published (map Cancel ks) ≡ []
 cancels-publish-none [] = refl

@@ -5,10 +5,10 @@ use Rattle.orc_rules.specs.declared.limits.TheConstants.{MOST_ARGUMENTS}
 use Rattle.orc_rules.specs.declared.param.Param.{Param}
 use Rattle.orc_rules.specs.Refusal.{depth}
 use Rattle.orc_rules.specs.Term.{Term, Definition}
-use Rattle.orc_syntax.specs.Tree.{Link, Seq, Par, Prune, Other, Tree, Leaf, Variable, Call, Operation, Val, Trees, Nil, Cons, Define, Source, count, span_of}
+use Rattle.orc_syntax.specs.Tree.{Seq, Par, Prune, Other, Tree, Leaf, Variable, Call, Operation, Val, Trees, Nil, Cons, Define, Source, count, span_of}
 use Rattle.orc_scope.specs.Deep.{operators, operators_of_all, nesting, nesting_of_all, IsShallow, AreShallow, AreWithin, StaysShallow, written_levels}
 use Rattle.orc_scope.specs.Scope.{Known, Meaning, IsVariable, IsDefinition, IsSite, IsNothing, outer_meaning, position, faults, faults_of_all, number_faults, meaning, call_faults, bound, text_if}
-use Rattle.orc_scope.specs.Written.{written, written_all, called, params, pruned, prunings, as_param, operated}
+use Rattle.orc_scope.specs.Written.{written, written_all, called, params, pruned, prunings, as_param}
 use Rattle.orc_rules.specs.Nodes.{Listing}
 use Rattle.orc_scope.specs.Checking.{IsWrittenOut}
 use Rattle.orc_scope.specs.Program.{text, known_in, definition_faults, definitions_faults, program_faults, written_define, variables}
@@ -35,12 +35,6 @@ called_depth IsVariable ps = refl
 called_depth (IsDefinition e) ps = refl
 called_depth (IsSite m) ps = refl
 called_depth IsNothing ps = refl
-
-operated_depth : (names : List (List ℕ)) (link : Link) (f g : Term) → depth (operated names link f g) ≡ suc (max (depth f) (depth g))
-operated_depth names (Seq x) f g = refl
-operated_depth names Par f g = refl
-operated_depth names (Prune x) f g = refl
-operated_depth names Other f g = refl
 
 count_all : (known : Known) (names : List (List ℕ)) (es : Trees) → length (written_all known names es) ≡ count es
 count_all known names Nil = refl

@@ -8,24 +8,14 @@ use Rattle.orc_search.specs.declared.change.Change.TheVariants.{Put, Settle, Pas
 use Rattle.orc_search.specs.declared.images.Image.{Image}
 use Rattle.orc_search.specs.declared.node.Joint.{Joint}
 use Rattle.orc_search.specs.declared.node.Joint.TheVariants.{Both, Feeds, Prunes, Instead, Needs}
-use Rattle.orc_search.specs.Small.{Out, Small, nothing, gives, asks, enters, awaits}
+use Rattle.orc_search.specs.Small.{Small, nothing, asks, enters}
 use Rattle.orc_search.specs.Nodes.{joined, small_at, Extends}
-use Rattle.orc_search.specs.Changes.{changed, changed_param, changed_rest, left_stays, right_stays, IsImage, AreImages, IsIn, IsPart}
+use Rattle.orc_search.specs.Changes.{changed, changed_param, left_stays, right_stays, IsImage, AreImages, IsIn, IsPart}
 use Rattle.orc_search.proofs.Nodes.{at_end, there, within}
 
 same_list : {X : Type 0} (xs : List X) → map (λ x. x) xs ≡ xs
 same_list [] = refl
 same_list (x ∷ xs) = λ i. x ∷ same_list xs i
-
-pub changed_nothing : (c : Change) → nothing ≡ changed c nothing
-changed_nothing (Put q x) = refl
-changed_nothing (Settle w n) = refl
-changed_nothing (Pass by) = refl
-
-pub changed_gives : (c : Change) (p : Param) → gives (changed_param c p) ≡ changed c (gives p)
-changed_gives (Put q x) p = refl
-changed_gives (Settle w n) p = refl
-changed_gives (Pass by) p = refl
 
 pub changed_asks : (c : Change) (m : ℕ) (ps : List Param) → asks m (map (changed_param c) ps) ≡ changed c (asks m ps)
 changed_asks (Put q x) m ps = refl
@@ -36,11 +26,6 @@ pub changed_enters : (c : Change) (e : ℕ) (ps : List Param) → enters e (map 
 changed_enters (Put q x) e ps = refl
 changed_enters (Settle w n) e ps = refl
 changed_enters (Pass by) e ps = ap (enters e) (same_list ps)
-
-pub changed_awaits : (c : Change) (o : Out) → awaits (record { site = o.site; args = o.args; rest = changed_rest c o.rest }) ≡ changed c (awaits o)
-changed_awaits (Put q x) o = refl
-changed_awaits (Settle w n) o = refl
-changed_awaits (Pass by) o = refl
 
 changed_joined : (c : Change) (j : Joint) (f g : Small) → joined j (cond (left_stays c j) f (changed c f)) (cond (right_stays c j) g (changed c g)) ≡ changed c (joined j f g)
 changed_joined (Put q x) Both f g = refl

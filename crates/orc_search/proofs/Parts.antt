@@ -184,21 +184,6 @@ module _ (ts : List Small) (defs : List SmallDefinition) (ask : ℕ → List Val
       (λ a b t e. cc t)
       (λ a b t e. record { shows = refl; early = subst (λ (k : Small). EarlyBy defs ask n unseen (needs (small_at ts a) k) (settle (Is v) n (small_at ts a))) (sym e) binds })
 
--- what a frame takes isn't passed on
-takes_published : (ts : List Small) (f : Frame) (v : Value) (g : Small) → takes_values f ≡ true → (in_frame ts f (published v, g)).0 ≡ unseen
-takes_published ts (Feeds x b) v g t = refl
-takes_published ts (Side n a) v g t = refl
-takes_published ts (Left b) v g t = cc t
-takes_published ts (Right a) v g t = cc t
-takes_published ts (Main b) v g t = cc t
-takes_published ts (First b) v g t = cc t
-
-pub takes_silently : (ts : List Small) (f : Frame) (h : Happening) (g : Small) → takes_values f ≡ true → is_passed h ≡ false → (in_frame ts f (h, g)).0 ≡ unseen
-takes_silently ts f (published v) g t e = takes_published ts f v g t
-takes_silently ts f (called m args) g t e = cc e
-takes_silently ts f (answered m args a) g t e = cc e
-takes_silently ts f unseen g t e = cc e
-
 -- ---- the list of parts
 
 node_kept : (ts us : List Small) (k : ℕ) (node : Node) → Extends ts us → k < length ts → HasParts k node → small_of_node us node ≡ small_of_node ts node
@@ -295,9 +280,6 @@ first_part ts root list lt e = subst (λ (ps : List Part). AreParts ts root ps) 
   one (suc i) p h = cc h
 
 -- ---- out through what stands around
-
-pub lifts_self : (ts : List Small) (p : Spot) (m : Numbered) → m.to < length ts → Lifts ts ts p p m m
-lifts_self ts p m lt = record { there = lt; shows = refl; early = λ defs ask e. e }
 
 -- one frame further out
 pub lifts_on : (old now new : List Small) (p part around : Spot) (m step step' : Numbered) (f : Frame) → Extends old now → Fits old f around part → around.at < length old

@@ -67,6 +67,3 @@ module _ (l : Listing) (numbers : List ℕ) where
     go : (slice_get numbers i ≡ Some m) ⊎ ((i ≡ length numbers) × (n ≡ m)) → slice_get us m ≡ Some (small (code l i))
     go (inl e) = kept_get ts us m (small (code l i)) ext (are i m e)
     go (inr e) = ap (slice_get us) (sym e.1) ∙ is ∙ ap (λ (k : ℕ). Some (small (code l k))) (sym (e.0 ∙ len))
-
-  pub none_numbered : (ts : List Small) → AreNumbered ts l []
-  none_numbered ts i n h = cc h

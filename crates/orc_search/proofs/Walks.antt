@@ -260,12 +260,6 @@ module _ (defs : List SmallDefinition) (ask : ℕ → List Value → Out) (all :
 -- ---- from task to task
 
 module _ (defs : List SmallDefinition) (ask : ℕ → List Value → Out) (ts : List Small) where
-  pub still_same : (w w' : Walk) → w'.path.items ≡ w.path.items → w'.todo.items ≡ w.todo.items → still defs ask ts w ≡ still defs ask ts w'
-  still_same w w' path todo = λ i. of_tasks defs ask ts (reverse (sym path i)) (reverse (sym todo i))
-
-  pub still_none : (w : Walk) → w.todo.items ≡ [] → still defs ask ts w ≡ []
-  still_none w todo = ap (λ (p : List Task). of_tasks defs ask ts (reverse w.path.items) (reverse p)) todo
-
   pub still_left : (w w' : Walk) → w.todo.items ≡ w'.todo.items ++ Leave ∷ [] → outer (reverse w.path.items) ≡ reverse w'.path.items → still defs ask ts w ≡ still defs ask ts w'
   still_left w w' todo path = ap (λ (p : List Task). of_tasks defs ask ts (reverse w.path.items) p) (ap (λ (p : List Task). reverse p) todo ∙ reverse_last w'.todo.items Leave)
       ∙ ap (λ (p : List Frame). of_tasks defs ask ts p (reverse w'.todo.items)) path

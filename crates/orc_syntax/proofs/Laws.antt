@@ -240,9 +240,6 @@ found ts z r e f =
     let c = carries ts z e in
     finishes c.0 ts c.1.spot c.1.crumbs r c.1.whole c.1.fine c.1.stands c.1.text (ap finish (sym c.1.is) ∙ f)
 
-pub found_by : (ms : List Made) (ts : List Lexeme) (z : State) (r : Posted) → Carries ms ts z → finish z ≡ Ok r → Found ts r
-found_by ms ts z r c f = finishes ms ts c.spot c.crumbs r c.whole c.fine c.stands c.text (ap finish (sym c.is) ∙ f)
-
 abbrev gone : State → Result State Refusal
 gone s = Ok s
 

@@ -94,9 +94,6 @@ run_first ms q whole clear =
 define_part : (h : Head) (b : Writing) (ms : List Made) → IsAt 0 b → run (head_tokens h ++ tokens b) (fresh ms) ≡ Ok (after b (context_of (made ms) (labels_of h.parameters)) [] (Body h.name ∷ []))
 define_part h b ms at = def_head h (made ms) [] (tokens b) ∙ complete b 0 (context_of (made ms) (labels_of h.parameters)) [] (Body h.name ∷ []) at tt
 
-any_program : Writing → Program
-any_program w = main w
-
 -- the tokens of definitions lead behind them
 made_runs : (ms : List Made) → AreMade ms → run (made_tokens ms) start ≡ Ok (behind_made ms)
 made_runs [] whole = refl

@@ -197,10 +197,6 @@ clear_false ms (bound v x e ∷ cs) = tt
 clear_false ms (within v x e g ∷ cs) = and_false (ends_in_name g)
 clear_false ms (body h ∷ cs) = tt
 
-clear_any : (ms : List Made) (cs : List Crumb) (b : Bool) → Clear ms cs true → Clear ms cs b
-clear_any ms cs true h = h
-clear_any ms cs false h = clear_false ms cs
-
 abbrev pub AreGiven : List Passed → Type 0
 AreGiven [] = Unit {0}
 AreGiven (g ∷ gs) = IsAt 0 g.w × AreGiven gs
@@ -338,13 +334,6 @@ asks_atom ms (body k ∷ cs) w h clear = h 0
 stands_still : (ms : List Made) (m : ℕ) (w : Writing) (cs : List Crumb) → reduce m (operand w) (held cs ++ post (tree w)) (frames cs) ≡ reduced (operand w) (held cs ++ post (tree w)) (frames cs)
     → IsFine ms cs → Clear ms cs (begins_in_bracket w) → IsAt m w → ((l : Link) → m ≡ left_level l → Accepts (level l) (frames cs)) → (m ≡ 0 → IsBare cs) → Reduces ms m w cs
 stands_still ms m w cs gives fine clear h fits bare = record { w' = w; rest = cs; gives = gives; text = refl; at_m = h; fine = fine; clear = clear; ends = refl; params = refl; fits = fits; bare = bare }
-
--- a `val` isn't joined where an operator asks
-no_operator : (l : Link) → 0 ≡ left_level l → ⊥
-no_operator Other h = omega (arith, h)
-no_operator (Prune x) h = omega (arith, h)
-no_operator Par h = omega (arith, h)
-no_operator (Seq x) h = omega (arith, h)
 
 bind_fits : (x : Label) (l : Link) → 0 ≤ level l
 bind_fits x l = omega arith

@@ -275,20 +275,6 @@ module _ (ss : List Step) (slots : List Token) (cs : List Call) (gs : List Group
     pub calls : (m : ℕ) → IsIn m ks → (n : ℕ) × (k : ℕ) × IsIn n ns × IsCallAt ss cs n k m
     pub all : (i n : ℕ) → i < at → slice_get ns i ≡ Some n → HasAll ss slots cs gs n ns ts ks
 
-  pub crowd-begun : (n : ℕ) (ns ts ks : List ℕ) → ((g : Group) × IsIn g gs × (g.number ≡ n) × (g.side ≡ Right c)) → ns ≡ n ∷ [] → ts ≡ [] → ks ≡ [] → IsCrowdTo ns ts ks 0
-  crowd-begun n ns ts ks (g, i, number, side) is none none_k =
-      record {
-        own = (g, i, side, subst (λ z. IsIn g.number z) (sym is) (inl number));
-        groups = λ m at. inl (g, i, side, number ∙ sym (one m (subst (λ z. IsIn m z) is at)));
-        tokens = λ m at. elim (subst (λ z. IsIn m z) none at) [ ];
-        calls = λ m at. elim (subst (λ z. IsIn m z) none_k at) [ ];
-        all = λ i' n' lt got. absurd (omega (arith, lt));
-      }
-    where
-      one : (m : ℕ) → IsIn m (n ∷ []) → m ≡ n
-      one m (inl e) = e
-      one m (inr e) = elim e [ ]
-
   grown-in : (old zs new : List ℕ) (m : ℕ) → new ≡ old ++ zs → IsIn m old → IsIn m new
   grown-in old zs new m is i = subst (λ z. IsIn m z) (sym is) (in-first old zs m i)
 

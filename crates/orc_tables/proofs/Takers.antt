@@ -4,7 +4,7 @@ use Rattle.std.specs.Prelude.{slice_get, slice_set, option_to_list, MatchOption}
 use Rattle.std.proofs.lemmas.List.{length-set}
 use Rattle.std.proofs.Math.Decide.{ℕ_discrete}
 use Rattle.orc_tables.specs.declared.records.Step.{Step}
-use Rattle.orc_tables.specs.Steps.{step_at, AreOutwards, is_try, past_try, taker_among, taker_at, marked, mark_at, past_left, left_among, left_from, IsMarked, AreMarked, AreLinked}
+use Rattle.orc_tables.specs.Steps.{step_at, AreOutwards, is_try, past_try, taker_among, taker_at, marked, mark_at, past_left, left_among, IsMarked, AreMarked, AreLinked}
 use Rattle.orc_tables.proofs.Placed.{there, same_some, got-within, got-more, more-got, end-got, set-at, set-off}
 
 at-more : (ss : List Step) (x : Step) (i : ℕ) → i ≤ length ss → step_at (ss ++ x ∷ []) i ≡ step_at ss i
@@ -14,10 +14,6 @@ at-more ss x (suc k) le = let e = there ss k x (omega (arith, le)) in more-got s
 pub outer-before : (ss : List Step) → AreOutwards ss → (i : ℕ) (p : Step) → step_at ss i ≡ Some p → p.outer < i
 outer-before ss outwards zero p h = cc h
 outer-before ss outwards (suc k) p h = omega (arith, outwards k p h)
-
-at-within : (ss : List Step) (i : ℕ) (p : Step) → step_at ss i ≡ Some p → i ≤ length ss
-at-within ss zero p h = cc h
-at-within ss (suc k) p h = omega (arith, got-within ss k p h)
 
 -- ---- takers
 past-alike : (f g : ℕ → ℕ) (i : ℕ) (o : Option Step) → ((p : Step) → o ≡ Some p → f p.outer ≡ g p.outer) → past_try f i o ≡ past_try g i o
@@ -78,14 +74,6 @@ new-itself ss x e = new-taker ss x ∙ ap (λ b. cond b (taker_among (length ss)
 length-more : {X : Type 0} (xs : List X) (x : X) → length (xs ++ x ∷ []) ≡ suc (length xs)
 length-more [] x = refl
 length-more (y ∷ xs) x = ap suc (length-more xs x)
-
-pub linked-none : AreLinked [] []
-linked-none = record {
-  outwards = λ k p h. cc h;
-  count = refl;
-  noted = λ k lt. absurd (omega (arith, lt));
-  marks = λ k p h. cc h;
-}
 
 module _ (ss : List Step) (takers : List ℕ) (L : AreLinked ss takers) (x : Step) (within : x.outer ≤ length ss) (bare : x.published ≡ false) where
   outwards-push : AreOutwards (ss ++ x ∷ [])
@@ -150,9 +138,6 @@ AreMarkedBut ss at = (k : ℕ) (p : Step) → slice_get ss k ≡ Some p → is_t
 
 pub marked-all : (ss : List Step) (at : ℕ) → AreMarkedBut ss at → IsMarked ss at → AreMarked ss
 marked-all ss at but here k p h tries has = ⊎_elim (λ e. subst (IsMarked ss) (sym e) here) (λ w. w) (but k p h tries has)
-
-pub marked-but : (ss : List Step) (at : ℕ) → AreMarked ss → AreMarkedBut ss at
-marked-but ss at all k p h tries has = inr (all k p h tries has)
 
 set-same : (ss : List Step) (k : ℕ) (x : Step) → slice_get ss k ≡ Some x → slice_set ss k x ≡ ss
 set-same [] k x h = cc h
@@ -255,23 +240,6 @@ linked-set ss takers k x h L = record {
   noted = λ j lt. L.noted j (omega (arith, lt, length-set ss k (marked x))) ∙ ap Some (sym (taker-set ss k x h (suc j) (suc j)));
   marks = but-set ss k x h L.marks;
 }
-
-linked-out : (takers : List ℕ) (n : ℕ) (ss : List Step) (at : ℕ) → at ≤ n → AreLinkedBut ss takers at → AreLinked (left_among n ss at) takers
-linked-out takers zero ss at le L = linked-end ss takers at L (λ p h tries. cc (sym (ap (step_at ss) (let e : at ≡ 0 = omega (arith, le) in e)) ∙ h))
-linked-out takers (suc n) ss at le L = go at le L (step_at ss at) refl (λ rest i less M. linked-out takers n rest i less M)
-  where
-    go : (at : ℕ) → at ≤ suc n → AreLinkedBut ss takers at → (o : Option Step) → step_at ss at ≡ o → ((rest : List Step) (i : ℕ) → i ≤ n → AreLinkedBut rest takers i → AreLinked (left_among n rest i) takers) → AreLinked (past_left (λ rest j. left_among n rest j) ss at o) takers
-    go at le L None e past = linked-end ss takers at L (λ p h tries. cc (sym e ∙ h))
-    go zero le L (Some p) e past = cc e
-    go (suc k) le L (Some p) e past = on (is_try p.entered) refl
-      where
-        on : (b : Bool) → is_try p.entered ≡ b → AreLinked (cond b (left_among n (slice_set ss k (marked p)) p.outer) ss) takers
-        on true f = past (slice_set ss k (marked p)) p.outer (omega (arith, L.outwards k p e, le)) (linked-set ss takers k p e L)
-        on false f = linked-end ss takers (suc k) L (marked-if ss (suc k) p e (λ tries. cc (sym tries ∙ f)))
-
--- a table keeps all that once a publication has gone
-pub linked-left : (ss : List Step) (takers : List ℕ) (from : ℕ) → AreLinked ss takers → AreLinked (left_from ss from) takers
-linked-left ss takers from L = linked-out takers from ss from (omega arith) (record { outwards = L.outwards; count = L.count; noted = L.noted; marks = marked-but ss from L.marks })
 
 -- the step that is read there
 pub step-there : (ss : List Step) (at : ℕ) (x : Step) → at ≤ length ss → (at ≡ 0 → ⊥) → x ≡ get_or ss (at - 1) x → slice_get ss (at - 1) ≡ Some x

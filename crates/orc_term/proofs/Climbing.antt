@@ -132,9 +132,6 @@ came_never nodes i at turns came le n k t s = let c = came n k t s in omega (ari
 abbrev pub Climbs : List Node → ℕ → List Node → ℕ → ℕ → Type 0
 Climbs nodes i nodes' at turns = (n : ℕ) (k : List Frame) (t : Tree) → Stands nodes n i k t → (o : List Frame) × (u : Tree) × Stands nodes' n at o u × (turns + far o ≤ far k) × (rest o ≡ rest k) × (risen o u ≡ risen k t)
 
-pub climbs_none : (nodes : List Node) (i : ℕ) → Climbs nodes i nodes i 0
-climbs_none nodes i n k t s = (k, t, s, omega arith, refl, refl)
-
 pub climbs_over : (nodes nodes' : List Node) (i at j turns : ℕ) → Climbs nodes i nodes' at turns → IsAbove nodes' at j → Climbs nodes i nodes' j turns
 climbs_over nodes nodes' i at j turns climbs w n k t s =
     let c = climbs n k t s in

@@ -1,5 +1,5 @@
 -- A part's nodes in a list, and what is left when they are gone.
-use Rattle.std.proofs.Common.{◌≡◌, ◌+◌, ◌<◌, ℕ, zero, suc, List, [], ◌∷◌, ◌++◌, length, map, get_or, refl, sym, ap, ◌∙◌, arith, length-append, append-nil, ⊎_elim}
+use Rattle.std.proofs.Common.{◌≡◌, ◌+◌, ◌<◌, ℕ, zero, suc, List, [], ◌∷◌, ◌++◌, length, map, get_or, refl, sym, ap, ◌∙◌, arith, length-append, ⊎_elim}
 use Rattle.std.proofs.Math.Seq.{get_or-append_seam}
 use Rattle.std.specs.Prelude.{slice_get, slice_set}
 use Rattle.orc_term.specs.declared.arena.Node.{Node}
@@ -8,7 +8,7 @@ use Rattle.orc_term.specs.declared.arena.Kind.TheVariants.{Leaf}
 use Rattle.orc_term.specs.declared.arena.Tip.TheVariants.{Gone}
 use Rattle.orc_term.specs.Arena.{Tree, leaf, one, two, place, hits, count, at, Holds, living}
 use Rattle.orc_term.specs.Rising.{nowhere}
-use Rattle.orc_term.specs.Dropping.{weight, weigh, occurs, parts_of, AreNodesOf, IsDropped}
+use Rattle.orc_term.specs.Dropping.{weight, weigh, occurs, parts_of, IsDropped}
 use Rattle.orc_term.proofs.Trees.{hit, hits-both}
 use Rattle.orc_term.proofs.Lists.{get-set_other}
 use Rattle.orc_term.proofs.Feeding.{own, own_kind}
@@ -64,14 +64,6 @@ Spreads nodes root found next = (n p : ℕ) (t : Tree) → Holds nodes n p t →
 pub spreads_none : (nodes : List Node) (root : ℕ) → Spreads nodes root (root ∷ []) 0
 spreads_none nodes root n p t h e = record { done = []; open_parts = t ∷ []; hang = ((p, h), tt); is = λ i. sym e i ∷ []; far = refl; counted = λ w. omega arith }
 
--- all parts are in it
-pub spreads_all : (nodes : List Node) (root : ℕ) (found : List ℕ) (next : ℕ) → Spreads nodes root found next → next ≡ length found → AreNodesOf nodes root found
-spreads_all nodes root found next s e n p t h r w = let z = s n p t h r in over z.done z.open_parts z.is (omega (arith, e, z.far)) (z.counted w)
-  where
-    over : (done : List ℕ) (ts : List Tree) → found ≡ done ++ map place ts → length found ≡ length done → weight w done + weighs w ts ≡ weigh w t → weight w found ≡ weigh w t
-    over done [] is l c = omega (arith, ap (weight w) (is ∙ append-nil done), c)
-    over done (v ∷ ts) is l c = absurd (omega (arith, l, ap length is, length-append done (map place (v ∷ ts))))
-
 abbrev children : Tree → List Tree
 children (leaf i k) = []
 children (one i s t) = t ∷ []
@@ -113,10 +105,6 @@ spreads_on nodes root found found' next at k s lt is_at is_k more n p t h r = le
           far = omega (arith, far, length-append done (place v ∷ []));
           counted = λ w. omega (arith, counted w, weight-append w done (place v ∷ []), weighs-append w ts (children v), children-weigh w v);
         }
-
--- no node is gone yet
-pub dropped_none : (nodes : List Node) → IsDropped nodes [] nodes
-dropped_none nodes u = (λ z. refl, λ z. absurd (omega (arith, z)))
 
 -- a node that is gone
 abbrev pub gone : ℕ → Node

@@ -149,9 +149,6 @@ hints_shorter nodes hints i further x a below h =
         (λ w. above_all nodes (get_or hints i i) x.parent further (one_above nodes (get_or hints i i) x w.0 a w.1 w.2) (subst (IsAbove nodes x.parent) (sym w.3) (hint_is_above nodes hints x.parent h)))
         below
 
-pub hints_none : AreHints [] []
-hints_none = record { len = refl; each = λ i j e. cc e }
-
 -- what a relinked node lets through
 lets_other : (k : Kind) (i j v : ℕ) → (v ≡ i → ⊥) → lets k v ≡ true → lets (relink k i j) v ≡ true
 lets_other (Leaf t) i j v off l = l
@@ -307,9 +304,6 @@ back (x ∷ nodes) zero zero y f h = f x refl h
 back (x ∷ nodes) zero (suc j) y f h = h
 back (x ∷ nodes) (suc i) zero y f h = h
 back (x ∷ nodes) (suc i) (suc j) y f h = back nodes i j y f h
-
-pub listed_none : AreListed [] []
-listed_none i h = cc h
 
 pub listed_written : (nodes : List Node) (list : List ℕ) (i : ℕ) (y : Node) → CanBecome nodes i y → AreListed nodes list → AreListed (slice_set nodes i y) list
 listed_written nodes list i y can all j h = all j (back nodes i j y (λ x e. (can x e).1) h)

@@ -258,16 +258,6 @@ module _ (nodes grown : List Node) (i : ℕ) (y : Node) (is : grown ≡ nodes) (
   pub sides_two : (a b : Node) (first new : List Node) → first ≡ slice_set grown i y ++ a ∷ [] → new ≡ first ++ b ∷ [] → HasNone (length nodes) a.kind → HasNone (length nodes) b.kind → NoNewSides (length nodes) nodes new
   sides_two a b first new come more last last' = sides_on (length nodes) nodes first new (sides_one a first come last) (sides_more (length nodes) first new b more (omega (arith, length_one a first come)) last')
 
--- the candidate that was added last
-in_less : (q p : ℕ) (listed before : List ℕ) → listed ≡ before ++ p ∷ [] → IsIn q listed → IsIn q before ⊎ (q ≡ p)
-in_less q p listed before is h = go before (subst (IsIn q) is h)
-  where
-    go : (before : List ℕ) → IsIn q (before ++ p ∷ []) → IsIn q before ⊎ (q ≡ p)
-    go [] (inl e) = inr e
-    go [] (inr z) = elim z [ ]
-    go (x ∷ before) (inl e) = inl (inl e)
-    go (x ∷ before) (inr z) = ⊎_elim (λ a. inl (inr a)) (λ e. inr e) (go before z)
-
 pub in_end : (before : List ℕ) (p : ℕ) → IsIn p (before ++ p ∷ [])
 in_end [] p = inl refl
 in_end (x ∷ before) p = inr (in_end before p)

@@ -1,6 +1,6 @@
 -- Ranks of nodes, and what they tell of the tree.
-use Rattle.std.proofs.Common.{◌≡◌, ◌<◌, ◌≤◌, ◌+◌, ℕ, zero, suc, List, [], ◌∷◌, ◌++◌, length, get_or, Option, Some, None, Bool, true, false, cond, nat_eq, refl, sym, ap, ◌∙◌, subst, arith, max, length-append, length-set, inl, inr, ⊎_elim, ◌⊎◌}
-use Rattle.std.proofs.lemmas.List.{get_or_at, get_or_append_left, get_or-set_other}
+use Rattle.std.proofs.Common.{◌≡◌, ◌<◌, ◌≤◌, ◌+◌, ℕ, zero, suc, List, [], ◌∷◌, ◌++◌, length, get_or, Option, Some, None, Bool, true, false, cond, nat_eq, refl, sym, ap, ◌∙◌, subst, arith, max, length-set, inl, inr, ⊎_elim, ◌⊎◌}
+use Rattle.std.proofs.lemmas.List.{get_or-set_other}
 use Rattle.std.specs.Prelude.{slice_get, slice_set}
 use Rattle.orc_term.specs.declared.arena.Node.{Node}
 use Rattle.orc_term.specs.declared.arena.Kind.{Kind}
@@ -8,12 +8,11 @@ use Rattle.orc_term.specs.declared.arena.Kind.TheVariants.{Leaf, One, Two}
 use Rattle.orc_term.specs.declared.arena.Double.{Double}
 use Rattle.orc_term.specs.Arena.{Tree, leaf, one, two, place, Holds}
 use Rattle.orc_term.specs.Grafting.{relink}
-use Rattle.orc_term.specs.Hints.{Follows, lifted}
-use Rattle.orc_term.specs.Ranks.{rank, IsPart, IsIn, AreRankedBut, AreRanked, StandsApart, IsRankedBelow, levels_below, AreLevelsAtMost}
+use Rattle.orc_term.specs.Hints.{lifted}
+use Rattle.orc_term.specs.Ranks.{rank, IsPart, IsIn, AreRankedBut, AreRanked, levels_below, AreLevelsAtMost}
 use Rattle.orc_term.specs.Rising.{nowhere}
 use Rattle.orc_term.specs.Settling.{kind_at}
 use Rattle.orc_term.proofs.Hints.{same_or, some_in, length_lifted}
-use Rattle.orc_term.proofs.Lists.{get-more}
 
 of_some : {X : Type 0} → X → Option X → X
 of_some d (Some x) = x
@@ -62,26 +61,11 @@ low_set (x ∷ ranks) zero r most (suc i) le = omega (arith, le)
 low_set (x ∷ ranks) (suc c) r most zero le = omega (arith, le)
 low_set (x ∷ ranks) (suc c) r most (suc i) le = low_set ranks c r most i le
 
-low_more : (ranks : List ℕ) (r most i : ℕ) → rank ranks i ≤ most → rank (ranks ++ r ∷ []) i ≤ max most r
-low_more [] r most zero le = omega arith
-low_more [] r most (suc i) le = omega arith
-low_more (x ∷ ranks) r most zero le = omega (arith, le)
-low_more (x ∷ ranks) r most (suc i) le = low_more ranks r most i le
-
 pub zeros_more : (ranks : List ℕ) (i : ℕ) → rank ranks i ≡ 0 → rank (ranks ++ 0 ∷ []) i ≡ 0
 zeros_more [] zero e = refl
 zeros_more [] (suc i) e = refl
 zeros_more (x ∷ ranks) zero e = e
 zeros_more (x ∷ ranks) (suc i) e = zeros_more ranks i e
-
-new_rank : (ranks : List ℕ) (r : ℕ) → rank (ranks ++ r ∷ []) (length ranks) ≡ r
-new_rank ranks r = get_or_at ranks r [] 0 (length ranks) refl
-
-old_rank : (ranks : List ℕ) (r i : ℕ) → i < length ranks → rank (ranks ++ r ∷ []) i ≡ rank ranks i
-old_rank ranks r i lt = get_or_append_left ranks (r ∷ []) 0 i lt
-
-pub ranked_none : AreRanked [] [] 0
-ranked_none = record { len = refl; low = λ i. omega arith; each = λ j i y x a b up part. cc a }
 
 -- with none late each edge is right
 sure : (nodes : List Node) (ranks : List ℕ) (most : ℕ) → AreRanked nodes ranks most → (j i : ℕ) (y x : Node) → slice_get nodes j ≡ Some y → slice_get nodes i ≡ Some x → x.parent ≡ j → IsPart y.kind i → rank ranks j < rank ranks i
@@ -106,34 +90,6 @@ set_other (y ∷ nodes) zero (suc j) v off = refl
 set_other (y ∷ nodes) (suc i) zero v off = refl
 set_other (y ∷ nodes) (suc i) (suc j) v off = set_other nodes i j v (λ e. off (ap suc e))
 
--- a node that was written stands below the same one
-was_written : (nodes : List Node) (i : ℕ) (v : Node) → ((x : Node) → slice_get nodes i ≡ Some x → Follows x v) → (j : ℕ) (x : Node) → slice_get (slice_set nodes i v) j ≡ Some x → (y : Node) × (slice_get nodes j ≡ Some y) × (y.parent ≡ x.parent)
-was_written nodes i v can j x e =
-    ⊎_elim
-    (λ (s : j ≡ i).
-    let w = set_same nodes i v x (ap (slice_get (slice_set nodes i v)) (sym s) ∙ e) in
-    (w.0, ap (slice_get nodes) s ∙ w.1, sym (can w.0 w.1).parent ∙ ap Node.parent w.2))
-    (λ off. (x, sym (set_other nodes i j v off) ∙ e, refl))
-    (same_or j i)
-
-pub ranked_written : (nodes : List Node) (ranks : List ℕ) (most i : ℕ) (v : Node) → ((x : Node) → slice_get nodes i ≡ Some x → Follows x v) → ((c : ℕ) → IsPart v.kind c → IsRankedBelow nodes ranks i c) → AreRanked nodes ranks most → AreRanked (slice_set nodes i v) ranks most
-ranked_written nodes ranks most i v can right all =
-    record {
-      len = all.len ∙ sym (length-set nodes i v);
-      low = all.low;
-      each = λ j c y x a b up part.
-          let w = was_written nodes i v can c x b in
-          inr (
-          ⊎_elim
-          (λ (s : j ≡ i).
-          let u = set_same nodes i v y (ap (slice_get (slice_set nodes i v)) (sym s) ∙ a) in
-          let lt : rank ranks i < rank ranks c = right c (subst (λ (z : Node). IsPart z.kind c) (sym u.2) part) w.0 w.1 (w.2 ∙ up ∙ s) in
-          omega (arith, lt, ap (rank ranks) s))
-          (λ off. sure nodes ranks most all j c y w.0 (sym (set_other nodes i j v off) ∙ a) w.1 (w.2 ∙ up) part)
-          (same_or j i)
-          );
-    }
-
 stay_set : (nodes : List Node) (i : ℕ) (v : Node) → StayBut nodes (slice_set nodes i v) i
 stay_set nodes i v j x e off = (x, sym (set_other nodes i j v off) ∙ e, refl)
 
@@ -155,17 +111,6 @@ stay_lifted nodes i both j x e off =
     let w = relinked_parent below old.parent j (relink (Node.kind (get_or below old.parent nowhere)) i both) x e in
     let u = stay_set nodes i (record { kind = old.kind; parent = both }) j w.0 w.1 off in
     (u.0, u.1, u.2 ∙ w.2)
-
-was_there : (nodes : List Node) (i both j : ℕ) (x : Node) → slice_get (lifted nodes i both) j ≡ Some x → (y : Node) × (slice_get nodes j ≡ Some y)
-was_there nodes i both j x e =
-    let old : Node = get_or nodes i nowhere in
-    let v : Node = record { kind = old.kind; parent = both } in
-    let below : List Node = slice_set nodes i v in
-    let w = relinked_parent below old.parent j (relink (Node.kind (get_or below old.parent nowhere)) i both) x e in
-    ⊎_elim
-    (λ (s : j ≡ i). let u = set_same nodes i v w.0 (ap (slice_get below) (sym s) ∙ w.1) in (u.0, ap (slice_get nodes) s ∙ u.1))
-    (λ off. (w.0, sym (set_other nodes i j v off) ∙ w.1))
-    (same_or j i)
 
 -- where the lifted node stands
 lifted_below : (nodes : List Node) (i both : ℕ) (x : Node) → slice_get (lifted nodes i both) i ≡ Some x → x.parent ≡ both
@@ -258,34 +203,6 @@ ranked_lifted nodes ranks most i both all lower room =
           (edge_lifted nodes ranks most i both all lower j c y x a b up part);
     }
 
--- ---- a node comes
-
-pub ranked_more : (nodes : List Node) (v : Node) (ranks : List ℕ) (most r : ℕ) → rank ranks v.parent < r → ((i : ℕ) → IsPart v.kind i → StandsApart nodes (length nodes) i) → AreRanked nodes ranks most → AreRanked (nodes ++ v ∷ []) (ranks ++ r ∷ []) (max most r)
-ranked_more nodes v ranks most r below apart all =
-    record {
-      len = omega (arith, length-append ranks (r ∷ []), length-append nodes (v ∷ []), all.len);
-      low = λ i. low_more ranks r most i (all.low i);
-      each = λ j i y x a b up part.
-          inr (
-          ⊎_elim
-          (λ a.
-          let own : rank (ranks ++ r ∷ []) j ≡ rank ranks j = old_rank ranks r j (omega (arith, some_in nodes j y a, all.len)) in
-          ⊎_elim
-          (λ b. omega (arith, own, old_rank ranks r i (omega (arith, some_in nodes i x b, all.len)), sure nodes ranks most all j i y x a b up part))
-          (λ (b : (i ≡ length nodes) × (v ≡ x)).
-          let new : rank (ranks ++ r ∷ []) i ≡ r = ap (rank (ranks ++ r ∷ [])) (b.0 ∙ sym all.len) ∙ new_rank ranks r in
-          omega (arith, own, new, below, ap (rank ranks) (ap Node.parent b.1 ∙ up)))
-          (get-more nodes v i x b))
-          (λ (a : (j ≡ length nodes) × (v ≡ y)).
-          let its : StandsApart nodes (length nodes) i = apart i (subst (λ (z : Node). IsPart z.kind i) (sym a.1) part) in
-          ⊎_elim
-          (λ b. absurd (its.1 x b (up ∙ a.0)))
-          (λ (b : (i ≡ length nodes) × (v ≡ x)). absurd (its.0 b.0))
-          (get-more nodes v i x b))
-          (get-more nodes v j y a)
-          );
-    }
-
 -- ---- ranks become greater
 
 pub late_popped : (nodes : List Node) (ranks : List ℕ) (most a : ℕ) (late : List ℕ) → AreRankedBut nodes ranks most (late ++ a ∷ []) → AreRankedBut nodes ranks most (a ∷ late)
@@ -311,9 +228,6 @@ late_raised nodes ranks most a late c r le all =
           (same_or j c))
           (all.each j i y x e f up part);
     }
-
-pub raised_grows : (ranks : List ℕ) (c r : ℕ) → rank ranks c ≤ r → (i : ℕ) → rank ranks i ≤ rank (slice_set ranks c r) i
-raised_grows ranks c r le i = grows ranks c r i le
 
 pub late_settled : (nodes : List Node) (ranks : List ℕ) (most a : ℕ) (late : List ℕ) → ((c : ℕ) → IsPart (kind_at nodes a) c → c < length ranks → rank ranks a < rank ranks c) → AreRankedBut nodes ranks most (a ∷ late) → AreRankedBut nodes ranks most late
 late_settled nodes ranks most a late right all =

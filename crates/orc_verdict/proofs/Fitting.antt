@@ -252,16 +252,6 @@ module _ (x : Context) (p : Place) (s : ℕ) (t : Term) (w : Taker) (le : times 
   fits_token (entry.Tick u) h = cc h
   fits_token (entry.Cancel k) h = cc h
 
--- an entry of no token fits
-pub fits_anyhow : (x : Context) (p : Place) (e : Entry) → mark_of e ≡ None → Fits x p e
-fits_anyhow x p (entry.Return k a v) h = tt
-fits_anyhow x p (entry.ReturnHalt k) h = tt
-fits_anyhow x p (entry.Lost c) h = tt
-fits_anyhow x p (entry.Right r a) h = tt
-fits_anyhow x p (entry.Tick u) h = tt
-fits_anyhow x p (entry.Cancel k) h = tt
-fits_anyhow x p _ h = cc h
-
 some_same : (r s : ℕ) → Some r ≡ Some s → r ≡ s
 some_same r s h = cc h
 

@@ -110,7 +110,3 @@ all_right code lists nodes levels unfolds h i =
     (λ (lt : i < length nodes). h.each i lt)
     (λ (le : length nodes ≤ i). past levels 1 i (omega (arith, le, h.len)) ∙ sym (ap depth (unfolds i ∙ ap (unfold_node code lists) (past nodes Stop i le))))
     (either i (length nodes))
-
--- what isn't below the end of the list is 1
-pub at_most_all : (levels : List ℕ) (most : ℕ) → 1 ≤ most → ((i : ℕ) → i < length levels → height levels i ≤ most) → (i : ℕ) → height levels i ≤ most
-at_most_all levels most least h i = ⊎_elim (λ (lt : i < length levels). h i lt) (λ (le : length levels ≤ i). omega (arith, past levels 1 i le, least)) (either i (length levels))

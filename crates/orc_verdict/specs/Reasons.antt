@@ -1,12 +1,11 @@
 -- What it is to give the first reason of a refusal.
-use Rattle.std.specs.Prelude.{◌≡◌, ◌⊎◌, ℕ, List, Bool, true, false, nat_eq, ◌&&◌, suc, Option, Some, None}
+use Rattle.std.specs.Prelude.{ℕ, List, Bool, true, false, nat_eq, ◌&&◌, suc, Option, Some, None}
 use Rattle.std.specs.Bool.{Decides}
 use Rattle.orc_rules.specs.declared.value.Answer.{Answer}
 use Rattle.orc_rules.specs.declared.value.Answer.TheVariants.{Value as Gives, Halt}
 use Rattle.orc_rules.specs.declared.entry.Entry.{Entry}
 use Rattle.orc_rules.specs.declared.entry.Entry.TheVariants as entry
 use Rattle.orc_rules.specs.declared.entry.RuleFault.{RuleFault}
-use Rattle.orc_rules.specs.declared.entry.RuleFault.TheVariants as reason
 use Rattle.orc_rules.specs.Nodes.{Listing, code, source}
 use Rattle.orc_rules.specs.Numbered.{IsNumbered}
 use Rattle.orc_rules.specs.Sites.{Table}
@@ -33,10 +32,6 @@ RefusedFor l t e s r = AtEach l t s (λ x p. IsRefused x p e r)
 -- the entry meets the conditions of all reasons there
 abbrev pub MeetsAll : Listing → Table → Entry → State → Type 0
 MeetsAll l t e s = AtEach l t s (λ x p. (r : RuleFault) → Meets x p e r)
-
--- why the entry isn't applied: the first reason, or memory where the conditions of all reasons are met
-abbrev pub IsWhy : Listing → Table → Entry → State → RuleFault → Type 0
-IsWhy l t e s r = RefusedFor l t e s r ⊎ ((r ≡ reason.Memory) × MeetsAll l t e s)
 
 -- the truth value says whether the entry meets the condition of a reason there
 abbrev pub Tests : Listing → Table → Entry → State → RuleFault → Bool → Type 0
