@@ -1,8 +1,11 @@
 //! What a command line asks for: a job with its files and options. Files are paths, or `-` for standard input.
 
-ghost use Rattle.std.specs.Prelude.{◌≡◌, option_map};
-ghost use Rattle.orc_cli.specs.Inputs.{names_input, may_name_input, two_of, two_of_four, shares};
+ghost use Rattle.std.specs.Prelude.{◌≡◌, option_map, true};
+ghost use Rattle.orc_cli.specs.Inputs.{are_one, names_input, may_name_input, two_of, two_of_four, share_with, shares};
+ghost use Rattle.orc_cli.specs.Ranges.{AreInRange, IsInRange};
 ghost use Rattle.orc_cli.specs.Wanted.{keeps_journal};
+
+use orc_rules::limits::{MOST_ENTRIES, MOST_WORKERS};
 
 /// What stands for standard input where a file is named. A file that is itself called so is named `./-`.
 pub const STANDARD_INPUT: &str = "-";
@@ -14,63 +17,59 @@ pub struct Asked<'a> {
     pub explain: bool,
 }
 
-/// What a command line asks for. `file` is the program's source, `script` says how its own sites answer.
+/// The files of a program.
+#[derive(Clone, Copy, Debug)]
+pub struct ProgramPaths<'a> {
+    /// The program's source.
+    pub file: &'a str,
+    /// How its own sites answer.
+    pub script: Option<&'a str>,
+}
+
+/// What a command line asks for.
 #[derive(Clone, Copy, Debug)]
 pub enum Job<'a> {
     /// Run the program, and write what it publishes or its journal.
     Run {
-        file: &'a str,
-        script: Option<&'a str>,
+        program: ProgramPaths<'a>,
         options: Options,
     },
     /// Run the program in many orders, and write each outcome.
     Outcomes {
-        file: &'a str,
-        script: Option<&'a str>,
+        program: ProgramPaths<'a>,
         options: SurveyOptions,
     },
-    /// Run the program in many orders, then search all its schedules through so many states at most, and write each outcome.
+    /// Run the program in many orders, then search all its schedules, and write each outcome.
     Search {
-        file: &'a str,
-        script: Option<&'a str>,
-        options: SurveyOptions,
-        states: u64,
+        program: ProgramPaths<'a>,
+        options: SearchOptions,
     },
-    /// Write the journal of a run with the outcome on the line of this number, from 1. The lines are those of `Outcomes`, or where `states` is there
-    /// those of `Search`.
+    /// Write the journal of a run that has one of these outcomes.
     Show {
-        file: &'a str,
-        script: Option<&'a str>,
-        options: SurveyOptions,
-        states: Option<u64>,
-        number: u64,
+        program: ProgramPaths<'a>,
+        options: ShowOptions,
     },
     /// Check a journal against the program.
     Check {
-        file: &'a str,
+        program: ProgramPaths<'a>,
         journal: &'a str,
-        script: Option<&'a str>,
     },
     /// Check a journal against the program, and then the claims of a test against the journal.
     Claims {
-        file: &'a str,
+        program: ProgramPaths<'a>,
         journal: &'a str,
-        script: Option<&'a str>,
         test: &'a str,
     },
     /// Draw a journal of the program.
     Draw {
-        file: &'a str,
+        program: ProgramPaths<'a>,
         journal: &'a str,
-        script: Option<&'a str>,
         options: orc_draw::Options,
     },
     /// Run the program, and draw the journal of that run.
     DrawRun {
-        file: &'a str,
-        script: Option<&'a str>,
-        run: Options,
-        options: orc_draw::Options,
+        program: ProgramPaths<'a>,
+        options: DrawRunOptions,
     },
     /// Write the program in its plain form.
     Print {
@@ -78,9 +77,8 @@ pub enum Job<'a> {
     },
     /// Hold the claims of a test against every way in which it lets services behave.
     Test {
-        file: &'a str,
+        program: ProgramPaths<'a>,
         test: &'a str,
-        script: Option<&'a str>,
         options: TestOptions,
     },
 }
@@ -116,46 +114,79 @@ fn are_two_of_four(a: bool, b: bool, c: bool, d: bool) -> bool
     are_two(a, b, c) || (a || b || c) && d
 }
 
+// Whether so many workers, and at most so many entries, are within the limits.
+fn is_in_range(workers: u64, limit: u64) -> bool
+    ensures { result ≡ true → IsInRange workers limit }
+{
+    1 <= workers && workers <= MOST_WORKERS as u64 && 1 <= limit && limit <= MOST_ENTRIES
+}
+
+impl ProgramPaths<'_> {
+    // Whether standard input is named for both files.
+    fn shares_input(&self) -> bool
+        ensures { result ≡ are_one self.now }
+    {
+        is_input(self.file) && may_be_input(self.script)
+    }
+
+    // Whether standard input is named for more than one of these and another file.
+    fn shares_input_with(&self, other: &str) -> bool
+        ensures { result ≡ share_with self.now other.now }
+    {
+        are_two(
+            is_input(self.file),
+            is_input(other),
+            may_be_input(self.script),
+        )
+    }
+}
+
 impl Job<'_> {
     /// Whether standard input is named for more than one file. It can be read only once.
     pub(crate) fn shares_input(&self) -> bool
         ensures { result ≡ shares self.now }
     {
         match *self {
-            Job::Run { file, script, .. }
-            | Job::Outcomes { file, script, .. }
-            | Job::Search { file, script, .. }
-            | Job::Show { file, script, .. }
-            | Job::DrawRun { file, script, .. } => is_input(file) && may_be_input(script),
-            Job::Check {
-                file,
-                journal,
-                script,
-            }
+            Job::Run { program, .. }
+            | Job::Outcomes { program, .. }
+            | Job::Search { program, .. }
+            | Job::Show { program, .. }
+            | Job::DrawRun { program, .. } => program.shares_input(),
+            Job::Check { program, journal }
             | Job::Draw {
-                file,
+                program,
                 journal,
-                script,
                 ..
-            } => are_two(is_input(file), is_input(journal), may_be_input(script)),
+            } => { program.shares_input_with(journal) }
             Job::Claims {
-                file,
+                program,
                 journal,
-                script,
                 test,
             } => are_two_of_four(
-                is_input(file),
+                is_input(program.file),
                 is_input(journal),
-                may_be_input(script),
+                may_be_input(program.script),
                 is_input(test),
             ),
             Job::Print { .. } => false,
-            Job::Test {
-                file,
-                test,
-                script,
-                ..
-            } => are_two(is_input(file), is_input(test), may_be_input(script)),
+            Job::Test { program, test, .. } => program.shares_input_with(test),
+        }
+    }
+
+    /// Whether the numbers of workers and of entries that it asks for are within the limits.
+    pub(crate) fn is_in_range(&self) -> bool
+        ensures { result ≡ true → AreInRange self.now }
+    {
+        match *self {
+            Job::Run { options, .. } => is_in_range(options.workers, options.limit),
+            Job::Outcomes { options, .. } => is_in_range(options.workers, options.limit),
+            Job::Search { options, .. } => {
+                is_in_range(options.survey.workers, options.survey.limit)
+            }
+            Job::Show { options, .. } => is_in_range(options.survey.workers, options.survey.limit),
+            Job::DrawRun { options, .. } => is_in_range(options.run.workers, options.run.limit),
+            Job::Test { options, .. } => is_in_range(options.workers, options.limit),
+            Job::Check { .. } | Job::Claims { .. } | Job::Draw { .. } | Job::Print { .. } => true,
         }
     }
 }
@@ -169,6 +200,24 @@ pub struct SurveyOptions {
     pub orders: u64,
     /// The most entries that a run's journal may have, cancels not counted.
     pub limit: u64,
+}
+
+/// How all schedules of a program are searched too: the options of `outcomes --all`.
+#[derive(Clone, Copy, Debug, PartialEq, Eq)]
+pub struct SearchOptions {
+    pub survey: SurveyOptions,
+    /// The search looks at so many states at most.
+    pub states: u64,
+}
+
+/// Which outcome is shown: the options of `outcomes --show`.
+#[derive(Clone, Copy, Debug, PartialEq, Eq)]
+pub struct ShowOptions {
+    pub survey: SurveyOptions,
+    /// At so many states a search of all schedules looks at most; None for no search.
+    pub states: Option<u64>,
+    /// The outcome's line, from 1, among those that the same command writes without `--show`.
+    pub number: u64,
 }
 
 /// How a test is made: the options of `test`.
@@ -210,6 +259,13 @@ pub struct Options {
     pub limit: u64,
     /// What is written of it.
     pub wanted: Wanted,
+}
+
+/// How a run is made and drawn: the options of `draw` without a journal.
+#[derive(Clone, Copy, Debug)]
+pub struct DrawRunOptions {
+    pub run: Options,
+    pub drawing: orc_draw::Options,
 }
 
 /// What comes first in a run where the rules leave it free.

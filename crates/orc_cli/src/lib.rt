@@ -11,6 +11,7 @@ mod words;
 pub use arguments::{DEFAULT_STATES, DEFAULT_TRIALS, DEFAULT_WAYS};
 pub use commands::ArgumentTexts;
 pub use job::{
-    Asked, Job, Options, Order, STANDARD_INPUT, Shown, SurveyOptions, TestOptions, Wanted,
+    Asked, DrawRunOptions, Job, Options, Order, ProgramPaths, STANDARD_INPUT, SearchOptions,
+    ShowOptions, Shown, SurveyOptions, TestOptions, Wanted,
 };
 pub use words::read_words;

@@ -4,9 +4,13 @@
 
 ghost use Rattle.std.specs.Prelude.{◌≡◌, IfOk, false};
 ghost use Rattle.orc_cli.specs.Inputs.{shares};
+ghost use Rattle.orc_cli.specs.Ranges.{AreInRange};
 
 use crate::commands::ArgumentTexts;
-use crate::job::{Asked, Job, Options, Order, Shown, SurveyOptions, TestOptions, Wanted};
+use crate::job::{
+    Asked, DrawRunOptions, Job, Options, Order, ProgramPaths, SearchOptions, ShowOptions, Shown,
+    SurveyOptions, TestOptions, Wanted,
+};
 use clap::error::ErrorKind;
 use clap::{ArgMatches, Error};
 use orc_draw::{Form, Theme};
@@ -75,30 +79,25 @@ fn states_of(given: &ArgMatches) -> Option<u64> {
 }
 
 // The job of `outcomes`: to show one outcome, to search all schedules too, or neither.
-fn outcomes_of<'a>(file: &'a str, given: &ArgMatches<'a>) -> Option<Job<'a>> {
-    let script = given.get_str("script");
-    let options = survey_options_of(given)?;
+fn outcomes_of<'a>(program: ProgramPaths<'a>, given: &ArgMatches<'a>) -> Option<Job<'a>> {
+    let survey = survey_options_of(given)?;
     let states = states_of(given);
     if let Some(number) = given.get_one::<u64>("show") {
-        return Some(Job::Show {
-            file,
-            script,
-            options,
+        let options = ShowOptions {
+            survey,
             states,
             number,
-        });
+        };
+        return Some(Job::Show { program, options });
     }
     match states {
-        Some(states) => Some(Job::Search {
-            file,
-            script,
-            options,
-            states,
-        }),
+        Some(states) => {
+            let options = SearchOptions { survey, states };
+            Some(Job::Search { program, options })
+        }
         None => Some(Job::Outcomes {
-            file,
-            script,
-            options,
+            program,
+            options: survey,
         }),
     }
 }
@@ -143,24 +142,15 @@ fn form_of(given: &ArgMatches) -> Option<Form> {
 }
 
 // The job of `check`: with the claims of a test, or without.
-fn check_of<'a>(
-    file: &'a str,
-    journal: &'a str,
-    script: Option<&'a str>,
-    claims: Option<&'a str>,
-) -> Job<'a> {
-    match claims {
-        Some(test) => Job::Claims {
-            file,
+fn check_of<'a>(program: ProgramPaths<'a>, given: &ArgMatches<'a>) -> Option<Job<'a>> {
+    let journal = given.get_str("journal")?;
+    match given.get_str("claims") {
+        Some(test) => Some(Job::Claims {
+            program,
             journal,
-            script,
             test,
-        },
-        None => Job::Check {
-            file,
-            journal,
-            script,
-        },
+        }),
+        None => Some(Job::Check { program, journal }),
     }
 }
 
@@ -180,60 +170,71 @@ fn drawn_run_of(given: &ArgMatches) -> Option<Options> {
 }
 
 // The job of `draw`: of a journal that is given, or of a run that is made.
-fn draw_of<'a>(file: &'a str, given: &ArgMatches<'a>) -> Option<Job<'a>> {
-    let script = given.get_str("script");
-    let options = orc_draw::Options {
+fn draw_of<'a>(program: ProgramPaths<'a>, given: &ArgMatches<'a>) -> Option<Job<'a>> {
+    let drawing = orc_draw::Options {
         form: form_of(given)?,
         all: is_given(given, "all"),
     };
     match given.get_str("journal") {
         Some(journal) => Some(Job::Draw {
-            file,
+            program,
             journal,
-            script,
-            options,
+            options: drawing,
         }),
         None => Some(Job::DrawRun {
-            file,
-            script,
-            run: drawn_run_of(given)?,
-            options,
+            program,
+            options: DrawRunOptions {
+                run: drawn_run_of(given)?,
+                drawing,
+            },
         }),
     }
 }
 
-// What the words of a command ask for. None too where the command has no arm here.
-fn job_of<'a>(name: &str, given: &ArgMatches<'a>) -> Option<Job<'a>> {
-    let file = given.get_str("file")?;
+// What the words of a command that takes a script ask for. None too where the command has no arm here.
+fn job_with_script<'a>(
+    name: &str,
+    program: ProgramPaths<'a>,
+    given: &ArgMatches<'a>,
+) -> Option<Job<'a>> {
     match name {
         "run" => Some(Job::Run {
-            file,
-            script: given.get_str("script"),
+            program,
             options: options_of(given)?,
         }),
-        "outcomes" => outcomes_of(file, given),
-        "check" => Some(check_of(
-            file,
-            given.get_str("journal")?,
-            given.get_str("script"),
-            given.get_str("claims"),
-        )),
-        "draw" => draw_of(file, given),
-        "print" => Some(Job::Print { file }),
+        "outcomes" => outcomes_of(program, given),
+        "check" => check_of(program, given),
+        "draw" => draw_of(program, given),
         "test" => Some(Job::Test {
-            file,
+            program,
             test: given.get_str("test")?,
-            script: given.get_str("script"),
             options: test_options_of(given)?,
         }),
         _ => None,
     }
 }
 
+// What the words of a command ask for.
+fn job_of<'a>(name: &str, given: &ArgMatches<'a>) -> Option<Job<'a>> {
+    let file = given.get_str("file")?;
+    if name == "print" {
+        return Some(Job::Print { file });
+    }
+    let program = ProgramPaths {
+        file,
+        script: given.get_str("script"),
+    };
+    job_with_script(name, program, given)
+}
+
 /// Why a command line is refused that names standard input for two files.
 const SHARED: &str = "'-' stands for more than one file, and standard input can be read only once";
 
-/// Reads a command line, whose first word is the program's name. A job that is given names standard input for one file at most.
+/// Why a command line is refused whose numbers are out of range. `clap` refuses it before, with the range.
+const OUT_OF_RANGE: &str = "the number of workers or of entries is out of range";
+
+/// Reads a command line, whose first word is the program's name. A job that is given names standard input for one file at most, and the numbers of
+/// workers and of entries that it asks for are within the limits.
 ///
 /// The error is `clap`'s: it has the text of the help or of the version where the line asks for them, else why the line is refused; or memory was
 /// refused.
@@ -243,6 +244,7 @@ pub fn read_words<'a, S: AsStr>(
     texts: &'a ArgumentTexts,
 ) -> Result<Asked<'a>, Error>
     ensures once { IfOk result (λ asked. shares asked.job ≡ false) }
+    ensures ranges { IfOk result (λ asked. AreInRange asked.job) }
 {
     let mut command = texts.orc_command(alloc)?;
     let matches = command.try_get_matches_from_mut(words)?;
@@ -250,6 +252,9 @@ pub fn read_words<'a, S: AsStr>(
         if let Some(job) = job_of(name, given) {
             if job.shares_input() {
                 return Err(command.error(ErrorKind::ArgumentConflict, SHARED)?);
+            }
+            if !job.is_in_range() {
+                return Err(command.error(ErrorKind::ValueValidation, OUT_OF_RANGE)?);
             }
             let explain = is_given(given, "explain");
             return Ok(Asked { job, explain });

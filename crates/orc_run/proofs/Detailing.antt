@@ -1,5 +1,5 @@
 -- What stands below each failure.
-use Rattle.std.proofs.Common.{◌≡◌, ◌≤◌, ◌<◌, ◌+◌, ◌-◌, ◌∙◌, ◌++◌, ◌∷◌, ℕ, suc, List, [], Some, ap, arith, drop, get_or, length, subst, sym, take}
+use Rattle.std.proofs.Common.{◌≡◌, ◌≤◌, ◌<◌, ◌-◌, ◌∙◌, ◌++◌, ◌∷◌, ℕ, suc, List, [], Some, ap, arith, drop, get_or, length, subst, sym, take}
 use Rattle.std.specs.Prelude.{Bool, Option, false}
 use Rattle.std.specs.Global.{Vec}
 use Rattle.std.specs.List.{slice_get}

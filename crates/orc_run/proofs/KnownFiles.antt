@@ -1,10 +1,12 @@
 -- What was read of files whose bytes are known.
-use Rattle.std.proofs.Common.{◌≡◌, ◌∙◌, ℕ, List, refl, sym, subst}
+use Rattle.std.proofs.Common.{◌≡◌, ◌∙◌, ℕ, List, ap, refl, sym, subst}
 use Rattle.std.specs.declared.option.Option.{Option}
 use Rattle.std.specs.declared.option.Option.TheVariants.{None, Some}
 use Rattle.std.specs.Io.KnownBytes.{Keeps}
 use Rattle.orc_journal_text.specs.Pieces.{MayCome}
-use Rattle.orc_run.specs.Inputs.{IsHeld, IsRead}
+use Rattle.orc_outcome.specs.declared.end.Summary.{Summary}
+use Rattle.orc_run.specs.Checked.{IsOfRun}
+use Rattle.orc_run.specs.Inputs.{IsHeld, IsKnown, IsRead}
 
 -- no read changes a file
 pub held_before : (old new : Option (List ℕ)) (bytes text : List ℕ) → new ≡ old → text ≡ bytes → IsHeld new bytes → IsHeld old text
@@ -48,3 +50,29 @@ pub held_opened : (held left : Option (List ℕ)) (whole : List ℕ) → Keeps h
 held_opened None left whole kept may = tt
 held_opened (Some bytes) None whole kept may = absurd kept
 held_opened (Some bytes) (Some known) whole kept may = may ∙ kept
+
+-- all of it is left before the first read
+pub all_left : (held left : Option (List ℕ)) (text : List ℕ) → Keeps held left → held ≡ Some text → left ≡ Some text
+all_left held None text kept is = absurd (subst (λ (o : Option (List ℕ)). Keeps o None) is kept)
+all_left held (Some bytes) text kept is = ap Some (subst (λ (o : Option (List ℕ)). Keeps o (Some bytes)) is kept)
+
+-- ---- files that are known
+
+known_bytes : (held : Option (List ℕ)) (bytes text : List ℕ) → IsHeld held bytes → held ≡ Some text → bytes ≡ text
+known_bytes held bytes text holds is = subst (λ (o : Option (List ℕ)). IsHeld o bytes) is holds
+
+known_read : (holds : List ℕ → Option (List ℕ)) (path : Option (List ℕ)) (bytes text : List ℕ) → IsRead holds path bytes → IsKnown holds path text → bytes ≡ text
+known_read holds None bytes text none is = none ∙ sym is
+known_read holds (Some path) bytes text held is = known_bytes (holds path) bytes text held is
+
+-- the journal of a run of a source and a script is one of what was read of their files
+pub of_known : (holds : List ℕ → Option (List ℕ)) (file : List ℕ) (script : Option (List ℕ)) (s : Summary) (source read sources answers text : List ℕ)
+    → holds file ≡ Some source → IsKnown holds script read → IsOfRun source read text s → IsHeld (holds file) sources → IsRead holds script answers → IsOfRun sources answers text s
+of_known holds file script s source read sources answers text is_file is_script of held said =
+    subst (λ (b : List ℕ). IsOfRun b answers text s) (sym (known_bytes (holds file) sources source held is_file))
+    (subst (λ (b : List ℕ). IsOfRun source b text s) (sym (known_read holds script answers read said is_script)) of)
+
+pub of_known_all : (holds : List ℕ → Option (List ℕ)) (file journal : List ℕ) (script : Option (List ℕ)) (s : Summary) (source text read sources lines answers : List ℕ)
+    → holds file ≡ Some source → holds journal ≡ Some text → IsKnown holds script read → IsOfRun source read text s → IsHeld (holds file) sources → IsHeld (holds journal) lines → IsRead holds script answers → IsOfRun sources answers lines s
+of_known_all holds file journal script s source text read sources lines answers is_file is_journal is_script of held kept said =
+    subst (λ (b : List ℕ). IsOfRun sources answers b s) (sym (known_bytes (holds journal) lines text kept is_journal)) (of_known holds file script s source read sources answers text is_file is_script of held said)

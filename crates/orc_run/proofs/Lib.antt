@@ -12,6 +12,7 @@ pub mod Schedules
 pub mod Scripting
 pub mod Showing
 pub mod Searching
+pub mod Sound
 pub mod Statuses
 pub mod Testing
 pub mod Timing

@@ -1,5 +1,5 @@
 -- What is in a list.
-use Rattle.std.proofs.Common.{◌≡◌, ◌++◌, ◌∷◌, ◌⊎◌, inl, inr, List, []}
+use Rattle.std.proofs.Common.{◌++◌, ◌∷◌, ◌⊎◌, inl, inr, List, []}
 use Rattle.orc_rules.specs.Timed.{IsIn}
 
 pub at_front : {X : Type 0} (x : X) (xs ys : List X) → IsIn x xs → IsIn x (xs ++ ys)

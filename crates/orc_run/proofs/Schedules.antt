@@ -1,22 +1,20 @@
 -- What is said of claims grows with the ways that are searched.
-use Rattle.std.proofs.Common.{◌≡◌, ◌<◌, ◌≤◌, ◌∙◌, ◌++◌, ◌∷◌, ◌⊎◌, ⊎_elim, inl, inr, ℕ, zero, suc, List, [], Bool, true, false, not, ◌&&◌, length, map, Option, Some, None, ap, arith, refl, subst, sym}
+use Rattle.std.proofs.Common.{◌≡◌, ◌<◌, ◌≤◌, ◌∙◌, ◌++◌, ◌∷◌, ◌⊎◌, inl, inr, ℕ, zero, suc, List, [], Bool, true, false, ◌&&◌, length, Option, Some, None, ap, arith, refl, subst, sym}
 use Rattle.std.specs.List.{slice_get}
 use Rattle.std.proofs.lemmas.Option.{slice_get_within}
 use Rattle.orc_claims.specs.declared.claim.Claim.{Claim}
-use Rattle.orc_ways.specs.Values.{sites_of}
-use Rattle.orc_ways.specs.declared.test.ClaimLine.{ClaimLine}
 use Rattle.orc_tally.specs.Table.{are_full, is_held, is_open, section_of}
 use Rattle.orc_tally.specs.declared.sight.ClaimSite.{ClaimSite}
 use Rattle.orc_tally.specs.declared.table.Broken.{Broken}
 use Rattle.orc_tally.specs.declared.table.CaseReport.{CaseReport}
 use Rattle.orc_tally.specs.declared.table.Searched.{Searched}
 use Rattle.orc_tally.specs.declared.table.Searched.TheVariants as searched
-use Rattle.orc_orders.specs.Trials.{claim_sites, texts}
+use Rattle.orc_orders.specs.Trials.{texts}
 use Rattle.orc_orders.specs.declared.trials.Trials.{Trials}
 use Rattle.orc_schedules.specs.Claimed.{FailsInOne, HoldsInAll, IsClaimSearched}
 use Rattle.orc_schedules.specs.declared.claimed.ClaimSearched.{ClaimSearched}
 use Rattle.orc_schedules.specs.declared.claimed.ClaimSearched.TheVariants as found
-use Rattle.orc_run.specs.Whole.{AreAfter, AreSaid, AreSoFar, FailsThere, HoldsThere, IsAfter, IsBefore, IsBroken, IsSaid, IsScriptAt, IsSoFar, IsUnwanted, IsWay, IsWhole, IsWholeSoFar, said_of}
+use Rattle.orc_run.specs.Whole.{AreAfter, AreSaid, AreSoFar, FailsThere, HoldsThere, IsAfter, IsBefore, IsBroken, IsSaid, IsScriptAt, IsSoFar, IsUnwanted, IsWay, IsWholeSoFar, said_of}
 use Rattle.orc_run.specs.declared.searched.Searcher.{Searcher}
 use Rattle.orc_run.specs.declared.searched.Way.{Way}
 use Rattle.orc_run.specs.declared.scripts.CaseScripts.{CaseScripts}

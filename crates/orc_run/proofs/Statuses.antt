@@ -16,8 +16,9 @@ use Rattle.orc_journal_text.specs.declared.text.JournalFault.TheVariants as jour
 use Rattle.orc_outcome.specs.Status.{end_status_of}
 use Rattle.orc_outcome.specs.declared.end.End.{End}
 use Rattle.orc_outcome.specs.declared.end.End.TheVariants as ends
-use Rattle.orc_run.specs.Commands.{HasEnded, IsDone, IsUnread, LeavesUndone, TellsNotAll, TellsOfFailures, WasCut}
+use Rattle.orc_run.specs.Commands.{HasEnded, IsDone, IsUnread, LeavesUndone, MayBeRefused, TellsNotAll, TellsOfFailures, WasCut}
 use Rattle.orc_run.specs.Failures.{failure_status}
+use Rattle.orc_run.specs.Faults.{status}
 use Rattle.orc_scheduler.specs.declared.fault.EngineFault.{EngineFault}
 use Rattle.orc_scheduler.specs.declared.fault.EngineFault.TheVariants as engine
 use Rattle.orc_rules.specs.Faults.{reason_status}
@@ -47,15 +48,23 @@ use Rattle.orc_run.specs.declared.faults.RunFault.TheVariants as fault
 pub untouched : (out : Option (List ℕ)) → Keeps out out
 untouched out = Keeps-refl out
 
--- a file that could not be read leaves the output as it was,
+-- what is so of each file that could not be read
+pub unread_case : (P : Failure → Type 0) → ((path : _) (f : ReadFault) → P (failure.Unread path f)) → (f : Failure) → IsUnread f → P f
+unread_case P each (failure.Unread path f) u = each path f
+unread_case P each (failure.Fault f) u = absurd u
+unread_case P each failure.Rows u = absurd u
+unread_case P each (failure.NoFailure n) u = absurd u
+unread_case P each (failure.NoOutcome n) u = absurd u
+unread_case P each (failure.NoRun n) u = absurd u
+unread_case P each (failure.NoJournal n) u = absurd u
+
+-- it leaves the output as it was,
 pub unread : (f : Failure) (out : Option (List ℕ)) → IsUnread f → LeavesUndone f out out
-unread (failure.Unread path f) out u = Keeps-refl out
-unread (failure.Fault f) out u = absurd u
-unread failure.Rows out u = absurd u
-unread (failure.NoFailure n) out u = absurd u
-unread (failure.NoOutcome n) out u = absurd u
-unread (failure.NoRun n) out u = absurd u
-unread (failure.NoJournal n) out u = absurd u
+unread f out u = unread_case (λ f. LeavesUndone f out out) (λ path why. Keeps-refl out) f u
+
+-- and is why a run's journal may not be accepted,
+pub unread_refused : (f : Failure) → IsUnread f → MayBeRefused f
+unread_refused f u = unread_case MayBeRefused (λ path why. tt) f u
 
 -- and so does a fault that is not of the output, in every command,
 pub cut_or_kept : (cut : Type 0) (old new : Option (List ℕ)) (f : RunFault) → KeepsOr cut old new f → LeavesUndone (failure.Fault f) old new
@@ -116,17 +125,17 @@ of_all true = zero_faultless
 of_all false = (omega arith, λ h. omega (arith, h), λ h. omega (arith, h))
 
 -- what was done has no status of a refused command line or of the engine
-pub faultless : (holds : List ℕ → Option (List ℕ)) (j : Job) (old new : Option (List ℕ)) (status : ℕ) → IsDone holds j old new status → (status < 8) × (status ≢ 2) × (status ≢ 7)
-faultless holds (job.Run file script options) old new status (source, read, s, held, said, ran, is) = subst IsFaultless (sym is) (end_in s.end)
-faultless holds (job.Outcomes file script options) old new status (source, read, held, said, told, is) = subst IsFaultless (sym is) zero_faultless
-faultless holds (job.Search file script options states) old new status (source, read, all, held, said, searched, is) = subst IsFaultless (sym is) (of_all all)
-faultless holds (job.Show file script options states number) old new status (source, read, held, said, shown, is) = subst IsFaultless (sym is) zero_faultless
-faultless holds (job.Check file journal script) old new status (source, text, read, held, told, said, judges, is) = subst IsFaultless (sym is) zero_faultless
-faultless holds (job.Claims file journal script test) old new status (source, lines, text, read, failing, held, told, held_too, said, claimed, is) = subst IsFaultless (sym is) (of_failing (nat_eq failing 0))
-faultless holds (job.Draw file journal script options) old new status (source, text, read, held, told, said, draws, is) = subst IsFaultless (sym is) zero_faultless
-faultless holds (job.DrawRun file script run options) old new status (source, read, held, said, draws, is) = subst IsFaultless (sym is) zero_faultless
-faultless holds (job.Print file) old new status (source, held, prints, is) = subst IsFaultless (sym is) zero_faultless
-faultless holds (job.Test file test script options) old new status (source, text, read, explains, failing, held, held_too, said, tested, is) = subst IsFaultless (sym is) (of_failing (nat_eq failing 0))
+pub faultless : (holds : List ℕ → Option (List ℕ)) (explains : Bool) (j : Job) (old new : Option (List ℕ)) (status : ℕ) → IsDone holds explains j old new status → (status < 8) × (status ≢ 2) × (status ≢ 7)
+faultless holds explains (job.Run program options) old new status (source, read, s, held, said, ran, is) = subst IsFaultless (sym is) (end_in s.end)
+faultless holds explains (job.Outcomes program options) old new status (source, read, held, said, told, is) = subst IsFaultless (sym is) zero_faultless
+faultless holds explains (job.Search program options) old new status (source, read, all, held, said, searched, is) = subst IsFaultless (sym is) (of_all all)
+faultless holds explains (job.Show program options) old new status (source, read, held, said, shown, is) = subst IsFaultless (sym is) zero_faultless
+faultless holds explains (job.Check program journal) old new status (source, text, read, held, told, said, judges, is) = subst IsFaultless (sym is) zero_faultless
+faultless holds explains (job.Claims program journal test) old new status (source, lines, text, read, failing, held, told, held_too, said, claimed, is) = subst IsFaultless (sym is) (of_failing (nat_eq failing 0))
+faultless holds explains (job.Draw program journal options) old new status (source, text, read, held, told, said, draws, is) = subst IsFaultless (sym is) zero_faultless
+faultless holds explains (job.DrawRun program options) old new status (source, read, held, said, draws, is) = subst IsFaultless (sym is) zero_faultless
+faultless holds explains (job.Print file) old new status (source, held, prints, is) = subst IsFaultless (sym is) zero_faultless
+faultless holds explains (job.Test program test options) old new status (source, text, read, failing, held, held_too, said, tested, is) = subst IsFaultless (sym is) (of_failing (nat_eq failing 0))
 
 -- no end has the status of a fault
 no_fault : (e : End) → end_status_of e ≢ 1
@@ -145,17 +154,17 @@ zero_or_four true n more other h = more (sym h)
 zero_or_four false n more other h = other (sym h)
 
 -- what was done with the status of a fault tells of a test some claim of which fails
-pub failed : (holds : List ℕ → Option (List ℕ)) (j : Job) (old new : Option (List ℕ)) (status : ℕ) → IsDone holds j old new status → status ≡ 1 → TellsOfFailures old new
-failed holds (job.Run file script options) old new status (source, read, s, held, said, ran, is) one = absurd (no_fault s.end (sym is ∙ one))
-failed holds (job.Outcomes file script options) old new status (source, read, held, said, told, is) one = absurd (omega (arith, is, one))
-failed holds (job.Search file script options states) old new status (source, read, all, held, said, searched, is) one = absurd (zero_or_four all 1 (λ h. omega (arith, h)) (λ h. omega (arith, h)) (sym is ∙ one))
-failed holds (job.Show file script options states number) old new status (source, read, held, said, shown, is) one = absurd (omega (arith, is, one))
-failed holds (job.Check file journal script) old new status (source, text, read, held, told, said, judges, is) one = absurd (omega (arith, is, one))
-failed holds (job.Claims file journal script test) old new status (source, lines, text, read, failing, held, told, held_too, said, claimed, is) one = inr (source, text, read, lines, failing, claimed, some_failing failing (sym is ∙ one))
-failed holds (job.Draw file journal script options) old new status (source, text, read, held, told, said, draws, is) one = absurd (omega (arith, is, one))
-failed holds (job.DrawRun file script run options) old new status (source, read, held, said, draws, is) one = absurd (omega (arith, is, one))
-failed holds (job.Print file) old new status (source, held, prints, is) one = absurd (omega (arith, is, one))
-failed holds (job.Test file test script options) old new status (source, text, read, explains, failing, held, held_too, said, tested, is) one = inl (options, source, text, read, record { source = file.now; test = test.now; script = option_map (λ p. p.now) script }, explains, failing, tested, some_failing failing (sym is ∙ one))
+pub failed : (holds : List ℕ → Option (List ℕ)) (explains : Bool) (j : Job) (old new : Option (List ℕ)) (status : ℕ) → IsDone holds explains j old new status → status ≡ 1 → TellsOfFailures old new
+failed holds explains (job.Run program options) old new status (source, read, s, held, said, ran, is) one = absurd (no_fault s.end (sym is ∙ one))
+failed holds explains (job.Outcomes program options) old new status (source, read, held, said, told, is) one = absurd (omega (arith, is, one))
+failed holds explains (job.Search program options) old new status (source, read, all, held, said, searched, is) one = absurd (zero_or_four all 1 (λ h. omega (arith, h)) (λ h. omega (arith, h)) (sym is ∙ one))
+failed holds explains (job.Show program options) old new status (source, read, held, said, shown, is) one = absurd (omega (arith, is, one))
+failed holds explains (job.Check program journal) old new status (source, text, read, held, told, said, judges, is) one = absurd (omega (arith, is, one))
+failed holds explains (job.Claims program journal test) old new status (source, lines, text, read, failing, held, told, held_too, said, claimed, is) one = inr (source, text, read, lines, failing, claimed, some_failing failing (sym is ∙ one))
+failed holds explains (job.Draw program journal options) old new status (source, text, read, held, told, said, draws, is) one = absurd (omega (arith, is, one))
+failed holds explains (job.DrawRun program options) old new status (source, read, held, said, draws, is) one = absurd (omega (arith, is, one))
+failed holds explains (job.Print file) old new status (source, held, prints, is) one = absurd (omega (arith, is, one))
+failed holds explains (job.Test program test options) old new status (source, text, read, failing, held, held_too, said, tested, is) one = inl (options, source, text, read, record { source = program.file.now; test = test.now; script = option_map (λ p. p.now) program.script }, explains, failing, tested, some_failing failing (sym is ∙ one))
 
 quiet_only : (e : End) → end_status_of e ≡ 3 → e ≡ ends.Quiet
 quiet_only ends.Halted h = absurd (omega (arith, h))
@@ -175,37 +184,37 @@ zero_or_one : (b : Bool) (n : ℕ) → 1 < n → ◌≡◌ {A = ℕ} (cond b 0 1
 zero_or_one true n more h = omega (arith, more, h)
 zero_or_one false n more h = omega (arith, more, h)
 
-pub ended_quiet : (holds : List ℕ → Option (List ℕ)) (j : Job) (old new : Option (List ℕ)) (status : ℕ) → IsDone holds j old new status → status ≡ 3 → HasEnded ends.Quiet old new
-ended_quiet holds (job.Run file script options) old new status (source, read, s, held, said, ran, is) three = (options, source, read, s, ran, quiet_only s.end (sym is ∙ three))
-ended_quiet holds (job.Outcomes file script options) old new status (source, read, held, said, told, is) three = absurd (omega (arith, is, three))
-ended_quiet holds (job.Search file script options states) old new status (source, read, all, held, said, searched, is) three = absurd (zero_or_four all 3 (λ h. omega (arith, h)) (λ h. omega (arith, h)) (sym is ∙ three))
-ended_quiet holds (job.Show file script options states number) old new status (source, read, held, said, shown, is) three = absurd (omega (arith, is, three))
-ended_quiet holds (job.Check file journal script) old new status (source, text, read, held, told, said, judges, is) three = absurd (omega (arith, is, three))
-ended_quiet holds (job.Claims file journal script test) old new status (source, lines, text, read, failing, held, told, held_too, said, claimed, is) three = absurd (zero_or_one (nat_eq failing 0) 3 (omega arith) (sym is ∙ three))
-ended_quiet holds (job.Draw file journal script options) old new status (source, text, read, held, told, said, draws, is) three = absurd (omega (arith, is, three))
-ended_quiet holds (job.DrawRun file script run options) old new status (source, read, held, said, draws, is) three = absurd (omega (arith, is, three))
-ended_quiet holds (job.Print file) old new status (source, held, prints, is) three = absurd (omega (arith, is, three))
-ended_quiet holds (job.Test file test script options) old new status (source, text, read, explains, failing, held, held_too, said, tested, is) three = absurd (zero_or_one (nat_eq failing 0) 3 (omega arith) (sym is ∙ three))
+pub ended_quiet : (holds : List ℕ → Option (List ℕ)) (explains : Bool) (j : Job) (old new : Option (List ℕ)) (status : ℕ) → IsDone holds explains j old new status → status ≡ 3 → HasEnded ends.Quiet old new
+ended_quiet holds explains (job.Run program options) old new status (source, read, s, held, said, ran, is) three = (options, source, read, s, ran, quiet_only s.end (sym is ∙ three))
+ended_quiet holds explains (job.Outcomes program options) old new status (source, read, held, said, told, is) three = absurd (omega (arith, is, three))
+ended_quiet holds explains (job.Search program options) old new status (source, read, all, held, said, searched, is) three = absurd (zero_or_four all 3 (λ h. omega (arith, h)) (λ h. omega (arith, h)) (sym is ∙ three))
+ended_quiet holds explains (job.Show program options) old new status (source, read, held, said, shown, is) three = absurd (omega (arith, is, three))
+ended_quiet holds explains (job.Check program journal) old new status (source, text, read, held, told, said, judges, is) three = absurd (omega (arith, is, three))
+ended_quiet holds explains (job.Claims program journal test) old new status (source, lines, text, read, failing, held, told, held_too, said, claimed, is) three = absurd (zero_or_one (nat_eq failing 0) 3 (omega arith) (sym is ∙ three))
+ended_quiet holds explains (job.Draw program journal options) old new status (source, text, read, held, told, said, draws, is) three = absurd (omega (arith, is, three))
+ended_quiet holds explains (job.DrawRun program options) old new status (source, read, held, said, draws, is) three = absurd (omega (arith, is, three))
+ended_quiet holds explains (job.Print file) old new status (source, held, prints, is) three = absurd (omega (arith, is, three))
+ended_quiet holds explains (job.Test program test options) old new status (source, text, read, failing, held, held_too, said, tested, is) three = absurd (zero_or_one (nat_eq failing 0) 3 (omega arith) (sym is ∙ three))
 
 -- the status of a search that didn't find all
 not_all : (source script : List ℕ) (orders limit states : ℕ) (old new : Option (List ℕ)) (all : Bool) → HasSearched source script orders limit states old new all → ◌≡◌ {A = ℕ} (cond all 0 4) 4 → TellsNotAll old new
 not_all source script orders limit states old new true searched h = absurd (omega (arith, h))
 not_all source script orders limit states old new false searched h = (source, script, orders, limit, states, searched)
 
-pub ended_cut : (holds : List ℕ → Option (List ℕ)) (j : Job) (old new : Option (List ℕ)) (status : ℕ) → IsDone holds j old new status → status ≡ 4 → WasCut old new ⊎ TellsNotAll old new
-ended_cut holds (job.Run file script options) old new status (source, read, s, held, said, ran, is) four = inl (⊎_elim (λ e. inl (options, source, read, s, ran, e)) (λ e. inr (options, source, read, s, ran, e)) (cut_only s.end (sym is ∙ four)))
-ended_cut holds (job.Outcomes file script options) old new status (source, read, held, said, told, is) four = absurd (omega (arith, is, four))
-ended_cut holds (job.Search file script options states) old new status (source, read, all, held, said, searched, is) four = inr (not_all source read options.orders options.limit states old new all searched (sym is ∙ four))
-ended_cut holds (job.Show file script options states number) old new status (source, read, held, said, shown, is) four = absurd (omega (arith, is, four))
-ended_cut holds (job.Check file journal script) old new status (source, text, read, held, told, said, judges, is) four = absurd (omega (arith, is, four))
-ended_cut holds (job.Claims file journal script test) old new status (source, lines, text, read, failing, held, told, held_too, said, claimed, is) four = absurd (zero_or_one (nat_eq failing 0) 4 (omega arith) (sym is ∙ four))
-ended_cut holds (job.Draw file journal script options) old new status (source, text, read, held, told, said, draws, is) four = absurd (omega (arith, is, four))
-ended_cut holds (job.DrawRun file script run options) old new status (source, read, held, said, draws, is) four = absurd (omega (arith, is, four))
-ended_cut holds (job.Print file) old new status (source, held, prints, is) four = absurd (omega (arith, is, four))
-ended_cut holds (job.Test file test script options) old new status (source, text, read, explains, failing, held, held_too, said, tested, is) four = absurd (zero_or_one (nat_eq failing 0) 4 (omega arith) (sym is ∙ four))
+pub ended_cut : (holds : List ℕ → Option (List ℕ)) (explains : Bool) (j : Job) (old new : Option (List ℕ)) (status : ℕ) → IsDone holds explains j old new status → status ≡ 4 → WasCut old new ⊎ TellsNotAll old new
+ended_cut holds explains (job.Run program options) old new status (source, read, s, held, said, ran, is) four = inl (⊎_elim (λ e. inl (options, source, read, s, ran, e)) (λ e. inr (options, source, read, s, ran, e)) (cut_only s.end (sym is ∙ four)))
+ended_cut holds explains (job.Outcomes program options) old new status (source, read, held, said, told, is) four = absurd (omega (arith, is, four))
+ended_cut holds explains (job.Search program options) old new status (source, read, all, held, said, searched, is) four = inr (not_all source read options.survey.orders options.survey.limit options.states old new all searched (sym is ∙ four))
+ended_cut holds explains (job.Show program options) old new status (source, read, held, said, shown, is) four = absurd (omega (arith, is, four))
+ended_cut holds explains (job.Check program journal) old new status (source, text, read, held, told, said, judges, is) four = absurd (omega (arith, is, four))
+ended_cut holds explains (job.Claims program journal test) old new status (source, lines, text, read, failing, held, told, held_too, said, claimed, is) four = absurd (zero_or_one (nat_eq failing 0) 4 (omega arith) (sym is ∙ four))
+ended_cut holds explains (job.Draw program journal options) old new status (source, text, read, held, told, said, draws, is) four = absurd (omega (arith, is, four))
+ended_cut holds explains (job.DrawRun program options) old new status (source, read, held, said, draws, is) four = absurd (omega (arith, is, four))
+ended_cut holds explains (job.Print file) old new status (source, held, prints, is) four = absurd (omega (arith, is, four))
+ended_cut holds explains (job.Test program test options) old new status (source, text, read, failing, held, held_too, said, tested, is) four = absurd (zero_or_one (nat_eq failing 0) 4 (omega arith) (sym is ∙ four))
 
--- what is so of 1, 5, 6 and 7 is so of the status of each failure
-module _ (P : ℕ → Type 0) (one : P 1) (five : P 5) (six : P 6) (seven : P 7) where
+-- what is so of 1, 5 and 6 is so of the status of each failure, if it is so of that of the engine's fault, where there is one
+module _ (P : ℕ → Type 0) (one : P 1) (five : P 5) (six : P 6) where
   of_syntax : (f : SyntaxFault) → P (syntax_status f)
   of_syntax (syntax_fault.Encoding at) = one
   of_syntax (syntax_fault.Character at) = one
@@ -232,7 +241,7 @@ module _ (P : ℕ → Type 0) (one : P 1) (five : P 5) (six : P 6) (seven : P 7)
   of_script script.Memory = five
   of_script script.Long = one
 
-  of_test : (f : TestFault) → P (test_status f)
+  pub of_test : (f : TestFault) → P (test_status f)
   of_test (test_fault.Line number) = one
   of_test test_fault.Memory = five
   of_test test_fault.Long = one
@@ -257,31 +266,38 @@ module _ (P : ℕ → Type 0) (one : P 1) (five : P 5) (six : P 6) (seven : P 7)
   of_reason reason.Deep = one
   of_reason reason.Memory = five
 
-  of_engine : (f : EngineFault) → P (engine_status f)
-  of_engine engine.Range = seven
-  of_engine engine.Memory = five
-  of_engine engine.Broken = seven
-  of_engine (engine.Site number) = seven
-
   of_read : (f : ReadFault) → P (read_status_of f)
   of_read read.Memory = five
   of_read (read.Failed why) = six
 
-  of_failure : (f : Failure) → P (failure_status f)
-  of_failure (failure.Unread path f) = of_read f
-  of_failure (failure.Fault (fault.Syntax f)) = of_syntax f
-  of_failure (failure.Fault (fault.Scope f)) = of_scope f.kind
-  of_failure (failure.Fault (fault.Script f)) = of_script f
-  of_failure (failure.Fault (fault.Test f)) = of_test f
-  of_failure (failure.Fault (fault.Journal f)) = of_journal f
-  of_failure (failure.Fault (fault.Check f)) = of_reason f.why
-  of_failure (failure.Fault (fault.Engine f)) = of_engine f
-  of_failure (failure.Fault (fault.Write w)) = six
-  of_failure failure.Rows = one
-  of_failure (failure.NoFailure number) = one
-  of_failure (failure.NoOutcome number) = one
-  of_failure (failure.NoRun number) = one
-  of_failure (failure.NoJournal number) = one
+  pub of_fault : (f : RunFault) → ((e : EngineFault) → f ≡ fault.Engine e → P (engine_status e)) → P (status f)
+  of_fault (fault.Syntax f) engine = of_syntax f
+  of_fault (fault.Scope f) engine = of_scope f.kind
+  of_fault (fault.Script f) engine = of_script f
+  of_fault (fault.Test f) engine = of_test f
+  of_fault (fault.Journal f) engine = of_journal f
+  of_fault (fault.Check f) engine = of_reason f.why
+  of_fault (fault.Engine e) engine = engine e refl
+  of_fault (fault.Write w) engine = six
+
+  pub of_unread : (f : Failure) → IsUnread f → P (failure_status f)
+  of_unread f u = unread_case (λ f. P (failure_status f)) (λ path why. of_read why) f u
+
+  module _ (seven : P 7) where
+    of_engine : (f : EngineFault) → P (engine_status f)
+    of_engine engine.Range = seven
+    of_engine engine.Memory = five
+    of_engine engine.Broken = seven
+    of_engine (engine.Site number) = seven
+
+    of_failure : (f : Failure) → P (failure_status f)
+    of_failure (failure.Unread path f) = of_read f
+    of_failure (failure.Fault f) = of_fault f (λ e is. of_engine e)
+    of_failure failure.Rows = one
+    of_failure (failure.NoFailure number) = one
+    of_failure (failure.NoOutcome number) = one
+    of_failure (failure.NoRun number) = one
+    of_failure (failure.NoJournal number) = one
 
 pub failure_below : (f : Failure) → failure_status f < 8
 failure_below f = of_failure (λ n. n < 8) (omega arith) (omega arith) (omega arith) (omega arith) f

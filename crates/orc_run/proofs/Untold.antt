@@ -1,5 +1,5 @@
 -- Why nothing is told of a test: its causes, from those of its steps.
-use Rattle.std.proofs.Common.{◌≡◌, ◌≤◌, ◌<◌, ◌+◌, ◌-◌, ◌∙◌, ◌++◌, ◌∷◌, ℕ, zero, suc, List, [], Some, None, Err, ap, arith, drop, get_or, inl, inr, length, refl, subst, sym, take}
+use Rattle.std.proofs.Common.{◌≡◌, ◌≤◌, ◌<◌, ◌-◌, ◌∙◌, ◌++◌, ◌∷◌, ℕ, zero, suc, List, [], Some, None, Err, ap, arith, drop, get_or, inl, inr, length, refl, subst, sym, take}
 use Rattle.std.specs.Prelude.{Result, map, option_map}
 use Rattle.std.specs.List.{All, AllZip, slice_get}
 use Rattle.std.specs.Global.{Vec}

@@ -1,12 +1,14 @@
 -- Why a command line isn't done.
 use Rattle.std.specs.Prelude.{◌≡◌, ◌⊎◌, ℕ, List, Option, option_map}
+use Rattle.orc_outcome.specs.declared.end.Summary.{Summary}
+use Rattle.orc_cli.specs.declared.job.Asked.{Asked}
 use Rattle.orc_cli.specs.declared.job.Job.{Job}
 use Rattle.orc_cli.specs.declared.job.Job.TheVariants as job
 use Rattle.orc_cli.specs.declared.job.Options.{Options}
 use Rattle.orc_cli.specs.declared.job.TestOptions.{TestOptions}
-use Rattle.orc_run.specs.Checked.{IsCheckFault}
+use Rattle.orc_run.specs.Checked.{Accepts, IsCheckFault}
 use Rattle.orc_run.specs.Claimed.{IsUnclaimedFor}
-use Rattle.orc_run.specs.Commands.{IsDone, LeavesUndone}
+use Rattle.orc_run.specs.Commands.{IsDone, LeavesUndone, MayBeRefused}
 use Rattle.orc_run.specs.Drawn.{IsRunUndrawnFor, IsUndrawnFor}
 use Rattle.orc_run.specs.Failures.{failure_status}
 use Rattle.orc_run.specs.Inputs.{IsHeld, IsRead}
@@ -109,20 +111,25 @@ IsTestUndone holds file test script o _ = ⊥
 
 -- this failure is why a job isn't done; `holds` says what is known of the files
 abbrev pub IsUndone : (List ℕ → Option (List ℕ)) → Job → Failure → Type 0
-IsUndone holds (job.Run file script options) f = IsRunUndone holds file.now (option_map (λ p. p.now) script) f
-IsUndone holds (job.Outcomes file script options) f = IsRunUndone holds file.now (option_map (λ p. p.now) script) f
-IsUndone holds (job.Search file script options states) f = IsRunUndone holds file.now (option_map (λ p. p.now) script) f
-IsUndone holds (job.Show file script options states number) f = IsShowUndone holds file.now (option_map (λ p. p.now) script) options.orders options.limit number f
-IsUndone holds (job.Check file journal script) f = IsCheckUndone holds file.now journal.now (option_map (λ p. p.now) script) f
-IsUndone holds (job.Claims file journal script test) f = IsClaimUndone holds file.now journal.now (option_map (λ p. p.now) script) test.now f
-IsUndone holds (job.Draw file journal script options) f = IsDrawUndone holds file.now journal.now (option_map (λ p. p.now) script) f
-IsUndone holds (job.DrawRun file script run options) f = IsDrawRunUndone holds file.now (option_map (λ p. p.now) script) run f
+IsUndone holds (job.Run program options) f = IsRunUndone holds program.file.now (option_map (λ p. p.now) program.script) f
+IsUndone holds (job.Outcomes program options) f = IsRunUndone holds program.file.now (option_map (λ p. p.now) program.script) f
+IsUndone holds (job.Search program options) f = IsRunUndone holds program.file.now (option_map (λ p. p.now) program.script) f
+IsUndone holds (job.Show program options) f = IsShowUndone holds program.file.now (option_map (λ p. p.now) program.script) options.survey.orders options.survey.limit options.number f
+IsUndone holds (job.Check program journal) f = IsCheckUndone holds program.file.now journal.now (option_map (λ p. p.now) program.script) f
+IsUndone holds (job.Claims program journal test) f = IsClaimUndone holds program.file.now journal.now (option_map (λ p. p.now) program.script) test.now f
+IsUndone holds (job.Draw program journal options) f = IsDrawUndone holds program.file.now journal.now (option_map (λ p. p.now) program.script) f
+IsUndone holds (job.DrawRun program options) f = IsDrawRunUndone holds program.file.now (option_map (λ p. p.now) program.script) options.run f
 IsUndone holds (job.Print file) f = IsPrintUndone holds file.now f
-IsUndone holds (job.Test file test script options) f = IsTestUndone holds file.now test.now (option_map (λ p. p.now) script) options f
+IsUndone holds (job.Test program test options) f = IsTestUndone holds program.file.now test.now (option_map (λ p. p.now) program.script) options f
 
--- a job gives this status: it was done, and what was written and the status say what came of it; or it wasn't, and the status is that of the failure
-abbrev pub ComesTo : (List ℕ → Option (List ℕ)) → Job → Option (List ℕ) → Option (List ℕ) → ℕ → Type 0
-ComesTo holds j old new status = IsDone holds j old new status ⊎ ((f : Failure) × IsUndone holds j f × LeavesUndone f old new × (status ≡ failure_status f))
+-- what a command line asks for gives this status: the job was done, and what was written and the status say what came of it; or it wasn't, and the
+-- status is that of the failure
+abbrev pub ComesTo : (List ℕ → Option (List ℕ)) → Asked → Option (List ℕ) → Option (List ℕ) → ℕ → Type 0
+ComesTo holds a old new status = IsDone holds a.explain a.job old new status ⊎ ((f : Failure) × IsUndone holds a.job f × LeavesUndone f old new × (status ≡ failure_status f))
+
+-- the journal of a run was accepted, with the status of a job that is done; or it wasn't, for one of the causes of `MayBeRefused`, which has this status
+abbrev pub IsAcceptedOr : Summary → Option (List ℕ) → Option (List ℕ) → ℕ → Type 0
+IsAcceptedOr s old new status = ((status ≡ 0) × Accepts s old new) ⊎ ((f : Failure) × MayBeRefused f × (status ≡ failure_status f))
 
 -- some job isn't done, for a cause that has this status
 abbrev pub HasCause : (List ℕ → Option (List ℕ)) → ℕ → Type 0

@@ -1,15 +1,15 @@
 -- The statuses of command lines, and what they leave on standard output.
-use Rattle.std.specs.Prelude.{◌≡◌, ◌⊎◌, ◌<◌, ℕ, List, ⊤, Bool, false, cond, nat_eq, option_map}
+use Rattle.std.specs.Prelude.{◌≡◌, ◌⊎◌, ◌<◌, ℕ, List, Some, ⊤, Bool, false, cond, nat_eq, option_map}
 use Rattle.std.specs.declared.option.Option.{Option}
 use Rattle.std.specs.Io.KnownBytes.{Keeps}
 use Rattle.orc_outcome.specs.Status.{end_status_of}
 use Rattle.orc_outcome.specs.declared.end.End.{End}
 use Rattle.orc_outcome.specs.declared.end.End.TheVariants as ends
 use Rattle.orc_outcome.specs.declared.end.Summary.{Summary}
-use Rattle.orc_run.specs.Checked.{Judges}
+use Rattle.orc_run.specs.Checked.{IsBeyond, IsOfRun, Judges}
 use Rattle.orc_run.specs.Claimed.{HasClaimed}
 use Rattle.orc_run.specs.Drawn.{Draws, DrawsRun}
-use Rattle.orc_run.specs.Inputs.{IsHeld, IsRead}
+use Rattle.orc_run.specs.Inputs.{IsHeld, IsKnown, IsRead}
 use Rattle.orc_run.specs.Printed.{Prints}
 use Rattle.orc_run.specs.Running.{Ran}
 use Rattle.orc_run.specs.Searched.{HasSearched}
@@ -19,6 +19,7 @@ use Rattle.orc_run.specs.Called.{Named}
 use Rattle.orc_run.specs.Tested.{HasFailing}
 use Rattle.orc_cli.specs.declared.job.Job.{Job}
 use Rattle.orc_cli.specs.declared.job.Job.TheVariants as job
+use Rattle.orc_cli.specs.declared.job.ProgramPaths.{ProgramPaths}
 use Rattle.orc_run.specs.declared.failures.Failure.{Failure}
 use Rattle.orc_run.specs.declared.failures.Failure.TheVariants as failure
 use Rattle.orc_run.specs.declared.faults.RunFault.TheVariants as fault
@@ -63,22 +64,22 @@ HasDrawnRun holds file script run old new status = (source read : List ℕ) × I
 abbrev pub HasPrinted : (List ℕ → Option (List ℕ)) → List ℕ → Option (List ℕ) → Option (List ℕ) → ℕ → Type 0
 HasPrinted holds file old new status = (source : List ℕ) × IsHeld (holds file) source × Prints source old new × (status ≡ 0)
 
--- what was written reports a test of the file's program, and the status is 0 exactly if no claim fails
-abbrev pub HasTested : (List ℕ → Option (List ℕ)) → List ℕ → List ℕ → Option (List ℕ) → TestOptions → Option (List ℕ) → Option (List ℕ) → ℕ → Type 0
-HasTested holds file test script options old new status = (source text read : List ℕ) × (explains : Bool) × (failing : ℕ) × IsHeld (holds file) source × IsHeld (holds test) text × IsRead holds script read × HasFailing source text read (record { source = file; test = test; script = script }) options explains old new failing × (status ≡ cond (nat_eq failing 0) 0 1)
+-- what was written reports a test of the file's program, with explanations where they are asked for, and the status is 0 exactly if no claim fails
+abbrev pub HasTested : (List ℕ → Option (List ℕ)) → List ℕ → List ℕ → Option (List ℕ) → TestOptions → Bool → Option (List ℕ) → Option (List ℕ) → ℕ → Type 0
+HasTested holds file test script options explains old new status = (source text read : List ℕ) × (failing : ℕ) × IsHeld (holds file) source × IsHeld (holds test) text × IsRead holds script read × HasFailing source text read (record { source = file; test = test; script = script }) options explains old new failing × (status ≡ cond (nat_eq failing 0) 0 1)
 
--- a job was done, with this status
-abbrev pub IsDone : (List ℕ → Option (List ℕ)) → Job → Option (List ℕ) → Option (List ℕ) → ℕ → Type 0
-IsDone holds (job.Run file script options) old new status = HasRun holds file.now (option_map (λ p. p.now) script) options old new status
-IsDone holds (job.Outcomes file script options) old new status = HasTold holds file.now (option_map (λ p. p.now) script) options.orders options.limit old new status
-IsDone holds (job.Search file script options states) old new status = HasToldAll holds file.now (option_map (λ p. p.now) script) options.orders options.limit states old new status
-IsDone holds (job.Show file script options states number) old new status = HasShownOf holds file.now (option_map (λ p. p.now) script) options.orders options.limit number old new status
-IsDone holds (job.Check file journal script) old new status = HasJudged holds file.now journal.now (option_map (λ p. p.now) script) old new status
-IsDone holds (job.Claims file journal script test) old new status = HasHeld holds file.now journal.now (option_map (λ p. p.now) script) test.now old new status
-IsDone holds (job.Draw file journal script options) old new status = HasDrawn holds file.now journal.now (option_map (λ p. p.now) script) old new status
-IsDone holds (job.DrawRun file script run options) old new status = HasDrawnRun holds file.now (option_map (λ p. p.now) script) run old new status
-IsDone holds (job.Print file) old new status = HasPrinted holds file.now old new status
-IsDone holds (job.Test file test script options) old new status = HasTested holds file.now test.now (option_map (λ p. p.now) script) options old new status
+-- a job was done, with this status; `explains` says whether explanations are asked for
+abbrev pub IsDone : (List ℕ → Option (List ℕ)) → Bool → Job → Option (List ℕ) → Option (List ℕ) → ℕ → Type 0
+IsDone holds explains (job.Run program options) old new status = HasRun holds program.file.now (option_map (λ p. p.now) program.script) options old new status
+IsDone holds explains (job.Outcomes program options) old new status = HasTold holds program.file.now (option_map (λ p. p.now) program.script) options.orders options.limit old new status
+IsDone holds explains (job.Search program options) old new status = HasToldAll holds program.file.now (option_map (λ p. p.now) program.script) options.survey.orders options.survey.limit options.states old new status
+IsDone holds explains (job.Show program options) old new status = HasShownOf holds program.file.now (option_map (λ p. p.now) program.script) options.survey.orders options.survey.limit options.number old new status
+IsDone holds explains (job.Check program journal) old new status = HasJudged holds program.file.now journal.now (option_map (λ p. p.now) program.script) old new status
+IsDone holds explains (job.Claims program journal test) old new status = HasHeld holds program.file.now journal.now (option_map (λ p. p.now) program.script) test.now old new status
+IsDone holds explains (job.Draw program journal options) old new status = HasDrawn holds program.file.now journal.now (option_map (λ p. p.now) program.script) old new status
+IsDone holds explains (job.DrawRun program options) old new status = HasDrawnRun holds program.file.now (option_map (λ p. p.now) program.script) options.run old new status
+IsDone holds explains (job.Print file) old new status = HasPrinted holds file.now old new status
+IsDone holds explains (job.Test program test options) old new status = HasTested holds program.file.now test.now (option_map (λ p. p.now) program.script) options explains old new status
 
 -- what was written is the whole text of a run that ended so
 abbrev pub HasEnded : End → Option (List ℕ) → Option (List ℕ) → Type 0
@@ -96,6 +97,21 @@ TellsNotAll old new = (source script : List ℕ) × (orders limit states : ℕ) 
 abbrev pub TellsOfFailures : Option (List ℕ) → Option (List ℕ) → Type 0
 TellsOfFailures old new = ((options : TestOptions) × (source text script : List ℕ) × (names : Named) × (explains : Bool) × (failing : ℕ) × HasFailing source text script names options explains old new failing × (0 < failing))
     ⊎ ((source text script journal : List ℕ) × (failing : ℕ) × HasClaimed source text script journal old new failing × (0 < failing))
+
+-- the files are known to hold a source, a script and the journal that a run of them wrote, whose summary this is
+abbrev pub HoldsRun : (List ℕ → Option (List ℕ)) → ProgramPaths → List ℕ → Summary → Type 0
+HoldsRun holds program journal s = (source text read : List ℕ) × (holds program.file.now ≡ Some source) × (holds journal ≡ Some text) × IsKnown holds (option_map (λ p. p.now) program.script) read × IsOfRun source read text s
+
+-- a job checks such a journal
+abbrev pub ChecksRun : (List ℕ → Option (List ℕ)) → Job → Summary → Type 0
+ChecksRun holds (job.Check program journal) s = HoldsRun holds program journal.now s
+ChecksRun holds _ s = ⊥
+
+-- why such a journal may not be accepted all the same: a file couldn't be read, or one of the causes of `IsBeyond`
+abbrev pub MayBeRefused : Failure → Type 0
+MayBeRefused (failure.Unread path f) = ⊤
+MayBeRefused (failure.Fault f) = IsBeyond f
+MayBeRefused _ = ⊥
 
 -- a file could not be read
 abbrev pub IsUnread : Failure → Type 0

@@ -22,7 +22,6 @@ use Rattle.orc_orders.specs.declared.trials.Run.{Run}
 use Rattle.orc_orders.specs.declared.trials.Trials.{Trials}
 use Rattle.orc_schedules.specs.Claimed.{FailsInOne}
 use Rattle.orc_schedules.specs.Watch.{latest_of}
-use Rattle.orc_schedules.specs.declared.claimed.Seen.{Seen}
 use Rattle.orc_run.specs.Whole.{IsScriptAt}
 use Rattle.orc_run.specs.declared.scripts.CaseScripts.{CaseScripts}
 use Rattle.orc_run.specs.declared.searched.Sighted.{Sighted}

@@ -8,7 +8,7 @@ use Rattle.orc_run.specs.Checked.{IsCheckFault, IsJudged}
 use Rattle.orc_output.specs.Output.{AppendsPrefix}
 use Rattle.orc_engine.specs.Ranges.{IsInRange}
 use Rattle.orc_scheduler.specs.declared.fault.EngineFault.TheVariants as engine
-use Rattle.orc_run.specs.Running.{IsFaultOf, Runs, KeepsOr}
+use Rattle.orc_run.specs.Running.{IsFaultOf, IsOwnOf, Runs, KeepsOr}
 use Rattle.orc_outcome.specs.declared.end.Summary.{Summary}
 use Rattle.orc_cli.specs.declared.job.Options.{Options as RunOptions}
 use Rattle.orc_cli.specs.declared.job.Wanted.TheVariants as wanted
@@ -61,6 +61,11 @@ IsRunUndrawnFor source script run u = IsUnrunFor source script u ⊎ ((journal :
 -- the fault is that the number of workers or the limit is out of range, and not where they are within it
 abbrev pub IsRangeOf : RunOptions → Undrawn → Type 0
 IsRangeOf run u = u ≡ undrawn.Fault (fault.Engine engine.Range) → IsInRange run.workers run.limit → ⊥
+
+-- a fault for which the engine itself is to blame
+abbrev pub IsOwnUndrawn : Undrawn → Type 0
+IsOwnUndrawn (undrawn.Fault f) = IsOwnOf f
+IsOwnUndrawn _ = ⊥
 
 -- why a journal that the check accepts isn't drawn
 abbrev pub IsUndrawable : Undrawn → Type 0

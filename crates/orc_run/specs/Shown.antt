@@ -7,7 +7,7 @@ use Rattle.orc_rules.specs.Sites.{Table}
 use Rattle.orc_rules.specs.Trace.{published}
 use Rattle.orc_rules.specs.declared.value.Value.{Value}
 use Rattle.orc_journal.specs.declared.journal.Version.TheVariants.{Two}
-use Rattle.orc_journal_text.specs.Texts.{AreOf, journal_text}
+use Rattle.orc_journal_text.specs.Texts.{journal_text}
 use Rattle.orc_site.specs.Script.{Says}
 use Rattle.orc_load.specs.Loading.{IsProgramOf}
 use Rattle.orc_outcome.specs.Outcome.{Outcome, IsRun, IsPlayed}

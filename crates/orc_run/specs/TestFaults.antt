@@ -1,10 +1,10 @@
 -- Why nothing is written of a test.
-use Rattle.std.specs.Prelude.{◌≡◌, ◌⊎◌, ◌++◌, ℕ, List, [], ◌∷◌, Some, None, length, map, slice_get}
-use Rattle.std.specs.List.{All, AllZip, flat_map}
+use Rattle.std.specs.Prelude.{◌≡◌, ◌⊎◌, ◌++◌, ℕ, List, ◌∷◌, Some, None, length, slice_get}
+use Rattle.std.specs.List.{AllZip, flat_map}
 use Rattle.orc_rules.specs.Sites.{Table}
 use Rattle.orc_syntax.specs.Tree.{Source}
 use Rattle.orc_site.specs.Script.{Says, IsFault as IsScriptFault}
-use Rattle.orc_load.specs.Loading.{IsLoadFault, Loads, SpellsTree}
+use Rattle.orc_load.specs.Loading.{IsLoadFault, SpellsTree}
 use Rattle.orc_load.specs.declared.fault.LoadFault.{LoadFault}
 use Rattle.orc_load.specs.declared.fault.LoadFault.TheVariants as load
 use Rattle.orc_scheduler.specs.declared.fault.EngineFault.{EngineFault}

@@ -1,5 +1,5 @@
 -- Which claims of a test every schedule keeps, and which ones a schedule breaks. `section` is the case of a claim, None for one below `always`.
-use Rattle.std.specs.Prelude.{◌≡◌, ◌⊎◌, ◌<◌, ℕ, suc, List, Option, Some, true, false, slice_get}
+use Rattle.std.specs.Prelude.{◌≡◌, ◌⊎◌, ◌<◌, ℕ, List, Option, Some, true, false, slice_get}
 use Rattle.orc_rules.specs.Nodes.{Listing}
 use Rattle.orc_rules.specs.Sites.{Table}
 use Rattle.orc_site.specs.Script.{Says}

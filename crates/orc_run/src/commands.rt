@@ -3,9 +3,14 @@
 ghost use Rattle.std.specs.Prelude.{◌≡◌, ◌≢◌, ◌<◌, ◌⊎◌, ℕ, List, IfOk, IfErr, cond, nat_eq, option_map};
 ghost use Rattle.std.specs.Io.KnownBytes.{Keeps};
 ghost use Rattle.orc_outcome.specs.declared.end.End.TheVariants as ends;
+ghost use Rattle.orc_outcome.specs.declared.end.Summary.{Summary};
+ghost use Rattle.orc_run.specs.Checked.{Accepts};
+ghost use Rattle.orc_cli.specs.Ranges.{AreInRange};
+ghost use Rattle.orc_engine.specs.Ranges.{IsInRange};
+ghost use Rattle.orc_run.specs.Failures.{failure_status, is_asked};
 ghost use Rattle.orc_run.specs.Inputs.{IsHeld, IsRead};
-ghost use Rattle.orc_run.specs.Causes.{ComesTo, HasCause, IsCheckUndone, IsClaimUndone, IsDrawRunUndone, IsDrawUndone, IsPrintUndone, IsRunUndone, IsShowUndone, IsTestUndone, IsUndone};
-ghost use Rattle.orc_run.specs.Commands.{HasDrawn, HasDrawnRun, HasEnded, HasHeld, HasJudged, HasPrinted, HasRun, HasShownOf, HasTested, HasTold, HasToldAll, IsDone, IsUnread, LeavesUndone, TellsNotAll, TellsOfFailures, WasCut};
+ghost use Rattle.orc_run.specs.Causes.{ComesTo, HasCause, IsAcceptedOr, IsCheckUndone, IsClaimUndone, IsDrawRunUndone, IsDrawUndone, IsPrintUndone, IsRunUndone, IsShowUndone, IsTestUndone, IsUndone};
+ghost use Rattle.orc_run.specs.Commands.{ChecksRun, HasDrawn, HasDrawnRun, HasEnded, HasHeld, HasJudged, HasPrinted, HasRun, HasShownOf, HasTested, HasTold, HasToldAll, HoldsRun, IsDone, IsUnread, LeavesUndone, MayBeRefused, TellsNotAll, TellsOfFailures, WasCut};
 
 use crate::call::Names;
 use crate::claims::claims_text;
@@ -19,9 +24,12 @@ use crate::picture::{Undrawn, draw_run, draw_text};
 use crate::printer::print_text;
 use crate::runner::run_source;
 use crate::shown::{Unshown, show_text};
-use crate::test_command::{Untested, test_text};
+use crate::test_command::{TestTexts, Untested, test_text};
 use clap::error::ErrorKind;
-use orc_cli::{ArgumentTexts, Asked, Job, Options, SurveyOptions, TestOptions, read_words};
+use orc_cli::{
+    ArgumentTexts, Asked, DrawRunOptions, Job, Options, ProgramPaths, SearchOptions, ShowOptions,
+    SurveyOptions, TestOptions, read_words,
+};
 use orc_explain_fault::Unread;
 use orc_output::WriteFault;
 use orc_report::{Document, Subject};
@@ -34,7 +42,7 @@ use std::thread::Threads;
 
 /// Reports a command line that asks for help or for the version, or was refused, and gives the status. `clap` hands over both as an error.
 fn refuse<W: Write, V: Write>(error: &clap::Error, out: &mut W, err: &mut V) -> u8
-    ensures status { result < 8 × result ≢ 1 × result ≢ 3 × result ≢ 4 × result ≢ 7 }
+    ensures status { result < 7 × result ≢ 1 × result ≢ 3 × result ≢ 4 }
     ensures refused { result ≡ 2 → Keeps (W.contents out.old) (W.contents out.new) }
 {
     if error.kind() == ErrorKind::OutOfMemory {
@@ -86,23 +94,23 @@ fn read_script_text<'a, F: Files>(
 }
 
 // `orc run`: runs the program of a file. The status says how the run ended. Its journal is kept if an explanation is asked for, which reads it.
-#[tactic(auto, using(crate::proofs::Statuses::unread, crate::proofs::Causing::unread_run, crate::proofs::Statuses::cut_or_kept))]
+#[tactic(auto, using(crate::proofs::Statuses::unread, crate::proofs::Causing::unread_run, crate::proofs::Statuses::cut_or_kept, crate::proofs::Sound::unread_sound))]
 fn run_file<'a, R: Threads + Wait + Sync, F: Files, W: Write>(
     rt: &R,
     alloc: Global,
-    file: &'a str,
-    script: Option<&'a str>,
+    program: ProgramPaths<'a>,
     options: &Options,
     files: &mut F,
     out: &mut W,
     explained: &mut Explained,
 ) -> Result<u8, Failure<'a>>
-    ensures done { IfOk result (HasRun (F.holds files.old) file.now (option_map (λ p. p.now) script.entry) options.now (W.contents out.old) (W.contents out.new)) }
+    ensures done { IfOk result (HasRun (F.holds files.old) program.entry.file.now (option_map (λ p. p.now) program.entry.script) options.now (W.contents out.old) (W.contents out.new)) }
     ensures undone { IfErr result (λ f. LeavesUndone f (W.contents out.old) (W.contents out.new)) }
-    ensures cause { IfErr result (IsRunUndone (F.holds files.old) file.now (option_map (λ p. p.now) script.entry)) }
+    ensures cause { IfErr result (IsRunUndone (F.holds files.old) program.entry.file.now (option_map (λ p. p.now) program.entry.script)) }
+    ensures sound { IfErr result (λ f. IsInRange options.now.workers options.now.limit → failure_status f ≢ 7) }
 {
-    let source = read(file, files)?;
-    let script_text = read_script_text(alloc, script, files)?;
+    let source = read(program.file, files)?;
+    let script_text = read_script_text(alloc, program.script, files)?;
     match run_source(
         rt,
         alloc,
@@ -113,12 +121,12 @@ fn run_file<'a, R: Threads + Wait + Sync, F: Files, W: Write>(
         out,
     ) {
         Ok((loaded, played)) => {
-            let subject = subject_of(file, source.as_slice(), script, script_text.as_slice());
+            let subject = subject_of(program, source.as_slice(), script_text.as_slice());
             explained.ended(alloc, &subject, &loaded, &played);
             Ok(played.summary.end.status())
         }
         Err(fault) => {
-            let subject = subject_of(file, source.as_slice(), script, script_text.as_slice());
+            let subject = subject_of(program, source.as_slice(), script_text.as_slice());
             explained.fault(alloc, &subject, fault);
             Err(Failure::Fault(fault))
         }
@@ -126,23 +134,23 @@ fn run_file<'a, R: Threads + Wait + Sync, F: Files, W: Write>(
 }
 
 // `orc outcomes`: runs the program of a file in many orders, and writes each outcome that came up.
-#[tactic(auto, using(crate::proofs::Statuses::unread, crate::proofs::Causing::unread_run, crate::proofs::Statuses::cut_or_kept))]
+#[tactic(auto, using(crate::proofs::Statuses::unread, crate::proofs::Causing::unread_run, crate::proofs::Statuses::cut_or_kept, crate::proofs::Sound::unread_sound))]
 fn survey_file<'a, R: Threads + Sync, F: Files, W: Write>(
     rt: &R,
     alloc: Global,
-    file: &'a str,
-    script: Option<&'a str>,
+    program: ProgramPaths<'a>,
     options: &SurveyOptions,
     files: &mut F,
     out: &mut W,
     explained: &mut Explained,
 ) -> Result<u8, Failure<'a>>
-    ensures done { IfOk result (HasTold (F.holds files.old) file.now (option_map (λ p. p.now) script.entry) options.now.orders options.now.limit (W.contents out.old) (W.contents out.new)) }
+    ensures done { IfOk result (HasTold (F.holds files.old) program.entry.file.now (option_map (λ p. p.now) program.entry.script) options.now.orders options.now.limit (W.contents out.old) (W.contents out.new)) }
     ensures undone { IfErr result (λ f. LeavesUndone f (W.contents out.old) (W.contents out.new)) }
-    ensures cause { IfErr result (IsRunUndone (F.holds files.old) file.now (option_map (λ p. p.now) script.entry)) }
+    ensures cause { IfErr result (IsRunUndone (F.holds files.old) program.entry.file.now (option_map (λ p. p.now) program.entry.script)) }
+    ensures sound { IfErr result (λ f. IsInRange options.now.workers options.now.limit → failure_status f ≢ 7) }
 {
-    let source = read(file, files)?;
-    let script_text = read_script_text(alloc, script, files)?;
+    let source = read(program.file, files)?;
+    let script_text = read_script_text(alloc, program.script, files)?;
     match survey_text(
         rt,
         alloc,
@@ -153,7 +161,7 @@ fn survey_file<'a, R: Threads + Sync, F: Files, W: Write>(
     ) {
         Ok(()) => Ok(0),
         Err(fault) => {
-            let subject = subject_of(file, source.as_slice(), script, script_text.as_slice());
+            let subject = subject_of(program, source.as_slice(), script_text.as_slice());
             explained.fault(alloc, &subject, fault);
             Err(Failure::Fault(fault))
         }
@@ -169,76 +177,70 @@ fn search_status(all: bool) -> u8
 
 // `orc outcomes --all`: does the same, and searches all the program's schedules, through so many states at most. The status says whether the search
 // found all outcomes.
-#[tactic(auto, using(crate::proofs::Statuses::unread, crate::proofs::Causing::unread_run, crate::proofs::Statuses::cut_or_kept))]
+#[tactic(auto, using(crate::proofs::Statuses::unread, crate::proofs::Causing::unread_run, crate::proofs::Statuses::cut_or_kept, crate::proofs::Sound::unread_sound))]
 fn search_file<'a, R: Threads + Sync, F: Files, W: Write>(
     rt: &R,
     alloc: Global,
-    file: &'a str,
-    script: Option<&'a str>,
-    options: &SurveyOptions,
-    states: u64,
+    program: ProgramPaths<'a>,
+    options: &SearchOptions,
     files: &mut F,
     out: &mut W,
     explained: &mut Explained,
 ) -> Result<u8, Failure<'a>>
-    ensures done { IfOk result (HasToldAll (F.holds files.old) file.now (option_map (λ p. p.now) script.entry) options.now.orders options.now.limit states (W.contents out.old) (W.contents out.new)) }
+    ensures done { IfOk result (HasToldAll (F.holds files.old) program.entry.file.now (option_map (λ p. p.now) program.entry.script) options.now.survey.orders options.now.survey.limit options.now.states (W.contents out.old) (W.contents out.new)) }
     ensures undone { IfErr result (λ f. LeavesUndone f (W.contents out.old) (W.contents out.new)) }
-    ensures cause { IfErr result (IsRunUndone (F.holds files.old) file.now (option_map (λ p. p.now) script.entry)) }
+    ensures cause { IfErr result (IsRunUndone (F.holds files.old) program.entry.file.now (option_map (λ p. p.now) program.entry.script)) }
+    ensures sound { IfErr result (λ f. IsInRange options.now.survey.workers options.now.survey.limit → failure_status f ≢ 7) }
 {
-    let source = read(file, files)?;
-    let script_text = read_script_text(alloc, script, files)?;
+    let source = read(program.file, files)?;
+    let script_text = read_script_text(alloc, program.script, files)?;
     match search_text(
         rt,
         alloc,
         source.as_slice(),
         script_text.as_slice(),
         options,
-        states,
         out,
     ) {
         Ok(all) => Ok(search_status(all)),
         Err(fault) => {
-            let subject = subject_of(file, source.as_slice(), script, script_text.as_slice());
+            let subject = subject_of(program, source.as_slice(), script_text.as_slice());
             explained.fault(alloc, &subject, fault);
             Err(Failure::Fault(fault))
         }
     }
 }
 
-// `orc outcomes --show`: writes the journal of a run that has the outcome with this number, from 1. Without `states` only outcomes that came up in an
-// order have one.
-#[tactic(auto, using(crate::proofs::Statuses::unread, crate::proofs::Causing::unread_show, crate::proofs::Statuses::cut_or_kept))]
+// `orc outcomes --show`: writes the journal of a run that has the outcome with this number, from 1. Without a search only outcomes that came up in
+// an order have one.
+#[tactic(auto, using(crate::proofs::Statuses::unread, crate::proofs::Causing::unread_show, crate::proofs::Statuses::cut_or_kept, crate::proofs::Sound::unread_sound))]
 fn show_file<'a, R: Threads + Sync, F: Files, W: Write>(
     rt: &R,
     alloc: Global,
-    file: &'a str,
-    script: Option<&'a str>,
-    options: &SurveyOptions,
-    states: Option<u64>,
-    number: u64,
+    program: ProgramPaths<'a>,
+    options: &ShowOptions,
     files: &mut F,
     out: &mut W,
     explained: &mut Explained,
 ) -> Result<u8, Failure<'a>>
-    ensures done { IfOk result (HasShownOf (F.holds files.old) file.now (option_map (λ p. p.now) script.entry) options.now.orders options.now.limit number (W.contents out.old) (W.contents out.new)) }
+    ensures done { IfOk result (HasShownOf (F.holds files.old) program.entry.file.now (option_map (λ p. p.now) program.entry.script) options.now.survey.orders options.now.survey.limit options.now.number (W.contents out.old) (W.contents out.new)) }
     ensures undone { IfErr result (λ f. LeavesUndone f (W.contents out.old) (W.contents out.new)) }
-    ensures cause { IfErr result (IsShowUndone (F.holds files.old) file.now (option_map (λ p. p.now) script.entry) options.now.orders options.now.limit number) }
+    ensures cause { IfErr result (IsShowUndone (F.holds files.old) program.entry.file.now (option_map (λ p. p.now) program.entry.script) options.now.survey.orders options.now.survey.limit options.now.number) }
+    ensures sound { IfErr result (λ f. IsInRange options.now.survey.workers options.now.survey.limit → failure_status f ≢ 7) }
 {
-    let source = read(file, files)?;
-    let script_text = read_script_text(alloc, script, files)?;
+    let source = read(program.file, files)?;
+    let script_text = read_script_text(alloc, program.script, files)?;
     match show_text(
         rt,
         alloc,
         source.as_slice(),
         script_text.as_slice(),
         options,
-        states,
-        number,
         out,
     ) {
         Ok(()) => Ok(0),
         Err(Unshown::Fault(fault)) => {
-            let subject = subject_of(file, source.as_slice(), script, script_text.as_slice());
+            let subject = subject_of(program, source.as_slice(), script_text.as_slice());
             explained.fault(alloc, &subject, fault);
             Err(Failure::Fault(fault))
         }
@@ -249,27 +251,30 @@ fn show_file<'a, R: Threads + Sync, F: Files, W: Write>(
 
 // `orc check`: checks the journal of a file. It is read piece by piece, but where an explanation is asked for: then its text is kept, so that a fault
 // can be shown in it.
-#[tactic(auto, using(crate::proofs::Statuses::unread, crate::proofs::Causing::unread_check, crate::proofs::Statuses::cut_or_kept))]
+#[tactic(auto, using(crate::proofs::Statuses::unread, crate::proofs::Causing::unread_check, crate::proofs::Statuses::cut_or_kept, crate::proofs::Sound::unread_sound, crate::proofs::Statuses::unread_refused))]
 fn check_file<'a, F: Files, W: Write>(
     alloc: Global,
-    file: &'a str,
+    program: ProgramPaths<'a>,
     journal: &'a str,
-    script: Option<&'a str>,
     files: &mut F,
     out: &mut W,
     explained: &mut Explained,
 ) -> Result<u8, Failure<'a>>
-    ensures done { IfOk result (HasJudged (F.holds files.old) file.now journal.entry.now (option_map (λ p. p.now) script.entry) (W.contents out.old) (W.contents out.new)) }
+    ensures done { IfOk result (HasJudged (F.holds files.old) program.entry.file.now journal.entry.now (option_map (λ p. p.now) program.entry.script) (W.contents out.old) (W.contents out.new)) }
     ensures undone { IfErr result (λ f. LeavesUndone f (W.contents out.old) (W.contents out.new)) }
-    ensures cause { IfErr result (IsCheckUndone (F.holds files.old) file.now journal.entry.now (option_map (λ p. p.now) script.entry)) }
+    ensures cause { IfErr result (IsCheckUndone (F.holds files.old) program.entry.file.now journal.entry.now (option_map (λ p. p.now) program.entry.script)) }
+    ensures sound { IfErr result (λ f. failure_status f ≢ 7) }
+    // What a run of this source and script wrote as its journal is accepted, unless that journal is beyond a limit.
+    ensures accepted { (s : Summary) → HoldsRun (F.holds files.old) program.entry journal.entry.now s → IfOk result (λ status. Accepts s (W.contents out.old) (W.contents out.new)) }
+    ensures beyond { (s : Summary) → HoldsRun (F.holds files.old) program.entry journal.entry.now s → IfErr result MayBeRefused }
 {
-    let source = read(file, files)?;
+    let source = read(program.file, files)?;
     if !explained.is_asked() {
         let reader = match files.open(journal) {
             Ok(reader) => reader,
             Err(fault) => return Err(Failure::Unread(journal, fault)),
         };
-        let script_text = read_script_text(alloc, script, files)?;
+        let script_text = read_script_text(alloc, program.script, files)?;
         return match check_read(
             alloc,
             source.as_slice(),
@@ -286,7 +291,7 @@ fn check_file<'a, F: Files, W: Write>(
         };
     }
     let lines = read(journal, files)?;
-    let script_text = read_script_text(alloc, script, files)?;
+    let script_text = read_script_text(alloc, program.script, files)?;
     match check_text(
         alloc,
         source.as_slice(),
@@ -298,9 +303,8 @@ fn check_file<'a, F: Files, W: Write>(
         Err(fault) => {
             let lines = lines.as_slice();
             let subject = subject_with_journal(
-                file,
+                program,
                 source.as_slice(),
-                script,
                 script_text.as_slice(),
                 journal,
                 lines,
@@ -319,25 +323,25 @@ fn claims_status(failing: usize) -> u8
 }
 
 // `orc check --claims`: checks the journal of a file and judges the claims of a test on it. The status says whether all hold.
-#[tactic(auto, using(crate::proofs::Statuses::unread, crate::proofs::Causing::unread_claim, crate::proofs::Statuses::cut_or_kept))]
+#[tactic(auto, using(crate::proofs::Statuses::unread, crate::proofs::Causing::unread_claim, crate::proofs::Statuses::cut_or_kept, crate::proofs::Sound::unread_sound))]
 fn claims_file<'a, F: Files, W: Write>(
     alloc: Global,
-    file: &'a str,
+    program: ProgramPaths<'a>,
     journal: &'a str,
-    script: Option<&'a str>,
     test: &'a str,
     files: &mut F,
     out: &mut W,
     explained: &mut Explained,
 ) -> Result<u8, Failure<'a>>
-    ensures done { IfOk result (HasHeld (F.holds files.old) file.now journal.now (option_map (λ p. p.now) script.entry) test.now (W.contents out.old) (W.contents out.new)) }
+    ensures done { IfOk result (HasHeld (F.holds files.old) program.entry.file.now journal.now (option_map (λ p. p.now) program.entry.script) test.now (W.contents out.old) (W.contents out.new)) }
     ensures undone { IfErr result (λ f. LeavesUndone f (W.contents out.old) (W.contents out.new)) }
-    ensures cause { IfErr result (IsClaimUndone (F.holds files.old) file.now journal.now (option_map (λ p. p.now) script.entry) test.now) }
+    ensures cause { IfErr result (IsClaimUndone (F.holds files.old) program.entry.file.now journal.now (option_map (λ p. p.now) program.entry.script) test.now) }
+    ensures sound { IfErr result (λ f. failure_status f ≢ 7) }
 {
-    let source = read(file, files)?;
+    let source = read(program.file, files)?;
     let lines = read(journal, files)?;
     let claims = read(test, files)?;
-    let script_text = read_script_text(alloc, script, files)?;
+    let script_text = read_script_text(alloc, program.script, files)?;
     match claims_text(
         alloc,
         source.as_slice(),
@@ -358,9 +362,8 @@ fn claims_file<'a, F: Files, W: Write>(
         Err(fault) => {
             let lines = lines.as_slice();
             let subject = subject_with_journal(
-                file,
+                program,
                 source.as_slice(),
-                script,
                 script_text.as_slice(),
                 journal,
                 lines,
@@ -378,27 +381,27 @@ fn name_of(path: &str) -> &str {
 }
 
 // `orc draw` with a JOURNAL: draws the journal of a file, once the check accepts it.
-#[tactic(auto, using(crate::proofs::Statuses::unread, crate::proofs::Causing::unread_draw, crate::proofs::Statuses::cut_or_kept, crate::proofs::Statuses::undrawn_rows))]
+#[tactic(auto, using(crate::proofs::Statuses::unread, crate::proofs::Causing::unread_draw, crate::proofs::Statuses::cut_or_kept, crate::proofs::Sound::unread_sound, crate::proofs::Statuses::undrawn_rows))]
 fn draw_file<'a, F: Files, W: Write>(
     alloc: Global,
-    file: &'a str,
+    program: ProgramPaths<'a>,
     journal: &'a str,
-    script: Option<&'a str>,
     options: orc_draw::Options,
     files: &mut F,
     out: &mut W,
     explained: &mut Explained,
 ) -> Result<u8, Failure<'a>>
-    ensures done { IfOk result (HasDrawn (F.holds files.old) file.now journal.now (option_map (λ p. p.now) script.entry) (W.contents out.old) (W.contents out.new)) }
+    ensures done { IfOk result (HasDrawn (F.holds files.old) program.entry.file.now journal.now (option_map (λ p. p.now) program.entry.script) (W.contents out.old) (W.contents out.new)) }
     ensures undone { IfErr result (λ f. LeavesUndone f (W.contents out.old) (W.contents out.new)) }
-    ensures cause { IfErr result (IsDrawUndone (F.holds files.old) file.now journal.now (option_map (λ p. p.now) script.entry)) }
+    ensures cause { IfErr result (IsDrawUndone (F.holds files.old) program.entry.file.now journal.now (option_map (λ p. p.now) program.entry.script)) }
+    ensures sound { IfErr result (λ f. failure_status f ≢ 7) }
 {
-    let source = read(file, files)?;
+    let source = read(program.file, files)?;
     let text = read(journal, files)?;
-    let script_text = read_script_text(alloc, script, files)?;
+    let script_text = read_script_text(alloc, program.script, files)?;
     match draw_text(
         alloc,
-        name_of(file),
+        name_of(program.file),
         source.as_slice(),
         script_text.as_slice(),
         text.as_slice(),
@@ -409,9 +412,8 @@ fn draw_file<'a, F: Files, W: Write>(
         Err(Undrawn::Fault(fault)) => {
             let text = text.as_slice();
             let subject = subject_with_journal(
-                file,
+                program,
                 source.as_slice(),
-                script,
                 script_text.as_slice(),
                 journal,
                 text,
@@ -424,37 +426,35 @@ fn draw_file<'a, F: Files, W: Write>(
 }
 
 // `orc draw` without one: runs a file's program, and draws that run's journal.
-#[tactic(auto, using(crate::proofs::Statuses::unread, crate::proofs::Causing::unread_draw_run, crate::proofs::Statuses::cut_or_kept))]
+#[tactic(auto, using(crate::proofs::Statuses::unread, crate::proofs::Causing::unread_draw_run, crate::proofs::Statuses::cut_or_kept, crate::proofs::Sound::unread_sound))]
 fn draw_run_of<'a, R: Threads + Wait + Sync, F: Files, W: Write>(
     rt: &R,
     alloc: Global,
-    file: &'a str,
-    script: Option<&'a str>,
-    run: &Options,
-    options: orc_draw::Options,
+    program: ProgramPaths<'a>,
+    options: &DrawRunOptions,
     files: &mut F,
     out: &mut W,
     explained: &mut Explained,
 ) -> Result<u8, Failure<'a>>
-    ensures done { IfOk result (HasDrawnRun (F.holds files.old) file.now (option_map (λ p. p.now) script.entry) run.now (W.contents out.old) (W.contents out.new)) }
+    ensures done { IfOk result (HasDrawnRun (F.holds files.old) program.entry.file.now (option_map (λ p. p.now) program.entry.script) options.now.run (W.contents out.old) (W.contents out.new)) }
     ensures undone { IfErr result (λ f. LeavesUndone f (W.contents out.old) (W.contents out.new)) }
-    ensures cause { IfErr result (IsDrawRunUndone (F.holds files.old) file.now (option_map (λ p. p.now) script.entry) run.now) }
+    ensures cause { IfErr result (IsDrawRunUndone (F.holds files.old) program.entry.file.now (option_map (λ p. p.now) program.entry.script) options.now.run) }
+    ensures sound { IfErr result (λ f. IsInRange options.now.run.workers options.now.run.limit → failure_status f ≢ 7) }
 {
-    let source = read(file, files)?;
-    let script_text = read_script_text(alloc, script, files)?;
+    let source = read(program.file, files)?;
+    let script_text = read_script_text(alloc, program.script, files)?;
     match draw_run(
         rt,
         alloc,
-        name_of(file),
+        name_of(program.file),
         source.as_slice(),
         script_text.as_slice(),
-        run,
         options,
         out,
     ) {
         Ok(()) => Ok(0),
         Err(Undrawn::Fault(fault)) => {
-            let subject = subject_of(file, source.as_slice(), script, script_text.as_slice());
+            let subject = subject_of(program, source.as_slice(), script_text.as_slice());
             explained.fault(alloc, &subject, fault);
             Err(Failure::Fault(fault))
         }
@@ -463,7 +463,7 @@ fn draw_run_of<'a, R: Threads + Wait + Sync, F: Files, W: Write>(
 }
 
 // `orc print`: prints the program of a file.
-#[tactic(auto, using(crate::proofs::Statuses::unread, crate::proofs::Causing::unread_print, crate::proofs::Statuses::cut_or_kept))]
+#[tactic(auto, using(crate::proofs::Statuses::unread, crate::proofs::Causing::unread_print, crate::proofs::Statuses::cut_or_kept, crate::proofs::Sound::unread_sound))]
 fn print_file<'a, F: Files, W: Write>(
     alloc: Global,
     file: &'a str,
@@ -474,6 +474,7 @@ fn print_file<'a, F: Files, W: Write>(
     ensures done { IfOk result (HasPrinted (F.holds files.old) file.now (W.contents out.old) (W.contents out.new)) }
     ensures undone { IfErr result (λ f. LeavesUndone f (W.contents out.old) (W.contents out.new)) }
     ensures cause { IfErr result (IsPrintUndone (F.holds files.old) file.now) }
+    ensures sound { IfErr result (λ f. failure_status f ≢ 7) }
 {
     let source = read(file, files)?;
     match print_text(alloc, source.as_slice(), out) {
@@ -487,41 +488,36 @@ fn print_file<'a, F: Files, W: Write>(
 }
 
 // `orc test`: judges the claims of a test on runs of a file's program. The status says whether all hold.
-#[tactic(auto, using(crate::proofs::Statuses::unread, crate::proofs::Causing::unread_test, crate::proofs::Statuses::cut_or_kept))]
+#[tactic(auto, using(crate::proofs::Statuses::unread, crate::proofs::Causing::unread_test, crate::proofs::Statuses::cut_or_kept, crate::proofs::Sound::unread_sound))]
 fn test_file<'a, R: Threads + Sync, F: Files, W: Write>(
     rt: &R,
     alloc: Global,
-    file: &'a str,
+    program: ProgramPaths<'a>,
     test: &'a str,
-    script: Option<&'a str>,
     options: &TestOptions,
     files: &mut F,
     out: &mut W,
     explained: &mut Explained,
 ) -> Result<u8, Failure<'a>>
-    ensures done { IfOk result (HasTested (F.holds files.old) file.now test.now (option_map (λ p. p.now) script.entry) options.now (W.contents out.old) (W.contents out.new)) }
+    ensures done { IfOk result (HasTested (F.holds files.old) program.entry.file.now test.now (option_map (λ p. p.now) program.entry.script) options.now (is_asked explained.old) (W.contents out.old) (W.contents out.new)) }
     ensures undone { IfErr result (λ f. LeavesUndone f (W.contents out.old) (W.contents out.new)) }
-    ensures cause { IfErr result (IsTestUndone (F.holds files.old) file.now test.now (option_map (λ p. p.now) script.entry) options.now) }
+    ensures cause { IfErr result (IsTestUndone (F.holds files.old) program.entry.file.now test.now (option_map (λ p. p.now) program.entry.script) options.now) }
+    ensures sound { IfErr result (λ f. IsInRange options.now.workers options.now.limit → failure_status f ≢ 7) }
 {
-    let source = read(file, files)?;
+    let source = read(program.file, files)?;
     let claims = read(test, files)?;
-    let script_text = read_script_text(alloc, script, files)?;
+    let script_text = read_script_text(alloc, program.script, files)?;
     let names = Names {
-        source: file,
+        source: program.file,
         test,
-        script,
+        script: program.script,
     };
-    match test_text(
-        rt,
-        alloc,
-        &names,
-        source.as_slice(),
-        claims.as_slice(),
-        script_text.as_slice(),
-        options,
-        out,
-        explained,
-    ) {
+    let texts = TestTexts {
+        source: source.as_slice(),
+        test: claims.as_slice(),
+        script: script_text.as_slice(),
+    };
+    match test_text(rt, alloc, &names, &texts, options, out, explained) {
         Ok(failing) => Ok(claims_status(failing)),
         Err(Untested::Fault(RunFault::Test(fault))) => {
             let document = Document {
@@ -532,7 +528,7 @@ fn test_file<'a, R: Threads + Sync, F: Files, W: Write>(
             Err(Failure::Fault(RunFault::Test(fault)))
         }
         Err(Untested::Fault(fault)) => {
-            let subject = subject_of(file, source.as_slice(), script, script_text.as_slice());
+            let subject = subject_of(program, source.as_slice(), script_text.as_slice());
             explained.fault(alloc, &subject, fault);
             Err(Failure::Fault(fault))
         }
@@ -550,72 +546,48 @@ fn do_job<'a, R: Threads + Wait + Sync, F: Files, W: Write>(
     out: &mut W,
     explained: &mut Explained,
 ) -> Result<u8, Failure<'a>>
-    ensures done { IfOk result (IsDone (F.holds files.old) job.entry (W.contents out.old) (W.contents out.new)) }
+    ensures done { IfOk result (IsDone (F.holds files.old) (is_asked explained.old) job.entry (W.contents out.old) (W.contents out.new)) }
     ensures undone { IfErr result (λ f. LeavesUndone f (W.contents out.old) (W.contents out.new)) }
     ensures cause { IfErr result (IsUndone (F.holds files.old) job.entry) }
+    ensures sound { IfErr result (λ f. AreInRange job.entry → failure_status f ≢ 7) }
+    ensures accepted { (s : Summary) → ChecksRun (F.holds files.old) job.entry s → IfOk result (λ status. Accepts s (W.contents out.old) (W.contents out.new)) }
+    ensures beyond { (s : Summary) → ChecksRun (F.holds files.old) job.entry s → IfErr result MayBeRefused }
 {
     match job {
-        Job::Run {
-            file,
-            script,
-            options,
-        } => run_file(rt, alloc, file, script, &options, files, out, explained),
-        Job::Outcomes {
-            file,
-            script,
-            options,
-        } => survey_file(rt, alloc, file, script, &options, files, out, explained),
-        Job::Search {
-            file,
-            script,
-            options,
-            states,
-        } => search_file(
-            rt, alloc, file, script, &options, states, files, out, explained,
-        ),
-        Job::Show {
-            file,
-            script,
-            options,
-            states,
-            number,
-        } => show_file(
-            rt, alloc, file, script, &options, states, number, files, out, explained,
-        ),
-        Job::Check {
-            file,
-            journal,
-            script,
-        } => check_file(alloc, file, journal, script, files, out, explained),
+        Job::Run { program, options } => {
+            run_file(rt, alloc, program, &options, files, out, explained)
+        }
+        Job::Outcomes { program, options } => {
+            survey_file(rt, alloc, program, &options, files, out, explained)
+        }
+        Job::Search { program, options } => {
+            search_file(rt, alloc, program, &options, files, out, explained)
+        }
+        Job::Show { program, options } => {
+            show_file(rt, alloc, program, &options, files, out, explained)
+        }
+        Job::Check { program, journal } => {
+            check_file(alloc, program, journal, files, out, explained)
+        }
         Job::Claims {
-            file,
+            program,
             journal,
-            script,
             test,
-        } => claims_file(alloc, file, journal, script, test, files, out, explained),
+        } => claims_file(alloc, program, journal, test, files, out, explained),
         Job::Draw {
-            file,
+            program,
             journal,
-            script,
             options,
-        } => draw_file(alloc, file, journal, script, options, files, out, explained),
-        Job::DrawRun {
-            file,
-            script,
-            run,
-            options,
-        } => draw_run_of(
-            rt, alloc, file, script, &run, options, files, out, explained,
-        ),
+        } => draw_file(alloc, program, journal, options, files, out, explained),
+        Job::DrawRun { program, options } => {
+            draw_run_of(rt, alloc, program, &options, files, out, explained)
+        }
         Job::Print { file } => print_file(alloc, file, files, out, explained),
         Job::Test {
-            file,
+            program,
             test,
-            script,
             options,
-        } => test_file(
-            rt, alloc, file, test, script, &options, files, out, explained,
-        ),
+        } => test_file(rt, alloc, program, test, &options, files, out, explained),
     }
 }
 
@@ -624,7 +596,8 @@ fn do_job<'a, R: Threads + Wait + Sync, F: Files, W: Write>(
 /// FILE, JOURNAL, TEST and the script are read in this order, before anything else; but where no explanation is asked for, a JOURNAL that is to be
 /// checked is only opened then, and read while it is checked. Standard output is `out`, standard error `err`; what standard error doesn't
 /// take changes no status. Either the job was done, and both what was written and the status say what came of it; or it wasn't, and the status is
-/// that of the failure. Then nothing was written to standard output, unless that was at fault itself.
+/// that of the failure. Then nothing was written to standard output, unless that was at fault itself. The status is 7 only where the numbers of
+/// workers or of entries are out of range.
 pub fn perform<R, F, W, V>(
     rt: &R,
     alloc: Global,
@@ -638,7 +611,10 @@ where
     F: Files,
     W: Write,
     V: Write,
-    ensures { ComesTo (F.holds files.old) asked.entry.job (W.contents out.old) (W.contents out.new) result }
+    ensures done { ComesTo (F.holds files.old) asked.entry (W.contents out.old) (W.contents out.new) result }
+    ensures sound { AreInRange asked.entry.job → result ≢ 7 }
+    // The journal that a run of its source and script wrote is accepted by `orc check`, unless it is beyond a limit.
+    ensures accepted { (s : Summary) → ChecksRun (F.holds files.old) asked.entry.job s → IsAcceptedOr s (W.contents out.old) (W.contents out.new) result }
 {
     let Asked { job, explain } = asked;
     let mut explained = Explained::new(explain);
@@ -655,14 +631,14 @@ where
     }
 }
 
-/// Does one command line, whose first word is the program's name, as [`perform`] does it, and gives the process's status, 0 to 7.
+/// Does one command line, whose first word is the program's name, as [`perform`] does it, and gives the process's status, 0 to 6.
 ///
 /// - 1: the job wasn't done, since a file's text is at fault, or what is to be shown isn't there or has too many rows, and nothing was written to
 ///   standard output; or what was written reports claims that fail.
-/// - 2, 7: the command line was refused, or the engine is at fault. Nothing was written to standard output.
+/// - 2: the command line was refused. Nothing was written to standard output.
 /// - 3: the whole text of a run that ended quiet was written.
 /// - 4: the whole text of a run that was cut, by its limit or one of the engine's, was written; or that of a search that didn't find all outcomes.
-#[tactic(auto, using(crate::proofs::Coming::below_eight, crate::proofs::Coming::kept_at_two, crate::proofs::Coming::kept_at_seven, crate::proofs::Coming::failed_or_kept, crate::proofs::Coming::ended_quiet, crate::proofs::Coming::ended_cut))]
+#[tactic(auto, using(crate::proofs::Coming::kept_at_two, crate::proofs::Coming::failed_or_kept, crate::proofs::Coming::ended_quiet, crate::proofs::Coming::ended_cut))]
 pub fn command<R, S, F, W, V>(
     rt: &R,
     alloc: Global,
@@ -677,10 +653,9 @@ where
     F: Files,
     W: Write,
     V: Write,
-    ensures status { result < 8 }
+    ensures status { result < 7 }
     ensures fault { result ≡ 1 → (Keeps (W.contents out.old) (W.contents out.new) × HasCause (F.holds files.old) 1) ⊎ TellsOfFailures (W.contents out.old) (W.contents out.new) }
     ensures refused { result ≡ 2 → Keeps (W.contents out.old) (W.contents out.new) }
-    ensures broken { result ≡ 7 → Keeps (W.contents out.old) (W.contents out.new) }
     ensures quiet { result ≡ 3 → HasEnded ends.Quiet (W.contents out.old) (W.contents out.new) }
     ensures cut { result ≡ 4 → WasCut (W.contents out.old) (W.contents out.new) ⊎ TellsNotAll (W.contents out.old) (W.contents out.new) }
 {

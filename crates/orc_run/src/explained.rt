@@ -9,6 +9,7 @@ use crate::failures::Failure;
 use crate::faults::RunFault;
 use crate::inputs::{ReadFault, title_of};
 use crate::run_end::explain_run;
+use orc_cli::ProgramPaths;
 use orc_engine::EngineFault;
 use orc_explain_fault::{
     Fault, explain, explain_refused, explain_rows, explain_test, explain_unread,
@@ -183,13 +184,12 @@ impl Explained {
 
 /// The files of a command line without a journal, with their titles and their bytes. `answers` is the script's text; it isn't used without a script.
 pub fn subject_of<'a>(
-    file: &'a str,
+    program: ProgramPaths<'a>,
     source: &'a [u8],
-    script: Option<&'a str>,
     answers: &'a [u8],
 ) -> Subject<'a> {
-    let mut subject = Subject::of_source(title_of(file), source);
-    if let Some(path) = script {
+    let mut subject = Subject::of_source(title_of(program.file), source);
+    if let Some(path) = program.script {
         subject.script = Some(Document {
             name: title_of(path),
             text: answers,
@@ -200,14 +200,13 @@ pub fn subject_of<'a>(
 
 /// The files of a command line that names a journal, with their titles and their bytes. `answers` is the script's text, and `text` the journal's.
 pub fn subject_with_journal<'a>(
-    file: &'a str,
+    program: ProgramPaths<'a>,
     source: &'a [u8],
-    script: Option<&'a str>,
     answers: &'a [u8],
     journal: &'a str,
     text: &'a [u8],
 ) -> Subject<'a> {
-    let mut subject = subject_of(file, source, script, answers);
+    let mut subject = subject_of(program, source, answers);
     subject.journal = Some(Document {
         name: title_of(journal),
         text,

@@ -54,7 +54,8 @@ pub use faults::RunFault;
 pub use inputs::{Files, ReadFault};
 pub use judge::{Unchecked, check_read, check_text};
 pub use orc_cli::{
-    Asked, Job, Options, Order, STANDARD_INPUT, Shown, SurveyOptions, TestOptions, Wanted,
+    Asked, DrawRunOptions, Job, Options, Order, ProgramPaths, STANDARD_INPUT, SearchOptions,
+    ShowOptions, Shown, SurveyOptions, TestOptions, Wanted,
 };
 pub use orc_explain_fault::Unread;
 pub use orc_outcome::{End, Summary};
@@ -64,4 +65,4 @@ pub use picture::{Undrawn, draw_run, draw_text};
 pub use printer::print_text;
 pub use runner::run_text;
 pub use shown::{Unshown, show_text};
-pub use test_command::{Untested, test_text};
+pub use test_command::{TestTexts, Untested, test_text};

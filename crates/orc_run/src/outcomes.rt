@@ -12,7 +12,7 @@ ghost use Rattle.orc_run.specs.Searched.{AreMore, HasSearched, LeavesUnsearched,
 ghost use Rattle.orc_run.specs.Surveyed.{HasSurveyed, IsUnwritten, LeavesUnsurveyed};
 
 use crate::faults::RunFault;
-use orc_cli::SurveyOptions;
+use orc_cli::{SearchOptions, SurveyOptions};
 use orc_engine::EngineFault;
 use orc_load::{Loaded, load};
 use orc_orders::{Seen, lines_of, place_of, survey, write_unseen};
@@ -174,11 +174,11 @@ fn text_of(
     Ok(text)
 }
 
-/// Does as [`survey_text`], and searches all schedules of the program too, through `states` states at most. Behind the outcomes that came up it
-/// writes a line for each other one that the search found, `no order (0 of 100) Halted: 43`, and a last line. That says that each run that ends by
-/// itself has one of these outcomes, be it halted or quiet; or why it isn't known: there are more states, as where a loop goes on publishing, or
-/// delays within the limit of entries may add up to a time of over 64 bits. A run that its limit cut has a line if it came up in an order; nothing is
-/// said of other such runs. Answers whether the search found all outcomes.
+/// Does as [`survey_text`], and searches all schedules of the program too, through as many states at most as the options
+/// say. Behind the outcomes that came up it writes a line for each other one that the search found, `no order (0 of 100) Halted: 43`, and a last line.
+/// That says that each run that ends by itself has one of these outcomes, be it halted or quiet; or why it isn't known: there are more states, as
+/// where a loop goes on publishing, or delays within the limit of entries may add up to a time of over 64 bits. A run that its limit cut has a line if
+/// it came up in an order; nothing is said of other such runs. Answers whether the search found all outcomes.
 ///
 /// The faults are those of [`survey_text`]; `Engine` comes also where memory is refused to the search.
 #[tactic(auto, using(crate::proofs::Searching::unsearched_before))]
@@ -187,27 +187,32 @@ pub fn search_text<R: Threads + Sync, W: Write>(
     alloc: Global,
     source: &[u8],
     script: &[u8],
-    options: &SurveyOptions,
-    states: u64,
+    options: &SearchOptions,
     out: &mut W,
 ) -> Result<bool, RunFault>
-    ensures searched { IfOk result (HasSearched source.now script.now options.now.orders options.now.limit states (W.contents out.old) (W.contents out.new)) }
-    ensures fault { IfErr result (LeavesUnsearched source.now script.now options.now.orders options.now.limit states (W.contents out.old) (W.contents out.new)) }
+    ensures searched { IfOk result (HasSearched source.now script.now options.now.survey.orders options.now.survey.limit options.now.states (W.contents out.old) (W.contents out.new)) }
+    ensures fault { IfErr result (LeavesUnsearched source.now script.now options.now.survey.orders options.now.survey.limit options.now.states (W.contents out.old) (W.contents out.new)) }
     ensures cause { IfErr result (IsFaultOf source.now script.now) }
-    ensures range { IfErr result (λ f. f ≡ RunFault.Engine EngineFault.Range → IsInRange options.now.workers options.now.limit → ⊥) }
+    ensures range { IfErr result (λ f. f ≡ RunFault.Engine EngineFault.Range → IsInRange options.now.survey.workers options.now.survey.limit → ⊥) }
     ensures sound { IfErr result (λ f. IsOwnOf f → ⊥) }
 {
-    let (loaded, seen) = surveyed(rt, alloc, source, script, options)?;
+    let (loaded, seen) = surveyed(rt, alloc, source, script, &options.survey)?;
     let Ok(found) = search(
         alloc,
         &loaded.program,
         &loaded.answers,
-        states as usize,
-        options.limit,
+        options.states as usize,
+        options.survey.limit,
     ) else {
         return Err(RunFault::Engine(EngineFault::Memory));
     };
-    let Ok(text) = text_of(alloc, options.orders, seen.as_slice(), states, &found) else {
+    let Ok(text) = text_of(
+        alloc,
+        options.survey.orders,
+        seen.as_slice(),
+        options.states,
+        &found,
+    ) else {
         return Err(RunFault::Write(WriteFault));
     };
     match write_text(out, text.as_slice()) {

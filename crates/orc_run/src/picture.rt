@@ -2,13 +2,13 @@
 
 ghost use Rattle.std.specs.Prelude.{◌≡◌, IfOk, IfErr, OnOk, List, ℕ};
 ghost use Rattle.orc_outcome.specs.declared.end.Summary.{Summary};
-ghost use Rattle.orc_run.specs.Drawn.{Draws, DrawsRun, IsRangeOf, IsRunUndrawnFor, IsUndrawable, IsUndrawnFor, IsUnrunFor, LeavesUndrawn, LeavesUndrawnRun, with_journal};
+ghost use Rattle.orc_run.specs.Drawn.{Draws, DrawsRun, IsOwnUndrawn, IsRangeOf, IsRunUndrawnFor, IsUndrawable, IsUndrawnFor, IsUnrunFor, LeavesUndrawn, LeavesUndrawnRun, with_journal};
 ghost use Rattle.orc_run.specs.Running.{Runs};
 
 use crate::faults::RunFault;
 use crate::judge::{Judged, judge};
 use crate::runner::run_source;
-use orc_cli::{Options as RunOptions, Wanted};
+use orc_cli::{DrawRunOptions, Options as RunOptions, Wanted};
 use orc_draw::{DrawFault, Options, Subject, draw};
 use orc_engine::EngineFault;
 use orc_outcome::End;
@@ -116,6 +116,7 @@ fn journal_of<R: Threads + Wait + Sync>(
     ensures ran { IfOk result (λ text. (s : Summary) × Runs source.now script.now (with_journal run.now) s text.items) }
     ensures cause { IfErr result (IsUnrunFor source.now script.now) }
     ensures range { IfErr result (IsRangeOf run.now) }
+    ensures sound { IfErr result (λ u. IsOwnUndrawn u → ⊥) }
 {
     let mut text = Vec::new(alloc);
     match run_source(
@@ -141,23 +142,23 @@ fn journal_of<R: Threads + Wait + Sync>(
 ///
 /// A fault is answered where either of them answers it, and the same one; and `Engine` where memory was refused in the run. Nothing is written
 /// then, but at a fault of the output a prefix of a picture.
-#[tactic(auto, using(crate::proofs::Drawing::undrawn_after, crate::proofs::Drawing::undrawn_still))]
+#[tactic(auto, using(crate::proofs::Drawing::undrawn_after, crate::proofs::Drawing::undrawn_still, crate::proofs::Sound::journal_sound))]
 pub fn draw_run<R: Threads + Wait + Sync, W: Write>(
     rt: &R,
     alloc: Global,
     name: &str,
     source: &[u8],
     script: &[u8],
-    run: &RunOptions,
-    options: Options,
+    options: &DrawRunOptions,
     out: &mut W,
 ) -> Result<(), Undrawn>
-    ensures drawn { OnOk result (DrawsRun source.now script.now run.now (W.contents out.old) (W.contents out.new)) }
+    ensures drawn { OnOk result (DrawsRun source.now script.now options.now.run (W.contents out.old) (W.contents out.new)) }
     ensures undrawn { IfErr result (LeavesUndrawnRun (W.contents out.old) (W.contents out.new)) }
-    ensures cause { IfErr result (IsRunUndrawnFor source.now script.now run.now) }
-    ensures range { IfErr result (IsRangeOf run.now) }
+    ensures cause { IfErr result (IsRunUndrawnFor source.now script.now options.now.run) }
+    ensures range { IfErr result (IsRangeOf options.now.run) }
+    ensures sound { IfErr result (λ u. IsOwnUndrawn u → ⊥) }
 {
-    let journal = match journal_of(rt, alloc, source, script, run) {
+    let journal = match journal_of(rt, alloc, source, script, &options.run) {
         Ok(journal) => journal,
         Err(undrawn) => return Err(undrawn),
     };
@@ -167,7 +168,7 @@ pub fn draw_run<R: Threads + Wait + Sync, W: Write>(
         source,
         script,
         journal.as_slice(),
-        options,
+        options.drawing,
         out,
     ) {
         Ok(()) => Ok(()),

@@ -11,7 +11,7 @@ ghost use Rattle.orc_run.specs.Shown.{HasShown, HasWritten, IsOwnUnshown, IsUnsh
 
 use crate::faults::RunFault;
 use crate::outcomes::{found_of, surveyed};
-use orc_cli::SurveyOptions;
+use orc_cli::ShowOptions;
 use orc_engine::{EngineFault, run_alone};
 use orc_load::Loaded;
 use orc_orders::{Seen, are_same, place_of};
@@ -202,7 +202,7 @@ fn show_unseen<W: Write>(
 }
 
 /// Writes the journal of a run of the program that a source spells, with the built-in sites and those of a script, that has the outcome with this
-/// number, from 1: of those that [`survey_text`](crate::survey_text) writes, and where `states` says how many states are searched, of those that
+/// number, from 1: of those that [`survey_text`](crate::survey_text) writes, and where the options say how many states are searched, of those that
 /// [`search_text`](crate::search_text) writes behind them.
 ///
 /// The faults are those of `survey_text`; `Engine` comes also where memory is refused to a search. Without a fault there may be no outcome with this
@@ -213,36 +213,34 @@ pub fn show_text<R: Threads + Sync, W: Write>(
     alloc: Global,
     source: &[u8],
     script: &[u8],
-    options: &SurveyOptions,
-    states: Option<u64>,
-    number: u64,
+    options: &ShowOptions,
     out: &mut W,
 ) -> Result<(), Unshown>
-    ensures shown { OnOk result (HasShown source.now script.now options.now.orders options.now.limit number (W.contents out.old) (W.contents out.new)) }
-    ensures fault { IfErr result (LeavesUnshown source.now script.now options.now.orders options.now.limit number (W.contents out.old) (W.contents out.new)) }
-    ensures cause { IfErr result (IsUnshownFor source.now script.now options.now.orders options.now.limit number) }
-    ensures range { IfErr result (λ u. u ≡ Unshown.Fault (RunFault.Engine EngineFault.Range) → IsInRange options.now.workers options.now.limit → ⊥) }
+    ensures shown { OnOk result (HasShown source.now script.now options.now.survey.orders options.now.survey.limit options.now.number (W.contents out.old) (W.contents out.new)) }
+    ensures fault { IfErr result (LeavesUnshown source.now script.now options.now.survey.orders options.now.survey.limit options.now.number (W.contents out.old) (W.contents out.new)) }
+    ensures cause { IfErr result (IsUnshownFor source.now script.now options.now.survey.orders options.now.survey.limit options.now.number) }
+    ensures range { IfErr result (λ u. u ≡ Unshown.Fault (RunFault.Engine EngineFault.Range) → IsInRange options.now.survey.workers options.now.survey.limit → ⊥) }
     ensures sound { IfErr result (λ u. IsOwnUnshown u → ⊥) }
 {
-    let (loaded, seen) = surveyed(rt, alloc, source, script, options)?;
+    let (loaded, seen) = surveyed(rt, alloc, source, script, &options.survey)?;
     let seen = seen.as_slice();
-    if let Some(one) = seen.get((number as usize).saturating_sub(1)) {
-        let played = run_in_order(alloc, &loaded, one.first, options.limit)?;
+    if let Some(one) = seen.get((options.number as usize).saturating_sub(1)) {
+        let played = run_in_order(alloc, &loaded, one.first, options.survey.limit)?;
         let outcome = Outcome {
             end: one.end,
             values: one.values.as_slice(),
         };
-        return write_shown(alloc, &loaded, &played, outcome, number, out);
+        return write_shown(alloc, &loaded, &played, outcome, options.number, out);
     }
-    match states {
-        None => Err(Unshown::NoOutcome(number)),
+    match options.states {
+        None => Err(Unshown::NoOutcome(options.number)),
         Some(states) => show_unseen(
             alloc,
             &loaded,
             seen,
             states as usize,
-            options.limit,
-            number,
+            options.survey.limit,
+            options.number,
             out,
         ),
     }

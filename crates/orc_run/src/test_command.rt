@@ -62,6 +62,14 @@ pub enum Untested {
     NoJournal(u64),
 }
 
+/// The texts of a test: the program's source, the test, and the script of the sites that the test doesn't name.
+#[derive(Clone, Copy)]
+pub struct TestTexts<'t> {
+    pub source: &'t [u8],
+    pub test: &'t [u8],
+    pub script: &'t [u8],
+}
+
 /// Memory for what is to be written was refused: status 6, as if the output had failed.
 pub(crate) const NO_TEXT: Untested = Untested::Fault(RunFault::Write(WriteFault));
 
@@ -377,10 +385,11 @@ fn remarks<'t, 'a, R: Threads + Sync>(
     trials: &'t Trials<'t, 'a>,
     test: &'t Test<'a>,
     cases: &'t [CaseScripts],
+    script: &[u8],
     workers: usize,
 ) -> Result<String, AllocError> {
     let services = services_never_asked(rt, alloc, trials, test, cases, workers)?;
-    let calls = calls_never_answered(alloc, trials, test, cases)?;
+    let calls = calls_never_answered(alloc, trials, test, cases, script)?;
     let mut page = Page::new(alloc);
     page.say(services.as_str());
     page.say(calls.as_str());
@@ -394,19 +403,21 @@ fn tell_remarks<'t, 'a, R: Threads + Sync>(
     trials: &'t Trials<'t, 'a>,
     test: &'t Test<'a>,
     cases: &'t [CaseScripts],
+    script: &[u8],
     options: &TestOptions,
     explained: &mut Explained,
 ) {
     match options.shown {
         Shown::Table if explained.is_asked() => {
             let workers = options.workers as usize;
-            explained.remarks(remarks(rt, alloc, trials, test, cases, workers));
+            explained.remarks(remarks(rt, alloc, trials, test, cases, script, workers));
         }
         _ => {}
     }
 }
 
-// Tries the ways of a test's cases, and writes what is wanted of it: how many claims fail.
+// Tries the ways of a test's cases, and writes what is wanted of it: how many claims fail. `explains` says whether failures are
+// explained.
 #[tactic(auto, using(crate::proofs::Testing::unwritten, crate::proofs::Untold::untried_untold, crate::proofs::Untold::memory_untold))]
 fn try_and_write<'t, 'a, R: Threads + Sync, W: Write>(
     rt: &'t R,
@@ -417,11 +428,11 @@ fn try_and_write<'t, 'a, R: Threads + Sync, W: Write>(
     cases: &'t [CaseScripts],
     ways: &[Ways],
     options: &TestOptions,
+    explains: bool,
     out: &mut W,
-    explained: &mut Explained,
 ) -> Result<usize, Untested>
     requires limit { trials.now.limit ≡ options.now.limit }
-    ensures tested { IfOk result (λ n. (r : Report) × (r.test.now ≡ test.now) × AllZip (IsTried trials.now) cases.now r.cases.now × (r.orders ≡ options.now.orders) × AreSaid trials.now r.test.now.claim_lines.items cases.now r.cases.now r.searched.now × Writes trials.now (is_asked explained.old) ways.now (named_of names.now) options.now cases.now r options.now.shown (W.contents out.old) (W.contents out.new) × (n ≡ failing (rows_of r))) }
+    ensures tested { IfOk result (λ n. (r : Report) × (r.test.now ≡ test.now) × AllZip (IsTried trials.now) cases.now r.cases.now × (r.orders ≡ options.now.orders) × AreSaid trials.now r.test.now.claim_lines.items cases.now r.cases.now r.searched.now × Writes trials.now explains ways.now (named_of names.now) options.now cases.now r options.now.shown (W.contents out.old) (W.contents out.new) × (n ≡ failing (rows_of r))) }
     ensures fault { IfErr result (LeavesUntested (W.contents out.old) (W.contents out.new)) }
     ensures cause { IfErr result (AreUntold trials.now test.now options.now cases.now) }
     ensures sound { IfErr result (λ f. IsOwnFault f → ⊥) }
@@ -433,7 +444,7 @@ fn try_and_write<'t, 'a, R: Threads + Sync, W: Write>(
         trials,
         workers: options.workers as usize,
         states: options.states,
-        explains: explained.is_asked(),
+        explains,
     };
     let reports = tester.try_cases(cases)?;
     let tried = reports.as_slice();
@@ -446,7 +457,6 @@ fn try_and_write<'t, 'a, R: Threads + Sync, W: Write>(
         searched: found,
     };
     let number = tester.write_test(cases, ways, &report, options, out)?;
-    tell_remarks(rt, alloc, trials, test, cases, options, explained);
     Ok(number)
 }
 
@@ -492,9 +502,11 @@ fn hold<'t, 'a, R: Threads + Sync, W: Write>(
         limit: options.limit,
     };
     let tried = cases.as_slice();
+    let explains = explained.is_asked();
     let number = try_and_write(
-        rt, alloc, names, &trials, test, tried, ways, options, out, explained,
+        &*rt, alloc, names, &trials, &*test, tried, ways, options, explains, out,
     )?;
+    tell_remarks(rt, alloc, &trials, test, tried, script, options, explained);
     Ok(number)
 }
 
@@ -538,32 +550,39 @@ pub fn test_text<R: Threads + Sync, W: Write>(
     rt: &R,
     alloc: Global,
     names: &Names<'_>,
-    source: &[u8],
-    test: &[u8],
-    script: &[u8],
+    texts: &TestTexts<'_>,
     options: &TestOptions,
     out: &mut W,
     explained: &mut Explained,
 ) -> Result<usize, Untested>
-    ensures tested { IfOk result (HasFailing source.now test.now script.now (named_of names.now) options.now (is_asked explained.old) (W.contents out.old) (W.contents out.new)) }
+    ensures tested { IfOk result (HasFailing texts.now.source.now texts.now.test.now texts.now.script.now (named_of names.now) options.now (is_asked explained.old) (W.contents out.old) (W.contents out.new)) }
     ensures fault { IfErr result (LeavesUntested (W.contents out.old) (W.contents out.new)) }
-    ensures cause { IfErr result (IsUntestedFor source.now test.now script.now options.now) }
+    ensures cause { IfErr result (IsUntestedFor texts.now.source.now texts.now.test.now texts.now.script.now options.now) }
     ensures sound { IfErr result (λ f. IsOwnFault f → ⊥) }
 {
     // The tree isn't used: each way's program is loaded from the text. But a fault of the source's text comes before those of the script and the
     // test.
-    if let Err(fault) = parse(alloc, source) {
+    if let Err(fault) = parse(alloc, texts.source) {
         return Err(Untested::Fault(RunFault::Syntax(fault)));
     }
-    let others = others_of(alloc, script)?;
-    let mut known = known_of(alloc, test, &others)?;
+    let others = others_of(alloc, texts.script)?;
+    let mut known = known_of(alloc, texts.test, &others)?;
     let counted = ways_of(alloc, &known)?;
     let Ok(()) = add_end(alloc, &mut known) else {
         return Err(NO_MEMORY);
     };
     let ways = counted.as_slice();
     let number = hold(
-        rt, alloc, names, source, &known, ways, script, options, out, explained,
+        rt,
+        alloc,
+        names,
+        texts.source,
+        &known,
+        ways,
+        texts.script,
+        options,
+        out,
+        explained,
     )?;
     Ok(number)
 }

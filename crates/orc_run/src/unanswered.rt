@@ -9,7 +9,9 @@ use orc_report::Page;
 use orc_rules::answers::Answers;
 use orc_rules::builtin::is_same;
 use orc_rules::entry::Entry;
+use orc_rules::limits::MOST_ARGUMENTS;
 use orc_rules::value::{Answer, Args, Found, Value};
+use orc_site::read_script;
 use orc_ways::test::{Service, Test};
 use std::alloc::{AllocError, Global};
 
@@ -25,10 +27,60 @@ fn takes(service: &Service<'_>, args: &[Value]) -> bool {
         })
 }
 
+// Whether a service of the test has this name.
+fn is_service(test: &Test<'_>, name: &[u8]) -> bool {
+    test.services.iter().any(|line| line.service.name == name)
+}
+
+// Whether a site of the table halts at its first call with these arguments; false where it has no such site.
+fn halts(answers: &Answers, name: &[u8], args: &Args) -> bool {
+    match answers.site_named(name) {
+        Some(site) => matches!(answers.find(site, args, 1), Found::After(Answer::Halt, 0)),
+        None => false,
+    }
+}
+
+// Adds a line that answers all calls of a site with so many arguments, `A(_, _) = 0`. It begins with an LF, which the last line before it may lack.
+fn write_catch_all(text: &mut Vec<u8>, name: &[u8], arguments: usize) -> Result<(), AllocError> {
+    text.extend_from_slice(b"\n")?;
+    text.extend_from_slice(name)?;
+    text.extend_from_slice(b"(")?;
+    for place in 0..arguments {
+        if place > 0 {
+            text.extend_from_slice(b", ")?;
+        }
+        text.extend_from_slice(b"_")?;
+    }
+    text.extend_from_slice(b") = 0")
+}
+
+// The sites of the script behind the test's lines. Behind the script's own lines each service has a line for each number of arguments, which answers:
+// so a call of a service halts there only by a line of the script. The error is refused memory, or that the script is too long with these lines.
+fn sites_behind(alloc: Global, test: &Test<'_>, script: &[u8]) -> Result<Answers, AllocError> {
+    let Ok(sites) = read_script(alloc, script) else {
+        return Err(AllocError);
+    };
+    let mut text = Vec::new(alloc);
+    text.extend_from_slice(script)?;
+    for name in sites.names(alloc)?.as_slice() {
+        if is_service(test, *name) {
+            for arguments in 0..=MOST_ARGUMENTS {
+                write_catch_all(&mut text, *name, arguments)?;
+            }
+        }
+    }
+    match read_script(alloc, text.as_slice()) {
+        Ok(answers) => Ok(answers),
+        Err(_) => Err(AllocError),
+    }
+}
+
 /// The calls of a case that no line answers, each named once.
 #[derive(Drop)]
 struct Calls<'t, 'a> {
     test: &'t Test<'a>,
+    /// The sites of `sites_behind`.
+    behind: &'t Answers,
     case: usize,
     texts: Vec<String>,
     // Whether there are more of them than are named.
@@ -36,14 +88,6 @@ struct Calls<'t, 'a> {
 }
 
 impl Calls<'_, '_> {
-    // Whether a service of the test has this name.
-    fn is_service(&self, name: &[u8]) -> bool {
-        self.test
-            .services
-            .iter()
-            .any(|line| line.service.name == name)
-    }
-
     // Whether a line of the case, or of `given`, takes a call.
     fn is_taken(&self, name: &[u8], args: &[Value]) -> bool {
         self.test.services.iter().any(|line| {
@@ -51,12 +95,12 @@ impl Calls<'_, '_> {
         })
     }
 
-    // Whether no line of the case answers a call of a service, nor one of the script behind those of the test. A call without a line halts at once;
-    // so does one whose line in that script says `halt`.
-    fn is_unanswered(&self, answers: &Answers, site: u32, name: &[u8], args: &Args) -> bool {
-        self.is_service(name)
+    // Whether no line answers a call of a service, so that it halts at once: no line of the case, and none of the script behind those of the test.
+    fn is_unanswered(&self, answers: &Answers, name: &[u8], args: &Args) -> bool {
+        is_service(self.test, name)
             && !self.is_taken(name, args.as_slice())
-            && matches!(answers.find(site, args, 1), Found::After(Answer::Halt, 0))
+            && halts(answers, name, args)
+            && !halts(self.behind, name, args)
     }
 
     // Names a call, unless it was named before. From the fifth on only that there are more. The error is refused memory.
@@ -98,7 +142,7 @@ impl Calls<'_, '_> {
         for at in 0..journal.len() {
             if let Some(Entry::Call(_, _, site, args)) = journal.get(at) {
                 let name = answers.name(site).unwrap_or(b"");
-                if self.is_unanswered(&answers, site, name, &args) {
+                if self.is_unanswered(&answers, name, &args) {
                     self.add(alloc, name, args.as_slice())?;
                 }
             }
@@ -128,18 +172,21 @@ impl Calls<'_, '_> {
     }
 }
 
-/// The text that names the calls of services that no line of their case or of `given` answers, in the first order of each of the ways that were
-/// tried; empty where each call is answered. Of a case it names four at most, each once. The error is refused memory.
+/// The text that names the calls of services that no line answers, be it of their case, of `given`, or of the script, in the first order of each of
+/// the ways that were tried; empty where each call is answered. Of a case it names four at most, each once. The error is refused memory.
 pub fn calls_never_answered(
     alloc: Global,
     trials: &Trials<'_, '_>,
     test: &Test<'_>,
     cases: &[CaseScripts],
+    script: &[u8],
 ) -> Result<String, AllocError> {
+    let behind = sites_behind(alloc, test, script)?;
     let mut page = Page::new(alloc);
     for (case, scripts) in cases.iter().enumerate() {
         let mut calls = Calls {
             test,
+            behind: &behind,
             case,
             texts: Vec::new(alloc),
             has_more: false,

@@ -1,6 +1,7 @@
 use Rattle.std.proofs.Common.{subst}
 use Rattle.orc_run.specs.Claimed.{IsUnclaimedFor}
 use Rattle.orc_run.proofs.KnownFiles.{four_before}
+use Rattle.orc_run.proofs.Sound.{of_claims, of_test_text}
 use Rattle.orc_run.proofs.commands.claims_file.Goals as goal
 
 -- the files that the words name were held against the test
@@ -24,3 +25,10 @@ returns-clause-cause g c =
     c.as_slice.ensures.value c.as_slice-4.ensures.value c.as_slice-2.ensures.value c.as_slice-3.ensures.value
     c.in_ok-source.ensures.held c.in_ok-lines.ensures.held c.in_ok-claims.ensures.held c.in_ok-script_text.ensures.held in
     (c.as_slice.result.now, c.as_slice-4.result.now, c.as_slice-2.result.now, c.as_slice-3.result.now, before.0, before.1, before.2, before.3, c.in-Err.ensures.cause)
+
+-- a failure isn't the engine's
+pub returns-in-Err-Test-clause-sound : goal.returns-in-Err-Test-clause-sound
+returns-in-Err-Test-clause-sound g c = of_test_text _
+
+pub returns-clause-sound : goal.returns-clause-sound
+returns-clause-sound g c = of_claims _ _ _ _ _ c.in-Err.ensures.cause

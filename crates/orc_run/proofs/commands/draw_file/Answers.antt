@@ -1,6 +1,7 @@
 use Rattle.std.proofs.Common.{refl, subst}
 use Rattle.orc_run.specs.Drawn.{IsUndrawnFor}
 use Rattle.orc_run.proofs.KnownFiles.{all_before}
+use Rattle.orc_run.proofs.Sound.{of_drawing}
 use Rattle.orc_run.proofs.commands.draw_file.Goals as goal
 
 -- the journal of the files that the words name was drawn
@@ -21,3 +22,7 @@ returns-clause-cause g c =
     let before = all_before _ _ _ _ _ _ _ _ _ _ _ _ c.in_ok-source.ensures.same c.in_ok-text.ensures.same c.as_slice.ensures.value c.as_slice-3.ensures.value c.as_slice-2.ensures.value
     c.in_ok-source.ensures.held c.in_ok-text.ensures.held c.in_ok-script_text.ensures.held in
     (c.as_slice.result.now, c.as_slice-3.result.now, c.as_slice-2.result.now, before.0, before.1, before.2, subst (IsUndrawnFor c.as_slice.result.now c.as_slice-2.result.now c.as_slice-3.result.now) c.in-Err-Rows.field-0-is c.in-Err-Rows.ensures.cause)
+
+-- a failure isn't the engine's
+pub returns-in-Err-Fault-clause-sound : goal.returns-in-Err-Fault-clause-sound
+returns-in-Err-Fault-clause-sound g c = of_drawing _ _ _ _ _ c.in-Err-Fault.field-0-is c.in-Err-Fault.ensures.cause

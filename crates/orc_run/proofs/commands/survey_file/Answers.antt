@@ -1,5 +1,6 @@
 use Rattle.std.proofs.Common.{refl}
 use Rattle.orc_run.proofs.KnownFiles.{held_before, read_before}
+use Rattle.orc_run.proofs.Sound.{of_run}
 use Rattle.orc_run.proofs.commands.survey_file.Goals as goal
 
 -- the outcomes of the files that the words name were told
@@ -12,3 +13,7 @@ returns-in-Ok-clause-done g c = (
   c.in-Ok.ensures.surveyed,
   refl,
 )
+
+-- a failure isn't the engine's
+pub returns-clause-sound : goal.returns-clause-sound
+returns-clause-sound g c = of_run _ _ _ c.in-Err.ensures.range c.in-Err.ensures.sound

@@ -11,7 +11,7 @@ pub returns-in_default-text_of-clause-fault : goal.returns-in_default-text_of-cl
 returns-in_default-text_of-clause-fault g c =
     let loaded = c.in_ok-loaded.loaded in
     let came = c.in_ok-loaded.ensures in
-    not_told c.args.source.now c.args.script.now c.args.options.now.orders c.args.options.now.limit c.args.states loaded.program loaded.answers c.in_ok-loaded.seen.items came.says came.spells came.survey (g.W.Write.contents c.args.out.now)
+    not_told c.args.source.now c.args.script.now c.args.options.now.survey.orders c.args.options.now.survey.limit c.args.options.now.states loaded.program loaded.answers c.in_ok-loaded.seen.items came.says came.spells came.survey (g.W.Write.contents c.args.out.now)
 
 -- it was written whole, or a prefix of it
 pub returns-in-Ok-write_text-clause-searched : goal.returns-in-Ok-write_text-clause-searched
@@ -20,7 +20,7 @@ returns-in-Ok-write_text-clause-searched g c =
     let came = c.in_ok-loaded.ensures in
     let text = c.in-Ok-text_of.text.items in (
       text,
-      all_told c.args.source.now c.args.script.now c.args.options.now.orders c.args.options.now.limit c.args.states loaded.program loaded.answers c.in_ok-loaded.seen.items came.says came.spells came.survey
+      all_told c.args.source.now c.args.script.now c.args.options.now.survey.orders c.args.options.now.survey.limit c.args.options.now.states loaded.program loaded.answers c.in_ok-loaded.seen.items came.says came.spells came.survey
           c.in-Ok.found c.as_slice.result.now text c.says_all.result c.in-Ok.ensures.all c.as_slice.ensures.value c.in-Ok-text_of.ensures c.says_all.ensures,
       subst (Appends (g.W.Write.contents c.args.out.now) (g.W.Write.contents c.write_text.new.out)) c.as_slice-2.ensures.value c.in-Ok-write_text.ensures.ok,
     )
@@ -32,7 +32,7 @@ returns-clause-fault g c =
     let text = c.in-Ok-text_of.text.items in (
       text,
       says_all c.in-Ok.found,
-      all_told c.args.source.now c.args.script.now c.args.options.now.orders c.args.options.now.limit c.args.states loaded.program loaded.answers c.in_ok-loaded.seen.items came.says came.spells came.survey
+      all_told c.args.source.now c.args.script.now c.args.options.now.survey.orders c.args.options.now.survey.limit c.args.options.now.states loaded.program loaded.answers c.in_ok-loaded.seen.items came.says came.spells came.survey
           c.in-Ok.found c.as_slice.result.now text _ c.in-Ok.ensures.all c.as_slice.ensures.value c.in-Ok-text_of.ensures refl,
       subst (AppendsPrefix (g.W.Write.contents c.args.out.now) (g.W.Write.contents c.write_text.new.out)) c.as_slice-2.ensures.value c.in-Err.ensures.err,
     )

@@ -15,8 +15,8 @@ returns-in-Some-clause-shown g c =
     let came = c.in_ok-loaded.ensures in
     let found = c.in-Some.ensures.lookup in
     let there = there_is c.as_slice-seen.result.now c.saturating_sub.result _ c.in-Some.one.now c.saturating_sub.ensures found.3.0 (found.3.1 c.in-Some.one.now) in
-    seen_written c.args.source.now c.args.script.now c.args.options.now.orders c.args.options.now.limit c.args.number loaded.program loaded.answers c.as_slice-seen.result.now came.says came.spells (subst (IsSurvey loaded.program loaded.answers c.args.options.now.limit c.args.options.now.orders) (sym c.as_slice-seen.ensures.value) came.survey)
-    c.args.options.now.limit c.in_ok-played.played c.in-Some.one.now _ _ _ c.write_shown.result there c.as_slice.ensures.value c.in_ok-played.ensures.played c.write_shown.ensures.ok
+    seen_written c.args.source.now c.args.script.now c.args.options.now.survey.orders c.args.options.now.survey.limit c.args.options.now.number loaded.program loaded.answers c.as_slice-seen.result.now came.says came.spells (subst (IsSurvey loaded.program loaded.answers c.args.options.now.survey.limit c.args.options.now.survey.orders) (sym c.as_slice-seen.ensures.value) came.survey)
+    c.args.options.now.survey.limit c.in_ok-played.played c.in-Some.one.now _ _ _ c.write_shown.result there c.as_slice.ensures.value c.in_ok-played.ensures.played c.write_shown.ensures.ok
 
 pub returns-in-Some-clause-fault : goal.returns-in-Some-clause-fault
 returns-in-Some-clause-fault g c =
@@ -24,22 +24,22 @@ returns-in-Some-clause-fault g c =
     let came = c.in_ok-loaded.ensures in
     let found = c.in-Some.ensures.lookup in
     let there = there_is c.as_slice-seen.result.now c.saturating_sub.result _ c.in-Some.one.now c.saturating_sub.ensures found.3.0 (found.3.1 c.in-Some.one.now) in
-    seen_left c.args.source.now c.args.script.now c.args.options.now.orders c.args.options.now.limit c.args.number loaded.program loaded.answers c.as_slice-seen.result.now came.says came.spells (subst (IsSurvey loaded.program loaded.answers c.args.options.now.limit c.args.options.now.orders) (sym c.as_slice-seen.ensures.value) came.survey)
-    c.args.options.now.limit c.in_ok-played.played c.in-Some.one.now _ _ _ c.write_shown.result there c.as_slice.ensures.value c.in_ok-played.ensures.played c.write_shown.ensures.err
+    seen_left c.args.source.now c.args.script.now c.args.options.now.survey.orders c.args.options.now.survey.limit c.args.options.now.number loaded.program loaded.answers c.as_slice-seen.result.now came.says came.spells (subst (IsSurvey loaded.program loaded.answers c.args.options.now.survey.limit c.args.options.now.survey.orders) (sym c.as_slice-seen.ensures.value) came.survey)
+    c.args.options.now.survey.limit c.in_ok-played.played c.in-Some.one.now _ _ _ c.write_shown.result there c.as_slice.ensures.value c.in_ok-played.ensures.played c.write_shown.ensures.err
 
 -- and one that a search found
 pub returns-clause-shown : goal.returns-clause-shown
 returns-clause-shown g c =
     let loaded = c.in_ok-loaded.loaded in
     let came = c.in_ok-loaded.ensures in
-    other_written c.args.source.now c.args.script.now c.args.options.now.orders c.args.options.now.limit c.args.number loaded.program loaded.answers c.as_slice-seen.result.now came.says came.spells (subst (IsSurvey loaded.program loaded.answers c.args.options.now.limit c.args.options.now.orders) (sym c.as_slice-seen.ensures.value) came.survey)
+    other_written c.args.source.now c.args.script.now c.args.options.now.survey.orders c.args.options.now.survey.limit c.args.options.now.number loaded.program loaded.answers c.as_slice-seen.result.now came.says came.spells (subst (IsSurvey loaded.program loaded.answers c.args.options.now.survey.limit c.args.options.now.survey.orders) (sym c.as_slice-seen.ensures.value) came.survey)
     _ _ c.show_unseen.result (omega (arith, c.in_default.ensures.lookup.3, c.saturating_sub.ensures)) c.show_unseen.ensures.ok
 
 pub returns-clause-fault : goal.returns-clause-fault
 returns-clause-fault g c =
     let loaded = c.in_ok-loaded.loaded in
     let came = c.in_ok-loaded.ensures in
-    other_left c.args.source.now c.args.script.now c.args.options.now.orders c.args.options.now.limit c.args.number loaded.program loaded.answers c.as_slice-seen.result.now came.says came.spells (subst (IsSurvey loaded.program loaded.answers c.args.options.now.limit c.args.options.now.orders) (sym c.as_slice-seen.ensures.value) came.survey)
+    other_left c.args.source.now c.args.script.now c.args.options.now.survey.orders c.args.options.now.survey.limit c.args.options.now.number loaded.program loaded.answers c.as_slice-seen.result.now came.says came.spells (subst (IsSurvey loaded.program loaded.answers c.args.options.now.survey.limit c.args.options.now.survey.orders) (sym c.as_slice-seen.ensures.value) came.survey)
     _ _ c.show_unseen.result (omega (arith, c.in_default.ensures.lookup.3, c.saturating_sub.ensures)) c.show_unseen.ensures.err
 
 -- fewer outcomes came up than the number says,
@@ -47,19 +47,19 @@ pub returns-in-None-clause-cause : goal.returns-in-None-clause-cause
 returns-in-None-clause-cause g c =
     let loaded = c.in_ok-loaded.loaded in
     let came = c.in_ok-loaded.ensures in
-    none_with c.args.source.now c.args.script.now c.args.options.now.orders c.args.options.now.limit c.args.number loaded.program loaded.answers c.as_slice-seen.result.now came.says came.spells (subst (IsSurvey loaded.program loaded.answers c.args.options.now.limit c.args.options.now.orders) (sym c.as_slice-seen.ensures.value) came.survey)
-    c.args.number refl (omega (arith, c.in_default.ensures.lookup.3, c.saturating_sub.ensures))
+    none_with c.args.source.now c.args.script.now c.args.options.now.survey.orders c.args.options.now.survey.limit c.args.options.now.number loaded.program loaded.answers c.as_slice-seen.result.now came.says came.spells (subst (IsSurvey loaded.program loaded.answers c.args.options.now.survey.limit c.args.options.now.survey.orders) (sym c.as_slice-seen.ensures.value) came.survey)
+    c.args.options.now.number refl (omega (arith, c.in_default.ensures.lookup.3, c.saturating_sub.ensures))
 
 -- or a search found none to which no order came, or no run that has it
 pub returns-clause-cause : goal.returns-clause-cause
 returns-clause-cause g c = go c.show_unseen.result c.show_unseen.ensures.cause
   where
-    go : (r : Result Unit Unshown) → IfErr r (IsUnshownBy c.args.number) → IfErr r (IsUnshownFor c.args.source.now c.args.script.now c.args.options.now.orders c.args.options.now.limit c.args.number)
+    go : (r : Result Unit Unshown) → IfErr r (IsUnshownBy c.args.options.now.number) → IfErr r (IsUnshownFor c.args.source.now c.args.script.now c.args.options.now.survey.orders c.args.options.now.survey.limit c.args.options.now.number)
     go (Ok u) h = h
     go (Err f) h =
         let loaded = c.in_ok-loaded.loaded in
         let came = c.in_ok-loaded.ensures in
-        unshown_for c.args.source.now c.args.script.now c.args.options.now.orders c.args.options.now.limit c.args.number loaded.program loaded.answers c.as_slice-seen.result.now came.says came.spells (subst (IsSurvey loaded.program loaded.answers c.args.options.now.limit c.args.options.now.orders) (sym c.as_slice-seen.ensures.value) came.survey)
+        unshown_for c.args.source.now c.args.script.now c.args.options.now.survey.orders c.args.options.now.survey.limit c.args.options.now.number loaded.program loaded.answers c.as_slice-seen.result.now came.says came.spells (subst (IsSurvey loaded.program loaded.answers c.args.options.now.survey.limit c.args.options.now.survey.orders) (sym c.as_slice-seen.ensures.value) came.survey)
         f (omega (arith, c.in_default.ensures.lookup.3, c.saturating_sub.ensures)) h
 
 -- a fault of the engine's own comes of no program that was loaded

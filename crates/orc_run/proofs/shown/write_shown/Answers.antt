@@ -1,5 +1,3 @@
-use Rattle.std.proofs.Common.{◌∙◌, ap, not, sym, subst}
-use Rattle.std.specs.Prelude.{IfSome}
 use Rattle.orc_run.proofs.Showing.{journal_of}
 use Rattle.orc_run.proofs.shown.write_shown.Goals as goal
 

@@ -4,8 +4,7 @@ use Rattle.std.specs.List.{AllZip}
 use Rattle.std.proofs.lemmas.Result.{err_from_is_err_and}
 use Rattle.orc_ways.specs.Drafting.{test_of}
 use Rattle.orc_run.specs.Called.{named_of}
-use Rattle.orc_run.specs.Failures.{is_asked}
-use Rattle.orc_run.specs.Tested.{AreScripts}
+use Rattle.orc_run.specs.Tested.{AreScripts, HasFailing}
 use Rattle.orc_run.specs.TestFaults.{IsKnown}
 use Rattle.orc_run.proofs.Testing.{report_of}
 use Rattle.orc_run.proofs.Untold.{unscripted, untold}
@@ -13,8 +12,9 @@ use Rattle.orc_run.proofs.test_command.hold.Goals as goal
 
 pub returns-clause-tested : goal.returns-clause-tested
 returns-clause-tested g c = λ text others read says reads judged are every.
-    report_of c.args.source.now c.args.script.now text (named_of c.args.names.now) c.args.options.now (is_asked c.args.explained.now) (record { source = c.args.source; sites = c.as_slice-sites.result; claims = c.as_slice-claims.result; orders = c.args.options.now.orders; limit = c.args.options.now.limit }) read c.args.test.now c.as_slice-tried.result.now others (g.W.Write.contents c.args.out.now) (g.W.Write.contents c.try_and_write.new.out) c.in_ok-number.number c.args.ways.now are every (subst (AllZip (AreScripts c.args.options.now.ways c.args.script.now) c.args.ways.now) (sym c.as_slice-tried.ensures.value) c.in_ok-cases.ensures.scripts)
-    judged refl c.as_slice-sites.ensures.value c.as_slice-claims.ensures.value refl refl says reads c.in_ok-number.ensures.tested
+    subst (λ e. HasFailing c.args.source.now text c.args.script.now (named_of c.args.names.now) c.args.options.now e (g.W.Write.contents c.args.out.now) (g.W.Write.contents c.try_and_write.new.out) c.in_ok-number.number) c.is_asked-explains.ensures.asked
+    (report_of c.args.source.now c.args.script.now text (named_of c.args.names.now) c.args.options.now c.is_asked-explains.result (record { source = c.args.source; sites = c.as_slice-sites.result; claims = c.as_slice-claims.result; orders = c.args.options.now.orders; limit = c.args.options.now.limit }) read c.args.test.now c.as_slice-tried.result.now others (g.W.Write.contents c.args.out.now) (g.W.Write.contents c.try_and_write.new.out) c.in_ok-number.number c.args.ways.now are every (subst (AllZip (AreScripts c.args.options.now.ways c.args.script.now) c.args.ways.now) (sym c.as_slice-tried.ensures.value) c.in_ok-cases.ensures.scripts)
+    judged refl c.as_slice-sites.ensures.value c.as_slice-claims.ensures.value refl refl says reads c.in_ok-number.ensures.tested)
 
 -- why it wasn't
 pub returns-in_err-cases-clause-cause : goal.returns-in_err-cases-clause-cause

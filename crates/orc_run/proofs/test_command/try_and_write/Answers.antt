@@ -3,8 +3,7 @@ use Rattle.std.proofs.Common.{◌≡◌, refl, rules, subst, sym}
 use Rattle.std.specs.List.{AllZip}
 use Rattle.std.proofs.lemmas.Result.{err_from_is_err_and}
 use Rattle.orc_tally.specs.declared.table.Report.{Report}
-use Rattle.orc_run.specs.Called.{named_of}
-use Rattle.orc_run.specs.Tested.{IsTried, Writes}
+use Rattle.orc_run.specs.Tested.{IsTried}
 use Rattle.orc_run.specs.TestFaults.{AreReported}
 use Rattle.orc_run.proofs.Untold.{unwritten_untold}
 use Rattle.orc_run.specs.Whole.{AreSaid}
@@ -17,7 +16,7 @@ returns-clause-tested g c = (
   subst (AllZip (IsTried c.args.trials.now) c.args.cases.now) (sym c.as_slice-tried.ensures.value) c.in_ok-reports.ensures.tried,
   refl,
   subst (AreSaid c.args.trials.now c.args.test.now.claim_lines.items c.args.cases.now c.as_slice-tried.result.now) (sym c.as_slice-found.ensures.value) c.in_ok-searched.ensures.said,
-  subst (λ e. Writes c.args.trials.now e c.args.ways.now (named_of c.args.names.now) c.args.options.now c.args.cases.now (record { test = c.args.test; cases = c.as_slice-tried.result; orders = c.args.options.now.orders; searched = c.as_slice-found.result }) c.args.options.now.shown (g.W.Write.contents c.args.out.now) (g.W.Write.contents c.write_test.new.out)) c.is_asked.ensures.asked c.in_ok-number.ensures.ok,
+  c.in_ok-number.ensures.ok,
   c.in_ok-number.ensures.number,
 )
 
