@@ -4,7 +4,7 @@ use Rattle.orc_rules.specs.declared.limits.TheConstants.{MOST_ENTRIES, MOST_WORK
 use Rattle.orc_cli.specs.declared.job.Job.{Job}
 use Rattle.orc_cli.specs.declared.job.Job.TheVariants as job
 
--- so many workers, and at most so many entries
+-- so many workers, and at most so many entries: the same as `IsInRange` of `orc_engine`, on which this crate doesn't stand
 abbrev pub IsInRange : ℕ → ℕ → Type 0
 IsInRange workers limit = ((1 ≤ workers) × (workers ≤ MOST_WORKERS)) × ((1 ≤ limit) × (limit ≤ MOST_ENTRIES))
 
