@@ -46,7 +46,7 @@ impl<P: Run + Naming> Book<P> {
         }
     }
 
-    // Time goes on to `time`, of which the ledger's `next` has said that a tick may set it.
+    // Time goes on to `time`, of which the ledger's `next` has said that a tick may set it. The faults are those of `Book::next`.
     fn tick(&mut self, time: u64) -> Result<(), BookFault>
         requires { MayTick P.listing P.sites self.old.ledger time }
         ensures done { OnOk result (self.new.ledger ≡ record self.old.ledger { journal = self.old.ledger.journal ++ Tick time ∷ []; entries = self.old.ledger.entries + 1; now = time }) }

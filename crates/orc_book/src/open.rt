@@ -147,7 +147,7 @@ impl<P: Run + Naming> Book<P> {
             &mut self.cancelled,
         ) {
             Ok(Moved::Forked(other)) => {
-                // The right side's token is in the new group.
+                // The move has put the right side's token into the slot `other`: it is in the new group.
                 let Some(inner) = self.ledger.held(other) else {
                     unreachable!()
                 };
@@ -160,6 +160,7 @@ impl<P: Run + Naming> Book<P> {
                 let two = self.born(other, opened.pass);
                 Ok((one, two))
             }
+            // A move at `f <x< g` has no other outcome.
             Ok(_) => unreachable!(),
             Err(fault) => {
                 // The word is free in the book still: nothing is to be closed, and `left.last` is dropped.
@@ -259,7 +260,7 @@ impl<P: Run + Naming> Book<P> {
             &mut self.cancelled,
         ) {
             Ok(Moved::On) => {
-                // The left side's token is in the new group.
+                // The move has put the left side's token into the same slot: it is in the new group.
                 let Some(inner) = self.ledger.held(token.slot) else {
                     unreachable!()
                 };
@@ -271,6 +272,7 @@ impl<P: Run + Naming> Book<P> {
                 self.words.open(number);
                 Ok(self.born(token.slot, opened.pass))
             }
+            // A move at `f ; g` has no other outcome.
             Ok(_) => unreachable!(),
             Err(fault) => {
                 let left = groups.leave(opened.pass);

@@ -129,6 +129,7 @@ impl<P: Naming> WordTable<P> {
     {
         // Shows the prover that there are at most as many words as a `usize` counts, so that `dying` doesn't overflow.
         let _room = self.stands.capacity();
+        // By `requires` the word stands for an open group.
         let Some(stand) = self.stands.get_mut(word as usize) else {
             unreachable!()
         };

@@ -36,7 +36,7 @@ impl Marked {
         if let Some(_) = ended_side(&self.nodes, &self.flags, &mut self.candidates) {
             return true;
         }
-        // Takes the nodes without tokens from the list that the next call goes over.
+        // Shortens the list of nodes that `can_some_move` looks at: those without a token go.
         self.nodes.tidy();
         can_some_move(
             program,

@@ -95,7 +95,7 @@ struct Plan {
 struct Tally {
     // How many jobs there were.
     count: usize,
-    // How many sub-runs gave a result that can replace the call.
+    // How many sub-runs gave a result (`SubRunResult::Over`).
     over: usize,
     // How many sub-runs stopped at their limit.
     long: usize,
@@ -315,7 +315,7 @@ where
         ensures spread { IfOk result (λ _. HasSpread scheduler.old.ledger (deque_len scheduler.old.ready.handles) scheduler.new.ledger (deque_len scheduler.new.ready.handles)) }
         ensures stops { IfErr result (λ stop. Stops P.listing scheduler.new.ledger stop) }
     {
-        // First calls that race nobody, then those that do.
+        // First calls that race nobody, then those that do. Where memory for their list is refused, the run makes them itself.
         let Ok(mut jobs) = scheduler.jobs(self.inputs, false) else {
             return Ok(Trial::Vain);
         };

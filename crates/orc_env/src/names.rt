@@ -13,7 +13,8 @@ use orc_rules::value::Value;
 #[derive(Clone, Copy)]
 pub enum Bound {
     Is(Value),
-    /// A cell, by its number from 1. In the table of cells, a cell that is neither bound nor lost has its own number.
+    /// A cell, by its number from 1. That is its place in the table of cells, where place 0 stands for no cell, and a cell that is neither bound nor
+    /// lost has its own number.
     Cell(u64),
     /// Nothing: the cell was lost, so there will never be a value.
     Void,

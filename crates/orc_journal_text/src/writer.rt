@@ -1,4 +1,4 @@
-//! Writing one entry as its line, and values as text.
+//! Writing one entry as its line, and values as text. A `Tail` grows at its front: the fields of a line are put from the last one to the first.
 
 ghost use Rattle.std.specs.Prelude.{◌≡◌, ◌++◌, ◌<◌, OnOk, length, ◌∷◌, []};
 ghost use Rattle.orc_rules.specs.Text.{value_text, closing, arguments, call, line, output, IsNamed};
@@ -114,7 +114,6 @@ pub fn write_entry(entry: &Entry, answers: &Answers, out: &mut Vec<u8>) -> Resul
     requires { IsNamed answers.now.names entry.now }
     ensures { OnOk result (out.new.items ≡ out.old.items ++ line answers.now.names entry.now) }
 {
-    // A tail grows at its front: the fields are put from the last one to the first.
     let mut line = Tail::new();
     line.put(b"\n");
     match entry {

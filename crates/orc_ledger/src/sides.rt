@@ -3,6 +3,9 @@
 //! Of the clauses `held` says that the token is in the slot, `at` or `form` what it is on, `done` what becomes of the records, `others` which tokens
 //! stay in their slots, `refused` that a refused call changes nothing, and `why` its cause. `taker path ≡ aiding cell p` says that the right side of
 //! that cell is the nearest that takes what the token publishes.
+//!
+//! A function that writes an entry first asks `within` whether the limits allow it. The arguments are how many tokens and how many groups the entry
+//! adds, and in how many left sides of a `>x>` it puts a token: 0 here, where none is entered.
 
 ghost use Rattle.std.specs.Prelude.{◌≡◌, ◌+◌, ◌-◌, ◌++◌, ◌∷◌, [], ◌<◌, true, length, map, false, IfOk, OnOk, OnErr, IfErr, slice_set};
 ghost use Rattle.orc_rules.specs.Nodes.{code};

@@ -197,6 +197,7 @@ fn append_held(
     }
     let len = held.len();
     held.append(part, numbering)?;
+    // The numbers come last: where memory for them is refused, the entries are taken back.
     let passed = calls.skip_numbers(made);
     if passed.is_err() {
         held.truncate(len);

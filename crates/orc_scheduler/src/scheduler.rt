@@ -311,7 +311,8 @@ impl<P: Run> Scheduler<P> {
         }
     }
 
-    // Whether the token would publish a value of the run next, which is held back.
+    // Whether the token would publish a value of the run next, which is held back. A value in the left side of an otherwise, where the token's step
+    // isn't 0, is published.
     #[inline(always)]
     fn is_held_back(&self, inputs: &Inputs<'_, P>, token: &Token) -> bool {
         self.holding.is_on()
@@ -520,6 +521,7 @@ impl<P: Run> Scheduler<P> {
                         // No token at `f >x> g` calls or waits.
                         Passed::Calls => Ok(None),
                         Passed::Waits => Ok(None),
+                        // The token stands in f, on the answer of the call there, or in g.
                         _ => Ok(Some(Step::On(slot))),
                     },
                     Err(fault) => {
@@ -695,6 +697,7 @@ impl<P: Run> Scheduler<P> {
                 }
                 // The program's own group isn't open.
                 Err(HaltFault::Gone) => return Ok(()),
+                // `is_empty` has said that it has no members.
                 Err(HaltFault::Live) => unreachable!(),
             };
             match halted {

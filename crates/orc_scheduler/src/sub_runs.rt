@@ -21,8 +21,9 @@ pub enum SubRunResult<P: Run> {
     Nothing,
     /// The sub-run stopped at its limit of entries.
     Long,
-    /// The sub-run can replace the call. That of an *outermost* call, whose publications are the program's, has published all that the call does; any
-    /// other has yielded one value or none.
+    /// The sub-run is over. That of an *outermost* call, whose publications are the program's, has published all that the call does. Any other has
+    /// yielded one value or none, and can replace the call; or it has published from the left side of an otherwise, and then it isn't merged
+    /// (`SubRun::is_of`).
     Over(SubRun<P>),
 }
 
@@ -99,6 +100,7 @@ fn came_of<P: Run>(
     else {
         return SubRunResult::Nothing;
     };
+    // `Brand` is a name for the sub-run: the proof of this call says that its program is `own`.
     run_apart::<Brand, P>(alloc, &own, inputs.answers, keeps, task, limit)
 }
 

@@ -88,6 +88,7 @@ fn call_fault(
             },
             span,
         ),
+        // The call has as many as the definition wants. `Known` has an arity of each definition, so there is no None here.
         _ => None,
     }
 }

@@ -299,8 +299,8 @@ fn entered(
     }))
 }
 
-// The number of what `f <x< g` becomes when it opens: in f the new cell takes the place of x. Its number is the depth of the pruning. The error is
-// refused memory.
+// The number of what `f <x< g` becomes when it opens: in f the new cell takes the place of x. The cell's number is the depth of the pruning (`Spot`).
+// The error is refused memory.
 fn opened(
     terms: &mut Terms,
     alloc: Global,
@@ -321,7 +321,8 @@ fn opened(
 }
 
 // The number of what two joined terms become by themselves; None if they do nothing but by a part. All such steps are silent: a pruning opens, an
-// otherwise goes to its right side, or a cell is lost. The error is refused memory.
+// otherwise goes to its right side, or a cell is lost. `depth` is that of the joined term (`Spot`), and so the number of the cell that opens or is
+// lost. The error is refused memory.
 fn turned(
     terms: &mut Terms,
     alloc: Global,
@@ -441,7 +442,7 @@ fn silent(turned: Option<usize>) -> Option<Successor>
     }
 }
 
-// The step of a part, if it has one, as a step of the whole, which `path` encloses it in. The error is refused memory.
+// The step of a part, if it has one, as a step of the whole; `path` has the frames around the part. The error is refused memory.
 fn whole_of(
     terms: &mut Terms,
     alloc: Global,

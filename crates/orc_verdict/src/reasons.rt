@@ -53,6 +53,7 @@ fn asks_for(entry: &Entry) -> Asked
         Entry::Lost(c) => Asked::Cell(*c),
         Entry::Right(s, _) => Asked::Otherwise(*s),
         Entry::Tick(_) => Asked::Nothing,
+        // A bind takes the calls that it cancels out of the term. `is_in_turn` tests the number.
         Entry::Cancel(_) => Asked::Nothing,
     }
 }
@@ -190,6 +191,7 @@ fn are_next(entry: &Entry, mark: u64, call: u64, cell: u64) -> bool
         Entry::Call(_, k, _, _) => *k == call,
         Entry::Return(_, a, _) => *a == mark,
         Entry::Right(_, a) => *a == mark,
+        // All other entries have no new number.
         _ => true,
     }
 }
