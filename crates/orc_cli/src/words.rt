@@ -136,6 +136,7 @@ fn form_of(given: &ArgMatches) -> Option<Form> {
     let theme = match given.get_str("theme")? {
         "light" => Theme::Light,
         "dark" => Theme::Dark,
+        // `auto`: `clap` takes no other word.
         _ => Theme::Auto,
     };
     Some(Form::Svg(theme))

@@ -241,6 +241,7 @@ impl<'a> Sheet<'a> {
         let letter = self.size.letter;
         page.form("</title><style>text{font:@", &[letter]);
         page.say(FAMILY);
+        // `FAMILY` ends where the size of a call's number is to follow: 0.85 of that of a label.
         page.form("%px}", &[letter.saturating_mul(850_000)]);
         page.say(if theme == Theme::Dark { DARK } else { LIGHT });
         if theme == Theme::Auto {
@@ -268,7 +269,7 @@ impl<'a> Sheet<'a> {
         let instants = &self.picture.slots.instants;
         let are_bands = instants.len() <= MOST_BANDS;
         let height = self.bottom().saturating_sub(HEAD);
-        // Where the last label ends; a label that would touch it is left out.
+        // Where the last label ends, whose digits are 7 pixels wide. A label that would come near to it is left out.
         let mut last: u64 = 0;
         for (i, instant) in instants.iter().enumerate() {
             let begin = self.band(i);

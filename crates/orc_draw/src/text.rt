@@ -158,6 +158,7 @@ impl<'a> Columns<'a> {
     }
 
     // Writes the line of times. A number that would touch the one before it is left out, and so is one that would touch that of the last time.
+    // `written` counts the columns of the plot that are filled so far.
     fn times(&self, page: &mut Page) {
         self.head(page, "time", 0);
         self.number(page, None);
@@ -191,7 +192,7 @@ impl<'a> Columns<'a> {
             let begin = self.column(some.first);
             let next = match all.get(i.saturating_add(1)) {
                 Some(next) => self.column(next.first),
-                // Behind the plot there is room.
+                // The last values may go on behind the plot, for 40 columns.
                 None => self.right().saturating_add(40),
             };
             let width = some.width();

@@ -48,7 +48,7 @@ impl Groups {
         }
     }
 
-    // Adds a call with its number to the group of its spot.
+    // Adds a call with its number to the group of its spot. The error is refused memory.
     fn add(&mut self, made: Made, number: u64) -> Result<(), AllocError> {
         let place = self.places.get(&made.spot).copied();
         match place {
@@ -186,7 +186,7 @@ fn missed(page: &mut Page, lines: &ScriptLines, line: &ScriptLine, args: &[Value
 }
 
 impl Remarks {
-    // Of all calls of the run. The error is refused memory.
+    // What is to be said of the run's calls and of the lines of its script. The error is refused memory, here and below.
     fn new(alloc: Global, scene: &Scene, lines: &ScriptLines) -> Result<Remarks, AllocError> {
         let mut remarks = Remarks {
             wrong: Groups::new(alloc),
@@ -198,6 +198,7 @@ impl Remarks {
         Ok(remarks)
     }
 
+    // Notes each line of the script as one that has answered no call, and then each call of the run.
     fn read(&mut self, scene: &Scene, lines: &ScriptLines) -> Result<(), AllocError> {
         for _rule in &lines.list {
             self.used.push(false)?;

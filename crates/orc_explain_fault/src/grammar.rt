@@ -8,8 +8,8 @@ use crate::words::{CONSTANTS, is_one_of};
 use orc_report::Near;
 use orc_site::line::is_reserved_word;
 
-/// A place in a line, between two pieces. Most are named by what may stand there next (`Bracket`, `Pattern`), those on `End` by what has been read
-/// (`PatternEnd`: a pattern); `wanted` says in words what may follow at each.
+/// A place in a line, between two pieces. Most are named by what may stand there next (`Bracket`, `Pattern`), those that end in `End` by what has
+/// been read (`PatternEnd`: a pattern); `wanted` says in words what may follow at each.
 #[derive(Clone, Copy, PartialEq, Eq)]
 pub(crate) enum Place {
     Line,
@@ -36,20 +36,26 @@ pub(crate) enum Place {
     // Claims.
     Claim,
     Bound,
+    /// Behind `at most`: a number.
     Most,
     MostEnd,
     Once,
     Count,
+    /// Behind `exactly N` or `at least N` and its event; also behind `ends Halted or Quiet`, where the same may follow.
     CountEnd,
     Units,
+    /// Behind `no` and its event.
     NoneEnd,
+    /// Behind `each` and its event.
     EachEnd,
+    /// Behind `each .. then` and its second event.
     WithinEnd,
     Only,
     OnlyAfter,
     Condition,
     Then,
     Ends,
+    /// Behind `ends Halted or`, or `ends Quiet or`: a second end.
     EndsMore,
     EndsEnd,
     Values,
@@ -61,12 +67,15 @@ pub(crate) enum Place {
     Order,
     // Events.
     Event,
+    /// Behind the word `published`.
     Published,
+    /// Behind the name of a site: its `(`.
     Open,
     Slots,
     SlotEnd,
     Slot,
     CallEnd,
+    /// Behind the word `answered`.
     Answered,
     EventEnd,
 }

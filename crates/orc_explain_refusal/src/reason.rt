@@ -41,6 +41,7 @@ impl Refused<'_> {
                 end: self.line.len(),
             },
         };
+        // How many columns are left out at the front of a long line. `left_out` takes the column of the part, from 1.
         let first = left_out((part.start as u64).saturating_add(1));
         page.row(self.number, self.line, first, part.start);
         page.carets(self.line, first, part);
@@ -88,6 +89,7 @@ impl Refused<'_> {
                     &[Fill::Grouped(MOST_LEVELS as u64)],
                 );
             }
+            // Refused memory says nothing of the entry.
             RuleFault::Memory => {}
         }
     }

@@ -1,7 +1,8 @@
 //! What is written of each node of a marked term, and of each node of the program that isn't begun yet.
 //!
 //! A node of the marked term has begun; what a token still has to do, and the right sides of `>x>` and of `;`, are nodes of the program, in a scope
-//! that says what their names mean. `wanted` is how tightly a part has to bind to need no brackets.
+//! that says what their names mean. `wanted` is how tightly a part has to bind to need no brackets. The *way* (`way.rt`) leads from the node that the
+//! refused entry names, at place 0, up to the whole.
 
 use crate::sign::Sign;
 use crate::strip::{AHEAD, Note, Side, Strip};
@@ -206,6 +207,7 @@ impl<'r, 's> Strip<'r, 's> {
         let (name, list) = match called.node {
             TermNode::Site(site, list) => (self.names.site(site), list),
             TermNode::Call(definition, list) => (self.names.definition(definition), list),
+            // `called` gives no other node.
             _ => return,
         };
         self.page.word(name);

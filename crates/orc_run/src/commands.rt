@@ -638,6 +638,8 @@ where
 /// - 2: the command line was refused. Nothing was written to standard output.
 /// - 3: the whole text of a run that ended quiet was written.
 /// - 4: the whole text of a run that was cut, by its limit or one of the engine's, was written; or that of a search that didn't find all outcomes.
+///
+/// docs/orc.md, *Statuses*, has the others.
 #[tactic(auto, using(crate::proofs::Coming::kept_at_two, crate::proofs::Coming::failed_or_kept, crate::proofs::Coming::ended_quiet, crate::proofs::Coming::ended_cut))]
 pub fn command<R, S, F, W, V>(
     rt: &R,

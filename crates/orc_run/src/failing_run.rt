@@ -136,8 +136,8 @@ pub(crate) fn write_in_order<W: Write>(
     }
 }
 
-// A run that breaks a claim: the search through the way's schedules says what the claim sees of such a run, and then a run is looked for of which it
-// sees just that. None where none is found. The error is refused memory.
+// A run of at most `limit` entries that breaks a claim: the search through the way's schedules, through `most` states at most, says what the claim
+// sees of such a run, and then a run is looked for of which it sees just that. None where none is found. The error is refused memory.
 fn witness_in(
     alloc: Global,
     way: &Way<'_>,

@@ -124,8 +124,8 @@ fn judge_lines<R: Read + Drop>(
 /// with the number of entries and where the run stands. The text is read piece by piece, and nothing of it is kept.
 ///
 /// A fault is answered where the source's text, the script, the source's names, the journal's text or one of its entries is at fault, in
-/// this order; where the journal couldn't be read to its end; and where the output isn't taken whole. Nothing is written then, but at a fault
-/// of the output a prefix of the line.
+/// this order; where the journal couldn't be read to its end; and where the output isn't taken whole or memory for the line is refused. Nothing is
+/// written then, but at a fault of the output a prefix of the line.
 pub fn check_read<R: Read + Drop, W: Write>(
     alloc: Global,
     source: &[u8],

@@ -18,8 +18,8 @@ ghost use Rattle.orc_cli.specs.declared.job.Wanted.TheVariants as what;
 use crate::faults::RunFault;
 use crate::times::write_times;
 use crate::unordered::run_unordered;
-// The engine. Another one with the same contract takes its place here.
 use orc_cli::{Options, Order, Wanted};
+// The engine. Another one with the same contract takes its place here.
 use orc_engine::{EngineFault, run_alone, run_parallel};
 use orc_load::{Loaded, load};
 use orc_outcome::{Played, Summary};

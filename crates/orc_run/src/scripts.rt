@@ -118,7 +118,7 @@ pub(crate) fn script_at(cases: &[CaseScripts], found: Counterexample) -> Result<
 }
 
 /// The lines that tell a failure's way from other ways of its case: those where a call takes another alternative than the first, or one with a range.
-/// The fault is refused memory.
+/// Empty for a case that isn't there, though a failure's case always is. The fault is refused memory.
 pub(crate) fn unusual_lines(
     alloc: Global,
     ways: &[Ways],

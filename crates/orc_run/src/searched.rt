@@ -63,8 +63,8 @@ impl<'w> Way<'w> {
         })
     }
 
-    // Searches the way's schedules, through `most` states at most, for a run that breaks a claim. `explorer` is that of this way: it keeps what one
-    // search has found out for the next claim. The error is refused memory.
+    // Searches the way's schedules, through `most` states at most, for a run that breaks a claim; that none does is said of runs of at most `limit`
+    // entries. `explorer` is that of this way: it keeps what one search has found out for the next claim. The error is refused memory.
     fn search_on(
         &self,
         alloc: Global,
@@ -81,8 +81,7 @@ impl<'w> Way<'w> {
         Ok(found)
     }
 
-    /// Searches the way's schedules, through `most` states at most, for a run that breaks a claim, and keeps nothing for another search. The error is
-    /// refused memory.
+    /// Searches as `search_on` does, and keeps nothing for another search. The error is refused memory.
     pub(crate) fn search(
         &self,
         alloc: Global,
@@ -339,7 +338,7 @@ impl Searcher<'_, '_> {
         Ok(after)
     }
 
-    // What is said of each claim after the ways of the case at this place.
+    // What is said of each claim after the ways of the case at this place, whose scripts `its` has.
     fn say_of_case(
         &self,
         case: usize,

@@ -55,7 +55,7 @@ impl Wanted for Outcome<'_> {
         0
     }
 
-    // A value that isn't the next wanted one ends this way.
+    // A value that isn't the next wanted one must not come.
     fn after(&self, seen: usize, _time: u64, happened: Happened<'_>) -> Option<usize> {
         let Happened::Published(value) = happened else {
             return Some(seen);

@@ -183,7 +183,7 @@ impl<'a> Draft<'a> {
         Ok(true)
     }
 
-    // Adds a line of this kind; false if it isn't allowed here. The error is refused memory.
+    // Adds a line of this kind; false if it isn't allowed here, and then nothing changes. The error is refused memory.
     #[tactic(auto, unfolding(crate::specs::Drafts::placed))]
     fn place(&mut self, number: usize, line: &'a [u8], kind: Kind<'a>) -> Result<bool, AllocError>
         ensures { IfOk result (λ good. IsPlaced (placed (draft_of self.old) number line.now (kind_of kind.entry)) (draft_of self.new) good) }
@@ -198,8 +198,8 @@ impl<'a> Draft<'a> {
         }
     }
 
-    /// Reads one line more, without its LF, whose number, from 1, is handed in. The error is refused memory. After an error, `NoLine` and `NoPlace`
-    /// the draft may have some of what the line names, so it is of no further use.
+    /// Reads one line more: `number` is its number, from 1, and `line` its text without the LF. The error is refused memory. After an error, `NoLine`
+    /// and `NoPlace` the draft may have some of what the line names, so it is of no further use.
     #[tactic(auto, unfolding(crate::specs::Drafts::read_line))]
     pub fn read_line(
         &mut self,

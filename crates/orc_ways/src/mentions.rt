@@ -41,7 +41,7 @@ fn some_arguments(tokens: &[Token<'_>]) -> Option<usize>
     None
 }
 
-// How many arguments stand before the `)`, of the tokens behind the `(`: 0 for `()`.
+// How many arguments stand before the `)`, of the tokens behind the `(`: 0 for `()`. None as of `some_arguments`, or if no token is left.
 fn arguments_to_bracket(tokens: &[Token<'_>]) -> Option<usize>
     ensures { result ≡ arguments_behind (tokens_of tokens.now) }
 {
@@ -57,7 +57,7 @@ fn arguments_to_bracket(tokens: &[Token<'_>]) -> Option<usize>
     }
 }
 
-// How many arguments stand in the brackets with which the tokens begin; None if they don't begin with brackets.
+// How many arguments stand in the brackets with which the tokens begin; None if they don't begin with brackets of up to `MOST_ARGUMENTS`.
 fn arguments(tokens: &[Token<'_>]) -> Option<usize>
     ensures { result ≡ arguments_at (tokens_of tokens.now) }
 {
@@ -73,7 +73,7 @@ fn arguments(tokens: &[Token<'_>]) -> Option<usize>
     }
 }
 
-// The name that the token is, and how many arguments stand in the brackets behind it; None if it is no name or no brackets follow.
+// The name that the token is, and how many arguments stand in the brackets behind it; None if it is no name or no such brackets follow.
 fn mention<'a>(token: &Token<'a>, behind: &[Token<'a>]) -> Option<(&'a [u8], usize)>
     ensures { Gives (λ x. (x.0.now, x.1)) result (mention_at (token_of token.now) (tokens_of behind.now)) }
 {
