@@ -20,6 +20,7 @@ use std::mem;
 /// killed groups (`sweep`). With more slots it waits until more words are in use, so that each bind pays for few looks.
 const FEW_DYING: usize = 64;
 
+/// However many slots there are, it looks through them once killed groups use this many words.
 const MOST_DYING: usize = 512;
 
 /// Why the replay of an entry fails.
@@ -494,6 +495,7 @@ impl<P: Run + Naming> Replay<P> {
             .bind(setup.groups, setup.inputs, token, leave, cancelled)
     }
 
+    // How many words killed groups may use before the replay sweeps: as many as a 16th of the slots, but from `FEW_DYING` to `MOST_DYING`.
     fn most_dying(&self) -> usize {
         let most = self.out.len() / 16;
         if most < FEW_DYING {

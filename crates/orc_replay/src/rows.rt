@@ -56,7 +56,7 @@ fn word<P: Run>(ledger: &Ledger<P>, inputs: &Inputs<'_, P>, serial: u64) -> Opti
     None
 }
 
-// Whether the lines are entries, and the ledger has done them.
+// Whether the lines are entries, and the ledger has done them. A cancel is passed over, since it has come with its bind.
 fn does<P: Run>(replay: &mut Replay<P>, inputs: &Inputs<'_, P>, lines: &str) -> bool {
     let mut entry = Entry::Tick(0);
     let mut rest = lines.as_bytes();
@@ -73,6 +73,7 @@ fn does<P: Run>(replay: &mut Replay<P>, inputs: &Inputs<'_, P>, lines: &str) -> 
     rest.is_empty()
 }
 
+// Does a step, or asks the ledger: whether the ledger does, says or refuses what the step wants.
 fn is_so<P: Run>(replay: &mut Replay<P>, inputs: &Inputs<'_, P>, step: &Step) -> bool {
     match *step {
         Step::Does(lines) => does(replay, inputs, lines),
@@ -137,6 +138,7 @@ fn wrong_step<P: Run>(
     }
 }
 
+// The step of a row that doesn't hold, as `wrong_step` has it; 0 also where no graph of the program is made. None if all holds.
 fn fault_of(alloc: Global, row: &Row) -> Option<usize> {
     let Ok(loaded) = load(alloc, row.source.as_bytes(), row.script.as_bytes()) else {
         return Some(0);
@@ -172,6 +174,7 @@ pub(crate) const WAITS: [Row; 4] = [
             Step::Halted(true),
         ],
     },
+    // The cell is lost, so the token that waits for it ends (`void`), and the otherwise goes to its right side.
     Row {
         source: "(Add(x, 1) <x< stop) ; 7",
         script: "",
@@ -199,6 +202,7 @@ pub(crate) const WAITS: [Row; 4] = [
 
 /// Calls are answered when they are due.
 pub(crate) const CALLS: [Row; 6] = [
+    // An answer is refused before its time, if it isn't the table's, and once the call was answered.
     Row {
         source: "(Rwait(3) >> Ift(false)) ; 9",
         script: "",
@@ -229,6 +233,7 @@ pub(crate) const CALLS: [Row; 6] = [
             Step::Halted(true),
         ],
     },
+    // A call that is due isn't due any more once it was cancelled.
     Row {
         source: "x <x< (1 | Add(2, 3))",
         script: "",
@@ -269,6 +274,7 @@ pub(crate) const CALLS: [Row; 6] = [
             Step::Does("return 2 4 1\n"),
         ],
     },
+    // A call that is never answered isn't due: of the two only the second one is, and then the run is quiet.
     Row {
         source: "A() | A()",
         script: "A() = never then 1",
@@ -282,7 +288,8 @@ pub(crate) const CALLS: [Row; 6] = [
     },
 ];
 
-// Moves the token in slot 0 until the ledger refuses a move. Gives how many entries the journal has then, and the reason.
+// Moves the token in slot 0 until the ledger refuses a move. Gives how many entries the journal has then, and the reason. None if the ledger can't
+// begin, or no token is in slot 0 any more.
 fn refused_at<P: Run>(
     alloc: Global,
     graph: &Graph,
@@ -295,6 +302,7 @@ fn refused_at<P: Run>(
     requires limit { limit ≡ P.limit }
 {
     let inputs = Inputs::new(graph, answers);
+    // The contract of `begin` wants a limit from 1 to `MOST_ENTRIES`.
     if limit < 1 || limit > 10_000_000 {
         return None;
     }
@@ -310,6 +318,7 @@ fn refused_at<P: Run>(
     Some((ledger.entries(), LedgerFault::Limit))
 }
 
+// What `refused_at` gives of the program of a source, without a script. None also if no graph of the program is made.
 fn refused(alloc: Global, source: &[u8], limit: usize) -> Option<(usize, LedgerFault)> {
     let loaded = load(alloc, source, b"").ok()?;
     let graph = Graph::build(alloc, &loaded.program).ok()?;

@@ -143,7 +143,7 @@ impl<R: Threads + Wait + Sync> Streams<'_, R> {
         Ok(())
     }
 
-    // A program that publishes nothing writes nothing, and so needs no writer.
+    // A writer that takes nothing fails each command that has something to write. A program that publishes nothing needs no writer.
     fn fails_at_a_writer_that_takes_nothing(&mut self) -> io::Result<()> {
         for words in [RUN, OUTCOMES, SEARCH, CHECK, PRINT, VERSION].iter() {
             self.is_unwritten(words, &mut IdleWriter)?;

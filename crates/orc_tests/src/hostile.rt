@@ -57,7 +57,7 @@ fn answers_of_other_calls_are_found(rt: HostRuntime) {
     }
 }
 
-// Makes a run whose sites answer calls in this manner, and gives its result.
+// Makes a run whose sites answer calls in this manner, and gives its result. None if the text is no program.
 fn by_odd<R: Threads + Wait + Sync>(
     rt: &R,
     alloc: Global,
@@ -75,6 +75,7 @@ fn by_odd<R: Threads + Wait + Sync>(
     Some(run_pool(rt, alloc, program, answers, &sites, &Open, options))
 }
 
+// Programs, and what their calls answer in place of the table's answers.
 const SILENT: [(&[u8], Manner); 6] = [
     (b"Add(1, 1)", Manner::Zero),
     (b"Add(1, 1)", Manner::Nothing),
@@ -166,6 +167,7 @@ fn is_told<R: Threads + Wait + Sync>(
     }
 }
 
+// Programs that halt, with calls of which some may be cancelled.
 const TOLD: [&[u8]; 6] = [
     b"x <x< (Rwait(2) >> 20 | Rwait(1) >> 10)",
     b"x <x< (Rwait(5) | Rwait(9) | Rwait(7))",
@@ -211,6 +213,7 @@ fn counts_no_more<R: Threads + Wait + Sync>(
     }
 }
 
+// Programs that publish 4 alone if call 1 is held until it is cancelled.
 const CANCELLED: [&[u8]; 3] = [
     // Polled at once, and polled again when both are due.
     b"x <x< (Add(1, 1) | Add(2, 2))",
@@ -245,8 +248,8 @@ fn a_call_that_was_cancelled_counts_no_more(rt: HostRuntime) -> Result<(), Fail>
     Ok(())
 }
 
-// Call 1 is in a side that is dropped at once, and is held while more races than there may be groups come and go. The dropped group's word must
-// become free all the same.
+// Call 1 is in a side that is dropped at once. It is held until 4,000 calls have come to the gate, while hundreds of races open groups and end. The
+// dropped group's word must become free all the same.
 fn takes_no_group<R: Threads + Wait + Sync>(rt: &R, alloc: Global, workers: usize) -> bool {
     let source =
         b"def loop(n) = Lt(n, 1100) >b> (Iff(b) >> n | Ift(b) >> (x <x< (n | Never() | Rwait(5))) >> Add(n, 1) >m> loop(m))
@@ -268,6 +271,7 @@ fn a_held_call_takes_no_group(rt: HostRuntime) {
     }
 }
 
+// Whether a journal cancels the call with this number.
 fn cancels(journal: &Journal, wanted: u64) -> bool {
     for at in 0..journal.len() {
         if matches!(journal.get(at), Some(Entry::Cancel(number)) if number == wanted) {

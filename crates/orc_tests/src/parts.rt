@@ -104,6 +104,7 @@ fn mark_and_leave<J: Naming>(groups: &Groups<J>, pass: Pass<J>) -> (bool, bool)
     (won, last)
 }
 
+// Whether just one of two passes won the mark, and just one was the last to leave, each on a thread of its own.
 fn in_two_threads<J, R>(rt: &R, groups: &Groups<J>, first: Pass<J>, second: Pass<J>) -> bool
 where
     J: Naming + Send + Sync,
@@ -209,6 +210,7 @@ fn push_all(alloc: Global, mut own: Own<u64>, done: &AtomicU64) -> Result<Vec<u6
     Ok(kept)
 }
 
+// What the owner of a queue kept, and what each of two other threads stole.
 fn share_out(
     rt: &(impl Threads + Wait + Sync),
     alloc: Global,
@@ -410,6 +412,7 @@ fn rwait<'a>(
     Ok(Some(Scripted::new(answers).call(&request)?))
 }
 
+// Polls a call once, as the one task of this thread (`Solo`): its answer, or None while it is pending.
 fn poll(solo: &Solo, call: &mut SiteCall<'_>) -> Option<Answer> {
     let mut cx = solo.begin();
     let polled = call.poll(&mut cx);
