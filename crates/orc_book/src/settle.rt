@@ -46,11 +46,11 @@ fn bury_one<P: Run, J: Naming>(
     if is_there(ledger, number) {
         return;
     }
+    // A post keeps the word of its last group. That word may be free since, or stand for a killed group or another open one: then it stays as it is.
     let word = word_in(posts, number);
     let Kind::Open(stood) = words.kind(word) else {
         return;
     };
-    // A post keeps the word of its last group, which may stand for another group since.
     if stood != number {
         return;
     }

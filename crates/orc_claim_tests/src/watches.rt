@@ -19,6 +19,7 @@ fn test_of<'a>(alloc: Global, text: &'a [u8]) -> Result<Test<'a>, AllocError> {
     }
 }
 
+// What a search keeps for the claim of a test. None if a search can't watch for it. The errors are those of `test_of`, or that there is no claim.
 fn watch_of(alloc: Global, text: &[u8]) -> Result<Option<Watch>, AllocError> {
     let test = test_of(alloc, text)?;
     match test.claims.first() {
@@ -37,6 +38,7 @@ const LATEST: [(&[u8], Option<u64>); 7] = [
     ),
     (b"always\nat most 1 Rwait(_)", Some(0)),
     (b"always\nat most 1 Rwait(_) by 5", Some(6)),
+    // The greatest number that a text may have, 2^63 - 1.
     (
         b"always\nat most 1 Rwait(_) by 9223372036854775807",
         Some(9_223_372_036_854_775_808),

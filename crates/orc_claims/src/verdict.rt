@@ -68,7 +68,8 @@ impl Plain {
         }
     }
 
-    // Whether the run as a whole is as the claim asks: enough happenings, its end, all that it published. The error is refused memory.
+    // Whether the run as a whole is as the claim asks: enough happenings, its end, all that it published. Other claims ask nothing of the whole. The
+    // error is refused memory.
     fn is_kept(
         &self,
         alloc: Global,
@@ -124,6 +125,7 @@ impl Plain {
     fn is_tested(&self, alloc: Global, happenings: &[Happening]) -> Result<bool, AllocError>
         ensures { IfOk result (λ tested. tested ≡ tests_plain self.now happenings.now) }
     {
+        // Scratch memory of `any_meets`.
         let mut found = Vec::new(alloc);
         match self {
             Plain::Count(event, _, most, by) => {
@@ -150,6 +152,7 @@ fn come_true(
     ensures { IfOk result (λ all. all ≡ come_true conditions.now happenings.now) }
 {
     let mut found = Vec::new(alloc);
+    // Not a `for`: the loop's invariant speaks of the rest of the list.
     let mut rest = conditions;
     loop {
         match rest {

@@ -24,7 +24,7 @@ const TOP: u64 = 98;
 // How far down the dots of publications are, in pixels.
 const PUBLICATIONS: u64 = 68;
 
-// With more times than these, times have thin lines in place of bands.
+// With more times than these there are no bands, but a thin line at each time that has a label.
 pub(crate) const MOST_BANDS: usize = 40;
 
 // With more publications than these, they have no lines down through the rows.
@@ -80,7 +80,8 @@ fn pixels(count: u64) -> u64 {
     count.saturating_mul(PARTS)
 }
 
-// The size of rows where there are so many, the deepest of which stands in `depth` others: many rows are lower, and deep ones are less indented.
+// The size of rows where there are so many, the deepest of which stands in `depth` others: many rows are lower, and deep ones are less indented, so
+// that no row is indented by more than 112 pixels, 8 times 14.
 fn size_of_rows(rows: u64, depth: u64) -> Size {
     let (row, bar, letter) = if rows <= 60 {
         (24, 13, 12)
@@ -102,7 +103,8 @@ fn size_of_rows(rows: u64, depth: u64) -> Size {
     }
 }
 
-// The width of the labels, each with its call's number, in parts. A letter is 0.602 of its height wide.
+// The width of the labels, each with its call's number, in parts: what the longest one needs, but 120 to 340 pixels, and 14 more to the plot's frame.
+// A letter is 0.602 of its height wide.
 fn gutter_of(picture: &Picture, size: &Size) -> u64 {
     let mut widest = pixels(120);
     for row in &picture.rows.rows {
@@ -264,7 +266,7 @@ impl<'a> Sheet<'a> {
         page.say("</text>");
     }
 
-    // Writes the band of each time, or a line where there are too many times, and the line of times above.
+    // Writes the band of each time, and the line of times above. Where there are too many times, each that has a label has a line in place of a band.
     fn times(&self, page: &mut Page) {
         let instants = &self.picture.slots.instants;
         let are_bands = instants.len() <= MOST_BANDS;
@@ -354,7 +356,7 @@ impl<'a> Sheet<'a> {
         }
     }
 
-    // Writes the values of a time if they end before this limit, or else how many there are if that has room, or nothing.
+    // Writes the values of a time if they end before this limit, or else how many there are, if more than one and 60 pixels are free, or nothing.
     fn values(&self, page: &mut Page, some: &Publications, limit: u64) {
         let place = self.across(some.first);
         // These letters are 7.3 pixels wide.
@@ -410,7 +412,7 @@ impl<'a> Sheet<'a> {
         }
     }
 
-    // The base line of a row's letters, in parts.
+    // The base line of a row's letters, in parts: 0.35 of their height below the row's middle, so that the letters stand in the middle.
     fn line(&self, row: usize) -> u64 {
         self.middle(row)
             .saturating_add(self.size.letter.saturating_mul(350_000))
@@ -455,13 +457,15 @@ impl<'a> Sheet<'a> {
         page.say("</text></g>\n");
     }
 
-    // Writes the sign at a call's end, and the words behind it. The caller closes their tag.
+    // Writes the sign at a call's end, and the words behind it, whose tag the caller closes. A call that halted has an upright mark, at either end a
+    // pixel longer than bars are high; one that was cancelled has a cross, and any other none.
     fn call_end(&self, page: &mut Page, place: usize, row: &Row, span: &Span, called: Called) {
         let end = self.end(span);
         let class = class_of(span);
         let mut behind = end.saturating_add(pixels(6));
         match span.end {
             Some((End::Answered(_), _)) => {
+                // Behind the line that leads to the pruning, if the answer has won one.
                 let won = self.wins.get(place).copied().unwrap_or(0);
                 behind = end.max(won).saturating_add(pixels(6));
             }
@@ -589,6 +593,7 @@ impl<'a> Sheet<'a> {
             }
             None => "nevt",
         };
+        // How many pixels behind the end the words begin: behind the sign.
         let gap = match class {
             "nevt" => 6,
             "cutt" => 8,

@@ -34,8 +34,11 @@ pub fn serve<R: Wait + Clock>(rt: &R, jobs: &Receiver<Job, Global>) -> u64 {
 pub struct Office<'a, R: Wait> {
     pub rt: &'a R,
     pub alloc: Global,
+    /// What the script answers.
     pub answers: &'a Answers,
+    /// By this channel the clerk gets the calls.
     pub jobs: &'a Sender<Job, Global>,
+    /// How many calls were cancelled.
     pub cancelled: AtomicU64,
 }
 
@@ -68,8 +71,11 @@ impl<'a, R: Wait> Sites for Office<'a, R> {
 #[derive(Drop)]
 pub struct Errand<'a, R: Wait> {
     rt: &'a R,
+    // Knows from the script when the call is due, and its answer.
     call: SiteCall<'a>,
+    // The latest logical time that was handed in, at first that at which the call was made.
     now: u64,
+    // By this channel the clerk says that it has served the call.
     done: Receiver<(), Global>,
 }
 

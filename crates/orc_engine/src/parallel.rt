@@ -437,7 +437,8 @@ where
         Ok(trial)
     }
 
-    // Merges the results of the jobs `before`, while `workers` other threads do those of the batch.
+    // Merges the results of the jobs `before`, while `workers` other threads do those of the batch. With one worker, or if `before` has no more jobs
+    // than the samples, it merges first.
     fn run_beside(
         &self,
         scheduler: &mut Scheduler<P>,

@@ -127,7 +127,8 @@ impl<'a> Outline<'a> {
         found
     }
 
-    /// The number of the first line that begins a section of the same name as this one.
+    /// The number of the first line that begins the same section as `head`: `given`, `always`, or the `case` of one name. None if there is none, or
+    /// `head` begins no section.
     pub(crate) fn first(&self, head: Head) -> Option<usize> {
         for line in self.lines.iter() {
             if are_alike(line.head, head) {

@@ -18,7 +18,7 @@ use std::marker::Brand;
 /// What a row does with a ledger, or what the ledger has to say.
 #[derive(Clone, Copy)]
 pub(crate) enum Step {
-    /// The ledger does these entries, a line each. Cancels aren't among them, since they come with a bind.
+    /// The ledger does these entries, a line each. It does a cancel with the bind before it, so a cancel's line is only compared with the journal.
     Does(&'static str),
     /// The token with this mark waits.
     Waits(u64),
@@ -111,7 +111,7 @@ fn has_lines<P: Run>(
     Ok(whole && text.as_slice() == wanted.as_slice())
 }
 
-// The first step that doesn't hold, from 0; the number of steps if all hold, but the journal has other lines.
+// The first step that doesn't hold, from 0; the number of steps if all hold, but the journal has other lines. None if the row holds.
 fn wrong_step<P: Run>(
     alloc: Global,
     graph: &Graph,

@@ -22,7 +22,8 @@ use orc_ways::test::Test;
 use std::alloc::{AllocError, Global};
 use std::io::Write;
 
-// The test that a text says, beside this source and script.
+// The test that a text says. The sites of `others`, the built-in ones and those of the script, need no service in it. The fault is that of the
+// source's text, of the script or of the test, the first in this order.
 fn test_beside<'a>(
     alloc: Global,
     source: &[u8],

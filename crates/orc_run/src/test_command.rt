@@ -55,6 +55,7 @@ use std::thread::Threads;
 /// Why a test's table, or what shows one of its failures, was not written.
 #[derive(Clone, Copy, Debug, PartialEq, Eq)]
 pub enum Untested {
+    /// A text is at fault, no run could be made, or the output wasn't taken whole.
     Fault(RunFault),
     /// The failure with this number was to be shown, and there are fewer.
     NoFailure(u64),
@@ -203,7 +204,8 @@ fn write_whole<W: Write>(out: &mut W, text: &[u8]) -> Result<(), Untested>
     }
 }
 
-// The place of the claim that fails in the failure with this number, from 1; 0 if there is no such failure.
+// The place, from 0, of the claim that fails in the failure with this number, from 1. It is 0 too if there is no such failure, which the caller
+// rules out.
 fn failing_claim(rows: &[Row], number: u64) -> usize
     ensures { result ≡ failing_claim number rows.now }
 {

@@ -48,7 +48,7 @@ struct Pending {
 /// The span of a spot that there isn't.
 const NOWHERE: Span = Span { start: 0, end: 0 };
 
-/// What is taken where nothing is pending, which a parsed program never does.
+/// What is taken where nothing is pending. With a parsed program something always is.
 const NO_PART: Pending = Pending {
     spot: 0,
     span: NOWHERE,

@@ -2,7 +2,8 @@
 //!
 //! A token has a spot, and a step: which sides enclose it in the running term. One spot can have many steps, since a definition's body and the right
 //! side of a `>x>` run again and again. A `|`, the left side of a pruning and a call of a definition make no step: they change nothing about what
-//! takes a publication. Here `mark` is the number by which a journal names a token or an otherwise.
+//! takes a publication. Here `mark` is the number by which a journal names a token or an otherwise; `first` and `second` are the marks of the
+//! tokens that an entry brings.
 
 use crate::sketch::{Shape, Sketch};
 use orc_rules::entry::Entry;

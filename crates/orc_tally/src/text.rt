@@ -1,4 +1,6 @@
 //! The text of the table that `orc test` prints of a test.
+//!
+//! The loops over lists aren't `for` loops, since their invariants speak of the rest of the list. Each error is refused memory.
 
 ghost use Rattle.std.specs.Prelude.{◌≡◌, ◌++◌, IfOk, IfSome, OnOk, Some, codes, map, true};
 ghost use Rattle.std.specs.List.{slice_get};
@@ -100,7 +102,7 @@ impl Report<'_, '_> {
         ensures { OnOk result (text.new.items ≡ text.old.items ++ always_text self.now) }
     {
         let (Some(ways), Some(tried)) = (all_ways(self.cases), all_tried(self.cases)) else {
-            // No machine tries 2^64 ways.
+            // Not reached: a test has at most `MOST_CASES` cases of `MOST_WAYS` ways each.
             return Err(AllocError);
         };
         text.extend_from_slice(b"always")?;
@@ -249,7 +251,7 @@ impl Report<'_, '_> {
         }
     }
 
-    // The lines of rows, each failure with its details below it, which come in the order of the failures.
+    // The lines of rows, each failure with its details below it. `details` has those of the first failure first; a failure behind its end has none.
     fn write_rows(
         &self,
         alloc: Global,

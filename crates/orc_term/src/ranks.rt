@@ -19,7 +19,8 @@ pub struct Ranks {
     pub numbers: Vec<u32>,
     /// At least as great as every rank.
     pub most: u32,
-    /// False once memory or a rank of 32 bits was refused. Then nothing is known of the ranks until `renew`.
+    /// False once memory or a rank of 32 bits was refused, or a test of `add`, `write` or `lift` failed. Then nothing is known of the ranks until
+    /// `renew`.
     pub are_kept: bool,
 }
 
@@ -144,7 +145,8 @@ struct Gap {
     step: u32,
 }
 
-// By how much a part's rank is to exceed the rank of the node above it: by 1, but by the gap's `step` for the node of the gap.
+// By how much a part's rank is to exceed the rank of the node above it: by 1, but by the gap's `step` for the node of the gap. No gap has a step
+// of 0: `max` shows that to the prover.
 #[inline(always)]
 fn step_to(part: usize, gap: Gap) -> u32
     ensures { 0 < result }
@@ -195,7 +197,8 @@ impl Ranks {
         })
     }
 
-    /// Ranks a node that is added behind the others. If memory or a rank is refused, ranks aren't kept from then on.
+    /// Ranks a node that is added behind the others. Ranks aren't kept from then on if memory or a rank is refused, or if a part of the node doesn't
+    /// stand apart (`stands_apart`).
     #[inline(always)]
     pub fn add(&mut self, items: &Vec<Slot>, node: Node)
         ensures { AreKept items.now.items self.old → AreKept (items.now.items ++ node ∷ []) self.new }
@@ -229,7 +232,8 @@ impl Ranks {
         }
     }
 
-    /// Node `i` went below node `both`, which took its place below `parent`. Ranks below `both` grow if there was no free one for it.
+    /// Node `i` went below node `both`, which took its place below `parent`. Ranks below `both` grow if there was no free one for it. They aren't
+    /// kept any longer if memory or a rank is refused, or if the rank of `both` isn't greater than that of `parent`.
     #[inline(always)]
     pub fn lift(&mut self, items: &Vec<Slot>, i: usize, both: usize, parent: usize)
         ensures { (nodes : List NodeOf) → parent ≡ NodeOf.parent (slice_index_or nodes i nowhere) → items.now.items ≡ lifted nodes i both → AreKept nodes self.old → AreKept items.now.items self.new }
@@ -265,7 +269,7 @@ impl Ranks {
     }
 
     // Makes the rank of a part greater than that of node `above`. If it has to grow, the part is put on the list `late`, of the nodes whose parts may
-    // need greater ranks. False if memory or a rank is refused.
+    // need greater ranks. False if memory or a rank is refused, or if node `above` is a part of itself, for which no rank would do.
     #[inline(always)]
     fn settle_part(
         &mut self,
@@ -299,7 +303,7 @@ impl Ranks {
         true
     }
 
-    // Makes the ranks of all parts of node `above` greater than its own. False if memory or a rank is refused.
+    // Makes the ranks of all parts of node `above` greater than its own. False as `settle_part` says.
     #[inline(always)]
     fn settle_parts(
         &mut self,
@@ -321,13 +325,13 @@ impl Ranks {
         }
     }
 
-    // Calls `settle_parts` for all nodes of the list `late`, the last one first, and for those that it adds. False if memory or a rank is refused.
+    // Calls `settle_parts` for all nodes of the list `late`, the last one first, and for those that it adds. False as `settle_part` says.
     fn settle(&mut self, items: &Vec<Slot>, late: Vec<usize>, gap: Gap) -> bool
         ensures { result ≡ true → AreRankedBut items.now.items self.old.numbers.items self.old.most late.items → AreRankedBut items.now.items self.new.numbers.items self.new.most [] }
     {
         let mut late = late;
-        // A node has at most two turns: one as the list has it, and one when its rank has grown, which is after those above it grew. A vector has
-        // fewer than 2^63 items, so twice their number doesn't overflow.
+        // A node has at most two turns: one as the list has it, and one when its rank has grown, which is after those above it grew. One step more
+        // finds the list empty. A vector has fewer than 2^63 items, so twice their number doesn't overflow.
         for _step in 0..=2 * items.len() {
             let Some(above) = late.pop() else {
                 return true;

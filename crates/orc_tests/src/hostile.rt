@@ -104,7 +104,8 @@ fn calls_that_answer_zero_or_nothing_are_found(rt: HostRuntime) {
     }
 }
 
-// Whether each call of a journal passed the gate and was made once, and just those that it cancels were reported as cancelled, once each.
+// Whether each call of a journal passed the gate and was made once, and just those that it cancels were reported as cancelled, once each. A board
+// counts these three in this order.
 fn are_told(board: &Board, journal: &Journal) -> bool {
     let (mut calls, mut cancels) = (0u64, 0u64);
     for at in 0..journal.len() {
@@ -127,7 +128,7 @@ fn are_told(board: &Board, journal: &Journal) -> bool {
     cancels == 0
 }
 
-// Makes a run whose sites and gate note what the engine reports to them. None if it ends with a fault.
+// Makes a run whose sites and gate note on the board what the engine reports to them. None if it ends with a fault, or the text is no program.
 fn noted<R: Threads + Wait + Sync>(
     rt: &R,
     alloc: Global,
@@ -149,7 +150,8 @@ fn noted<R: Threads + Wait + Sync>(
     run_pool(rt, alloc, program, answers, &sites, &sites, options).ok()
 }
 
-// Whether a run halts, its journal is accepted, and its sites get each call and cancel.
+// Whether a run halts, its journal is accepted, and its sites get each call and cancel. The board has room for more calls than a program of `TOLD`
+// makes.
 fn is_told<R: Threads + Wait + Sync>(
     rt: &R,
     alloc: Global,
@@ -281,8 +283,8 @@ fn cancels(journal: &Journal, wanted: u64) -> bool {
     false
 }
 
-// Whether a run whose site is refused memory for a call ends with `Memory`. It may also halt, if another worker's bind has cancelled that call before
-// the refusal is reported.
+// Whether a run whose sites are refused memory for one of its five calls, that with this number, ends with `Memory`. It may also halt, if another
+// worker's bind has cancelled the call before the refusal is reported.
 fn ends_refused<R: Threads + Wait + Sync>(
     rt: &R,
     alloc: Global,

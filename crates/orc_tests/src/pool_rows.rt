@@ -49,6 +49,7 @@ fn numbers_of(alloc: Global, played: &Played) -> Result<Vec<i64>, AllocError> {
     Ok(numbers)
 }
 
+// Whether a run has published what a row says. Rows publish numbers alone.
 fn publishes(alloc: Global, outs: Outs, played: &Played) -> Result<bool, AllocError> {
     let mut numbers = numbers_of(alloc, played)?;
     if numbers.len() != played.published.len() {
@@ -262,6 +263,7 @@ const TERMS: [Worked; 20] = [
         entries: None,
         now: Some(0),
     },
+    // Once x is lost the left side of `;` halts, though y has no value yet.
     Worked {
         source: b"((Add(x, y) ; 5) <x< stop) <y< Never()",
         script: b"Never() = never\n",
@@ -271,6 +273,7 @@ const TERMS: [Worked; 20] = [
         entries: None,
         now: Some(0),
     },
+    // A definition is called before all of its arguments have values.
     Worked {
         source: b"def f(x, y) = x\nf(1, y) <y< Never()",
         script: b"Never() = never\n",
@@ -280,6 +283,7 @@ const TERMS: [Worked; 20] = [
         entries: None,
         now: Some(0),
     },
+    // The argument is the outer x, and the body adds its own one to it.
     Worked {
         source: b"def g(a) = Add(a, x) <x< 1\ng(x) <x< 10",
         script: b"",
@@ -307,6 +311,7 @@ const TERMS: [Worked; 20] = [
         entries: None,
         now: Some(0),
     },
+    // A sum over the greatest number halts.
     Worked {
         source: b"Add(9223372036854775807, 1) ; 0",
         script: b"",
@@ -371,6 +376,7 @@ const TIMES: [Worked; 9] = [
         entries: Some(10),
         now: Some(3),
     },
+    // The greatest time is 2^64 - 1, and a call that would be due after it is never due.
     Worked {
         source: b"Rwait(9223372036854775807) >> Rwait(9223372036854775807) >> Rwait(1) >> 1",
         script: b"",
@@ -527,7 +533,7 @@ const LIMITS: [Worked; 9] = [
         entries: Some(1),
         now: Some(0),
     },
-    // As many frames, or groups, as there may be.
+    // As many frames, or groups, as there may be: 4,096 left sides of a `>x>`, or 1,023 of a `;`, take two entries each, and one more `def` follows.
     Worked {
         source: b"def f() = f() >> 1\nf()",
         script: b"",
@@ -628,7 +634,7 @@ fn starves_nothing_on_any_number_of_workers(rt: HostRuntime) -> Result<(), Fail>
     Ok(())
 }
 
-// More races one after another than there may be groups at a time, each with two calls that are dropped: a dropped group's word becomes free again.
+// More races one after another than groups may be open at a time, each with two calls that are dropped.
 const KILLS: [Worked; 1] = [Worked {
     source: b"def loop(n) = Lt(n, 1100) >b> (Iff(b) >> n | Ift(b) >> (x <x< (n | Never() | Rwait(5))) >> Add(n, 1) >m> loop(m))\nloop(0)",
     script: b"Never() = never\n",

@@ -18,7 +18,7 @@ pub(crate) struct Local<P: Naming> {
     supply: Supply<P>,
     // The groups that it was the last to leave, and has to close.
     lasts: Vec<Last<P>>,
-    // Whether something was lost, since memory for it was refused.
+    // Whether memory was refused for a token, a pass or a group. A token, a group, and a pass that was to be left are lost then, so the run stops.
     was_refused_memory: bool,
 }
 
@@ -53,7 +53,7 @@ impl<P: Naming> Local<P> {
         }
     }
 
-    /// A token that is out with the worker from now on, and moves next.
+    /// A token that is out with the worker from now on, and moves next. It is lost if memory is refused (`was_refused_memory`).
     pub(crate) fn hold(&mut self, token: Token<P>) {
         if self.out.born.push(token).is_err() {
             self.was_refused_memory = true;
@@ -65,7 +65,7 @@ impl<P: Naming> Local<P> {
         self.out.born.pop()
     }
 
-    /// A pass that no record has any more, to be left.
+    /// A pass that no record has any more, to be left. It is lost if memory is refused (`was_refused_memory`).
     pub(crate) fn put(&mut self, pass: Pass<P>) {
         if self.out.leave.push(pass).is_err() {
             self.was_refused_memory = true;
@@ -116,7 +116,7 @@ impl<P: Naming> Local<P> {
         Some(groups.enter(with, idle))
     }
 
-    // Keeps a pass for a birth in the same group, if there is one. Where memory is refused it is to be left.
+    // Keeps a pass for a birth in the same group, if there is one. Where memory is refused it is to be left, and the run stops: the move lacks it.
     fn add_same(&mut self, pass: Option<Pass<P>>) {
         if let Some(pass) = pass
             && let Err(refused) = self.births.same.push(pass)
@@ -126,7 +126,7 @@ impl<P: Naming> Local<P> {
         }
     }
 
-    // Keeps an idle pass for a birth, if there is one. Where memory is refused it is to be left.
+    // Keeps an idle pass for a birth, if there is one. Where memory is refused it is to be left, and the run stops: the move lacks it.
     fn add_idle(&mut self, pass: Option<Pass<P>>) {
         if let Some(pass) = pass
             && let Err(refused) = self.births.idle.push(pass)
@@ -146,7 +146,7 @@ impl<P: Naming> Local<P> {
         }
     }
 
-    // Keeps a pass for births, or leaves it.
+    // Keeps a pass for births, or leaves it. Where memory is refused it is left: no move has asked for it yet.
     fn settle_one(&mut self, groups: &Groups<P>, pass: Pass<P>) {
         if pass.group() != self.word || self.births.same.len() >= MOST_NEAR {
             self.leave(groups, pass);
