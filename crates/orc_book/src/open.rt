@@ -274,6 +274,7 @@ impl<P: Run + Naming> Book<P> {
             }
             // A move at `f ; g` has no other outcome.
             Ok(_) => unreachable!(),
+            // As for a pruning.
             Err(fault) => {
                 let left = groups.leave(opened.pass);
                 Err(Refused {

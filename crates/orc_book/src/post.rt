@@ -148,6 +148,7 @@ impl<J: Naming> Post<J> {
         ensures given { GivesUp leave.old.items leave.new.items (λ f. weight f self.old.passes) (λ f. weight f self.new.passes) }
         ensures capacity { vec_capacity leave.new ≡ vec_capacity leave.old }
     {
+        // A bind may have dropped the group's last records while workers have their tokens: without records these aren't out any more.
         if members == 0 {
             self.kept = 0;
             self.out = 0;
@@ -236,7 +237,7 @@ pub(crate) fn is_settled_at<J: Naming>(posts: &Vec<Post<J>>, number: u32, member
     }
 }
 
-/// Makes room for one pass more of a group.
+/// Makes room for one pass more of a group. The error is refused memory.
 pub(crate) fn reserve_at<J: Naming>(posts: &mut Vec<Post<J>>, number: u32) -> Result<(), AllocError>
     requires there { number < length posts.old.items }
     ensures same { Changes posts.old.items number posts.new.items Same }
@@ -417,7 +418,7 @@ pub(crate) fn held_in<J: Naming>(posts: &Vec<Post<J>>, number: u32) -> usize
     }
 }
 
-/// The number of the group that encloses a group, as its post was told last.
+/// The number of the group that encloses a group, as its post was told last; 0, which is the program's own, if it has no post.
 pub(crate) fn parent_in<J: Naming>(posts: &Vec<Post<J>>, number: u32) -> u32 {
     match posts.get(number as usize) {
         Some(post) => post.parent(),
@@ -435,7 +436,8 @@ pub(crate) fn word_in<J: Naming>(posts: &Vec<Post<J>>, number: u32) -> u32
     }
 }
 
-/// The post of the program's own group, with no passes.
+/// The post of the program's own group, with no passes. Its word has the number 0; it has no parent, and the number in its place means nothing. The
+/// error is refused memory.
 pub(crate) fn first_posts<J: Naming>(alloc: Global) -> Result<Vec<Post<J>>, AllocError>
     ensures { IfOk result (λ posts. AreFirst posts.items) }
 {
@@ -444,7 +446,8 @@ pub(crate) fn first_posts<J: Naming>(alloc: Global) -> Result<Vec<Post<J>>, Allo
     Ok(posts)
 }
 
-/// Makes room for one pass more of a group, and for the posts of as many groups as there may be. So `grow_to` never asks for memory.
+/// Makes room for one pass more of a group, and for the posts of as many groups as there may be. So `grow_to` never asks for memory. The error is
+/// refused memory.
 pub(crate) fn reserve_opening<J: Naming>(
     posts: &mut Vec<Post<J>>,
     number: u32,
@@ -460,7 +463,7 @@ pub(crate) fn reserve_opening<J: Naming>(
     posts.try_reserve(more)
 }
 
-/// Adds posts without passes up to the group with this number.
+/// Adds posts without passes up to the group with this number. What they have as word and parent means nothing until `raise_at` sets it.
 pub(crate) fn grow_to<J: Naming>(alloc: Global, posts: &mut Vec<Post<J>>, number: u32)
     requires few { length posts.old.items ≤ MOST_GROUPS }
     requires number { number < MOST_GROUPS }

@@ -139,6 +139,7 @@ impl Marked {
             },
         );
         push_within(&mut self.marks, spot.at);
+        // A body such as `stop` has halted before anything moves in it.
         let halted = self.halts.at(called.body);
         settle(
             &self.nodes,

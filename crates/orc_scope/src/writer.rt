@@ -38,7 +38,7 @@ pub struct Writing {
 }
 
 impl Writing {
-    // Adds a node, and pushes it as a part.
+    // Adds a node, and pushes it as a part. The error is refused memory, here and below.
     fn join(&mut self, node: TermNode) -> Result<(), AllocError>
         requires ready { IsReady self.old }
         requires parts { HasParts (length (terms self.old.nodes)) node }
@@ -107,6 +107,7 @@ impl Writing {
         ensures keeps { OnOk result (Keeps (terms self.old.nodes) (terms self.new.nodes)) }
     {
         let Some((i, j)) = self.sides()? else {
+            // Not reached: both sides of an operator were written before it.
             return Ok(());
         };
         self.join(match operator {
@@ -195,6 +196,7 @@ impl Writing {
         ensures keeps { OnOk result (Keeps (terms self.old.nodes) (terms self.new.nodes)) }
     {
         let Some((bound, body)) = self.sides()? else {
+            // Not reached: G and F were written before.
             return Ok(());
         };
         self.join(TermNode::Prune(body, numbers.variable(name.text), bound))

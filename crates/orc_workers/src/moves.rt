@@ -44,6 +44,7 @@ impl<P: Run + Naming, C: Drop> Shared<P, C> {
             Action::Bind(cell, _) => self.bind(setup, local, token, cell),
             Action::Call => self.call(setup, local, token),
             Action::Wait(_) => self.wait(setup, local, token),
+            // Any other move may bring tokens or a group, for which the worker needs passes.
             what => {
                 local.prepare(setup.groups, view.needs, &token.pass);
                 if local.was_refused_memory() {
@@ -73,9 +74,10 @@ impl<P: Run + Naming, C: Drop> Shared<P, C> {
         }
     }
 
-    // A token whose move was refused.
+    // What comes of a token whose move the book has refused.
     fn refused(&mut self, local: &mut Local<P>, why: BookFault, token: Token<P>) -> Step {
         match why {
+            // The book finds no such token out, as where `step` finds no record: the worker drops it, and has to leave its pass.
             BookFault::Gone => {
                 local.put(token.pass);
                 Step::On
@@ -85,6 +87,7 @@ impl<P: Run + Naming, C: Drop> Shared<P, C> {
                 local.hold(token);
                 Step::Full
             }
+            // The run stops: a limit is reached, memory was refused, or the worker has called the book wrongly.
             why => {
                 self.stop(stop_of(why));
                 Step::On
