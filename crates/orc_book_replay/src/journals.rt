@@ -19,7 +19,7 @@ use orc_word::{Naming, Unnamed};
 use std::alloc::Global;
 use std::marker::Brand;
 
-/// The entry at which a replay fails, from 1, and why.
+/// The entry at which a replay fails, from 1, and why; 0 if nothing was replayed.
 #[derive(Clone, Copy, Debug, PartialEq, Eq)]
 pub(crate) struct Stop {
     pub at: usize,
@@ -36,6 +36,7 @@ pub(crate) struct Replayed {
 /// How many passes to the program's own group a replay keeps for the next records there, as a worker keeps some.
 const MOST_WARM: usize = 64;
 
+/// Nothing was replayed: a text can't be read, the journal is of the first version, or memory was refused before the first entry.
 const UNREAD: Stop = Stop {
     at: 0,
     why: Odd::Other,
@@ -64,6 +65,7 @@ pub(crate) fn replay_text(
     replay_graph(alloc, &graph, &loaded.answers, &journal)
 }
 
+// Replays a journal of the program with this graph, under a new table of words.
 fn replay_graph(
     alloc: Global,
     graph: &Graph,
@@ -76,6 +78,7 @@ fn replay_graph(
     replay_named::<Brand>(alloc, words, graph, answers, journal)
 }
 
+// Replays a journal. In contracts `P` stands for the run and its table of words; the caller picks it.
 fn replay_named<P: Run + Naming>(
     alloc: Global,
     words: Unnamed,
@@ -116,6 +119,7 @@ fn follow<P: Run + Naming>(
 ) -> Result<(), Stop> {
     let mut entry = Entry::Tick(0);
     for at in 0..journal.len() {
+        // Not reached: there is an entry at each place before the length.
         if !journal.read(at, &mut entry) {
             break;
         }
@@ -148,6 +152,8 @@ fn state_of<P: Run + Naming>(
     }
 }
 
+// The state in which the ledger is. `has_ended` says whether the book has closed the program's own group; the error is that the term hasn't halted
+// then, or has halted though the group is open.
 fn state_after<P: Run + Naming>(
     setup: &Setup<'_, P>,
     ledger: &mut Ledger<P>,
@@ -165,7 +171,7 @@ fn state_after<P: Run + Naming>(
     }
 }
 
-// Whether two journals have one text.
+// Whether two journals have one text. None if memory is refused.
 fn are_same(alloc: Global, answers: &Answers, one: &Journal, other: &Journal) -> Option<bool> {
     let mut text = Vec::new(alloc);
     let mut other_text = Vec::new(alloc);

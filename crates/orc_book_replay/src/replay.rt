@@ -48,6 +48,7 @@ impl From<BookFault> for Odd {
             BookFault::Wrong => Odd::Wrong,
             BookFault::Live => Odd::Live,
             BookFault::Full | BookFault::Limit => Odd::Limit,
+            // The replay lends what a move needs, and so lacks a pass only where its supply is empty.
             BookFault::Memory | BookFault::Short => Odd::Memory,
         }
     }
@@ -205,10 +206,12 @@ impl<P: Run + Naming> Replay<P> {
                 let token = self.take(*mark)?;
                 self.publish(setup, token)
             }
+            // `enter` took all others.
             _ => Err(Odd::Other),
         }
     }
 
+    // The token with this mark, which has to be out, for its next move.
     fn take(&mut self, mark: u64) -> Result<Token<P>, Odd> {
         match self.take_token(mark) {
             Some(token) => Ok(token),
@@ -379,6 +382,7 @@ impl<P: Run + Naming> Replay<P> {
         }
     }
 
+    // Notes that a side was entered: its group has the word `word`, and is inside the group with the word `around`.
     fn enter_side(
         &mut self,
         word: Option<u32>,
@@ -427,6 +431,7 @@ impl<P: Run + Naming> Replay<P> {
         let Some(token) = self.step.born.pop() else {
             return Err(Odd::Other);
         };
+        // There is a pass to be left if the publication has left the token's group.
         if let Some(pass) = self.step.leave.pop() {
             self.leave_sides(inside, token.pass.group())?;
             self.drop_pass(pass)?;
@@ -435,6 +440,7 @@ impl<P: Run + Naming> Replay<P> {
     }
 
     fn publish(&mut self, setup: &Setup<'_, P>, token: Token<P>) -> Result<(), Odd> {
+        // The program's own group has the word 0.
         self.leave_sides(token.pass.group(), Some(0))?;
         match self.book.publish(setup.inputs, token) {
             Ok(pass) => self.drop_pass(pass),
@@ -509,9 +515,11 @@ impl<P: Run + Naming> Replay<P> {
 
     // Compares a `cancel` entry with the next of the calls that the last bind has cancelled.
     fn cancel(&mut self, number: u64) -> Result<(), Odd> {
+        // Not reached: no more cancels are owed than there are.
         let Some(at) = self.cancelled.len().checked_sub(self.owed) else {
             return Err(Odd::Other);
         };
+        // If none is owed, nothing is at that place either; `owed < 1` shows the prover that the subtraction below doesn't wrap.
         if self.owed < 1 || self.cancelled.get(at) != Some(&number) {
             return Err(Odd::Other);
         }
@@ -597,6 +605,7 @@ impl<P: Run + Naming> Replay<P> {
         }
     }
 
+    // Closes the group of a side that an entry ends: whoever waits for its cell goes on, or the right side of its otherwise starts.
     fn close(&mut self, last: Last<P>) -> Result<(), Odd> {
         match self.book.halt(last, &mut self.leave) {
             Ok(Ended::Lost(cell)) => self.wake(cell),

@@ -131,6 +131,7 @@ impl<P: Run> Replay<P> {
     {
         let ledger = Ledger::begin(alloc, true, MOST_ENTRIES as usize, graph.root())?;
         let mut slots = Vec::new(alloc);
+        // No token has serial 0. The first token, whose serial is 1, is in slot 0.
         for _serial in 0..2 {
             if slots.push(0).is_err() {
                 return Err(Odd::Memory);
@@ -259,6 +260,7 @@ impl<P: Run> Replay<P> {
         Ok(self.ledger.group_of_token(&token))
     }
 
+    // Notes that the group with this number was opened for a side, inside the group `parent`.
     fn note(&mut self, number: u32, side: Side, parent: u32) -> Result<(), Odd> {
         let group = Open {
             number,
@@ -272,6 +274,7 @@ impl<P: Run> Replay<P> {
         }
     }
 
+    // The place of the group with this number among the open ones.
     fn place_of(&self, number: u32) -> Option<usize> {
         self.groups.iter().position(|open| open.number == number)
     }
@@ -428,7 +431,7 @@ impl<P: Run> Replay<P> {
     }
 }
 
-// Whether two journals have one text.
+// Whether two journals have one text. None if memory is refused.
 fn are_same(alloc: Global, answers: &Answers, one: &Journal, other: &Journal) -> Option<bool> {
     let mut text = Vec::new(alloc);
     let mut other_text = Vec::new(alloc);

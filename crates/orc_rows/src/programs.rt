@@ -270,7 +270,9 @@ impl<R: Threads + Wait + Sync> Trial<'_, R> {
 
     /// Tries a row that is a program: with each of its lines of words, on each number of workers, and with `--unordered`.
     pub fn try_program(&mut self) -> io::Result<()> {
+        // What the run before this one has written.
         let mut last: Option<String> = None;
+        // Whether the row is tried with `--unordered`: not once one of its runs has come to a fault.
         let mut is_run = !self.row.has("text") && !self.row.has("workers");
         for more in self.row.field("words").unwrap_or("").split('\n') {
             for workers in self.row.field("workers").unwrap_or(WORKERS).split(' ') {

@@ -17,6 +17,7 @@ pub struct Report {
 }
 
 impl Report {
+    /// A report on no command line.
     pub fn new(alloc: Global) -> Report {
         Report {
             passed: 0,
@@ -26,7 +27,8 @@ impl Report {
         }
     }
 
-    /// Notes one thing that a command line did otherwise than it has to.
+    /// Notes one thing that a command line did otherwise than it has to: `wanted` are words that introduce a text, such as `the status is` or
+    /// `--explain has to say`, and `got` is that text, of which the front is shown. The error is refused memory, here and in `count` and `add`.
     pub fn note(&mut self, wanted: &str, got: &str) -> Result<(), AllocError> {
         self.wrong.push_str("  ")?;
         self.wrong.push_str(wanted)?;
@@ -35,7 +37,7 @@ impl Report {
         self.wrong.push('\n')
     }
 
-    /// Counts a command line of a row. It is a failure if something was noted of it.
+    /// Counts a command line of a row, whose sentence this is. It is a failure if something was noted since the last call.
     pub fn count(&mut self, sentence: &str, line: &str) -> Result<(), AllocError> {
         if self.wrong.is_empty() {
             self.passed = self.passed.saturating_add(1);
@@ -53,7 +55,7 @@ impl Report {
         Ok(())
     }
 
-    /// Adds what another report has.
+    /// Adds what another report counts and tells.
     pub fn add(&mut self, other: &Report) -> Result<(), AllocError> {
         self.passed = self.passed.saturating_add(other.passed);
         self.failed = self.failed.saturating_add(other.failed);
@@ -78,7 +80,7 @@ impl Report {
     }
 }
 
-// The first few hundred bytes of a text.
+// The first 400 bytes of a text; the whole text if it is shorter, or a character stands across that place.
 fn front_of(text: &str) -> &str {
     text.get(..400).unwrap_or(text)
 }

@@ -64,7 +64,7 @@ impl<'a, R: Threads + Wait + Sync> Trial<'a, R> {
         orc(self.rt, self.alloc, words, &self.folder)
     }
 
-    /// Notes a difference: what a command line has to do, and what it does instead.
+    /// Notes a difference, as `Report::note` does: words that introduce a text, and the text.
     pub fn note(&mut self, wanted: &str, got: &str) -> Result<(), AllocError> {
         self.report.note(wanted, got)
     }

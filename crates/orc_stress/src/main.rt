@@ -3,6 +3,8 @@
 //!
 //!     orc_stress ROUNDS                       runs each program ROUNDS times on 2, 4 and 16 workers
 //!     orc_stress NAME WORKERS [ROUNDS]        runs one program on WORKERS workers, once by default; NAME may also be `due`, `asks` or `nap`
+//!
+//! A number that is left out or can't be read is its default. A first word that names no program counts as ROUNDS.
 #![tactic(auto)]
 
 mod gates;
@@ -31,7 +33,7 @@ fn is_right(alloc: Global, storm: &Storm, played: Result<Played, EngineFault>) -
     }
 }
 
-// A run by sites that the table answers.
+// A run with sites that answer as the table says.
 fn run_scripted<R: Threads + Wait + Sync, G: Gate + Sync>(
     rt: &R,
     alloc: Global,
@@ -43,7 +45,7 @@ fn run_scripted<R: Threads + Wait + Sync, G: Gate + Sync>(
     run(rt, alloc, loaded, &sites, gate, workers)
 }
 
-// How many of `rounds` runs of a program on `workers` workers are odd.
+// How many of `rounds` runs of a program on `workers` workers are odd; all if the program can't be loaded.
 fn count_odd<R: Threads + Wait + Sync>(
     rt: &R,
     alloc: Global,
@@ -65,7 +67,7 @@ fn count_odd<R: Threads + Wait + Sync>(
 }
 
 // How many of `rounds` runs are odd in which a gate holds each call until `workers` calls are in it. A run in which a call gave up waiting is odd,
-// too.
+// too. All are odd if the program can't be loaded.
 fn count_held<R: Threads + Wait + Sync>(
     rt: &R,
     alloc: Global,
@@ -98,6 +100,7 @@ fn run_all<R: Threads + Wait + Sync + Print>(rt: &R, alloc: Global, rounds: u32)
             )?;
         }
     }
+    // Programs that make as many calls in parallel as there are workers.
     let held = [
         (2, b"Add(1, 2) | Add(3, 4)".as_slice()),
         (
@@ -177,6 +180,7 @@ fn run_one<R: Threads + Wait + Sync + Print + Clock>(
     Ok(())
 }
 
+// The program of this name; None if there is none.
 fn storm_named(name: &str) -> Option<Storm> {
     for storm in &STORMS {
         if storm.name == name {
@@ -195,7 +199,7 @@ fn storm_named(name: &str) -> Option<Storm> {
     None
 }
 
-// The number in an argument, or `otherwise` if there is none.
+// The number in the argument at this place, or `otherwise` if there is no argument or it is no number.
 fn number_of(words: &[String], place: usize, otherwise: u32) -> u32 {
     match words.get(place) {
         Some(word) => word.parse::<u32>().unwrap_or(otherwise),

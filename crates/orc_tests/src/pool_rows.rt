@@ -20,7 +20,7 @@ enum Outs {
     Are(&'static [i64]),
     /// These, from the least to the greatest, in any order.
     InAnyOrder(&'static [i64]),
-    /// One of these.
+    /// One number, which is one of these.
     OneOf(&'static [i64]),
 }
 

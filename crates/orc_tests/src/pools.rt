@@ -25,7 +25,7 @@ pub(crate) fn keeping(workers: usize, limit: u64) -> RunOptions {
     }
 }
 
-/// A run by sites that the table answers.
+/// A run with sites that answer as the table says, which keeps its journal.
 pub(crate) fn play<R: Threads + Wait + Sync, G: Gate + Sync>(
     rt: &R,
     alloc: Global,

@@ -40,7 +40,8 @@ const OPERATORS: [&[u8]; 8] = [
     b"\n def f(x)=",
 ];
 
-// For how many prefixes of a text, and for how many texts with one byte changed, `is_answered` holds. None if it fails for one.
+// How many texts there are with one byte of this one changed. `is_answered` holds for all of them and for each shorter prefix; None if it fails for
+// one. A bracket is a sign of the grammar, and the byte 0xff is in no UTF-8.
 fn answered(alloc: Global, mut text: Vec<u8>, programs: &mut u32) -> Option<u32> {
     let mut answered = 0_u32;
     for at in 0..text.len() {
