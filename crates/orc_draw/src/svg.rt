@@ -282,6 +282,7 @@ impl<'a> Sheet<'a> {
                     &[begin, HEAD, width, height],
                 );
             }
+            // A label is centred on its band. Its letters are taken as 7 pixels wide, and at least 12 pixels stay free between two labels.
             let middle = begin.saturating_add(width / 2);
             let letters = digits(instant.time);
             if last == 0

@@ -182,7 +182,8 @@ fn first_of<'a>(line: &Line<'a>, word: &[u8]) -> Option<Piece<'a>> {
     None
 }
 
-/// Two words that may not stand in one line, each of which may by itself; the carets go under the second, and the third text says why.
+/// Two words that may not stand in one line, each of which may by itself, and a help that says why; the carets go under the second word. `once` is
+/// that of `at once`, `order` that of `in any order`, and `calls` that of `in each of N calls`.
 const APART: [(&[u8], &[u8], &str); 6] = [
     (b"once", b"answered", ONCE),
     (b"once", b"halted", ONCE),
@@ -217,6 +218,7 @@ fn say_whole(page: &mut Page, document: &Document, line: &Line) {
     if let Some(piece) = line.pieces.first() {
         page.point(document, piece.span);
         page.say("this line has too much\n");
+        // The numbers are `MOST_ARGUMENTS`, `MOST_ALTERNATIVES`, `MOST_ANSWERS` and `MOST_SITES`.
         page.expected(
             "at most 16 arguments, 64 alternatives and 1,024 answers; and 1,024 sites in a test",
         );

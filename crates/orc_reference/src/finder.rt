@@ -212,7 +212,7 @@ impl Search<'_> {
         Ok(after)
     }
 
-    // Applies an entry to a term and adds it to the way, if the rules take it.
+    // Applies an entry to a term and adds it to the way. The rules allow the entry, so the checker refuses it only as Memory; the way lacks it then.
     fn apply(&mut self, marked: &mut Marked, entry: Entry) -> Result<(), AllocError> {
         if marked.step(self.program, self.answers, &entry).is_ok() {
             self.way.push(entry)?;
@@ -287,7 +287,7 @@ impl Search<'_> {
         Ok(entries)
     }
 
-    // A hash of what a position looks like: of its term, the hash of counts, what was seen, and the time as far as it matters.
+    // A hash of what a position looks like: of its term, the hash of counts, how much was seen, and the time as `Wanted::time` gives it.
     fn number_of(
         &self,
         marked: &Marked,
@@ -362,6 +362,7 @@ impl Search<'_> {
             return Ok(Turn::More);
         };
         let from = marked.new_mark();
+        // The rules allow each entry of a level, so the checker refuses one only as Memory. The search then passes over it.
         if marked.step(self.program, self.answers, &entry).is_err() {
             return Ok(Turn::More);
         }
@@ -445,7 +446,8 @@ fn way_to<W: Wanted>(
 /// journal. The contract says that it is a run of the program and ended by itself, but not that the wanted things happen: a caller checks that on the
 /// journal. None if the search found no run, or one of more than `limit` entries, cancels not counted.
 ///
-/// The fault is Memory if memory was refused, or Broken if the rules refuse an entry of the run that the search found.
+/// The fault is Memory if memory was refused, or Broken if the rules refuse an entry of the run that the search found. But where the checker has no
+/// memory for an entry that the search tries, the search goes on without that entry.
 pub fn find<W: Wanted>(
     alloc: Global,
     program: &Program,
@@ -471,7 +473,7 @@ pub fn find<W: Wanted>(
     let end = proceed(&mut history, &mut steps, program, answers, limit)?;
     match end {
         End::Halted | End::Quiet => Ok(Some(history.played(end))),
-        // It has more entries than a run may have.
+        // The run that was found has more than `limit` entries. `proceed` never answers Full.
         End::Limit | End::Full => Ok(None),
         End::Memory => Err(PlayFault::Memory),
     }

@@ -5,7 +5,7 @@ ghost use Rattle.std.specs.Prelude.{◌≤◌, ◌+◌};
 /// The longest line that is shown whole, in columns.
 const LONGEST: usize = 76;
 
-/// How many columns are shown of a longer line.
+/// How many columns are shown of a longer line: with `.. ` before them and ` ..` behind them it is as long as the longest line that is shown whole.
 const SHOWN: usize = 70;
 
 /// How many columns are shown at most before what is named, which stands near the middle then.

@@ -64,7 +64,7 @@ fn fails_in(
 }
 
 // Writes the journal of a run of the way of this script, if the claim at this place fails in it: whether it does. Nothing is written where it
-// doesn't.
+// doesn't. The fault is refused memory, or one of the output.
 fn write_failing<W: Write>(
     alloc: Global,
     trials: &Trials<'_, '_>,
@@ -83,6 +83,7 @@ fn write_failing<W: Write>(
     ensures cause { IfErr result (IsUnshown trials.now.source.now 1 trials.now.limit script.now) }
     ensures sound { IfErr result (λ f. IsOwnFault f → ⊥) }
 {
+    // Each caller's run keeps its journal.
     let Some(journal) = &played.journal else {
         return Ok(false);
     };
@@ -129,6 +130,7 @@ pub(crate) fn write_in_order<W: Write>(
     if played.summary.end == End::Memory {
         return Err(NO_MEMORY);
     }
+    // The same run is made again, so false isn't answered.
     match write_failing(alloc, trials, script, &way, &played, claim, out) {
         Ok(true) => Ok(()),
         Ok(false) => Err(NO_MEMORY),
@@ -164,7 +166,8 @@ fn witness_in(
 }
 
 /// Writes the journal of a run in which the claim at this place fails, in the way of this script: whether one was found. It searches through so many
-/// states at most. Where none was found, nothing is written.
+/// states at most. Where none was found, or there is no such claim, nothing is written. Runs of the way were made before, so that it loads: the fault
+/// is refused memory, or one of the output.
 pub(crate) fn write_witness<W: Write>(
     alloc: Global,
     trials: &Trials<'_, '_>,

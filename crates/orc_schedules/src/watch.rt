@@ -2,6 +2,8 @@
 //! apart.
 //!
 //! In contracts `NameSame` says that two lists name the same occurrences, and `all_seen` that none of a list names a cancel.
+//!
+//! A loop that matches on the rest of a list is no `for`, since its invariant speaks of that rest.
 
 ghost use Rattle.std.specs.Prelude.{◌≡◌, ◌++◌, ◌∷◌, [], IfOk, OnOk};
 ghost use Rattle.orc_claims.specs.declared.happening.Occurrence.{Occurrence as What};
@@ -93,7 +95,7 @@ fn counts_none_out(plain: &Plain) -> bool
     }
 }
 
-// The latest time that a `by` tells apart: the first one after it. Without a `by` no times are.
+// The latest time that a `by` tells apart: the first one after it. Without a `by` it is 0: no times are told apart.
 fn latest_by(by: Option<u64>) -> u64
     ensures { result ≡ latest_by by }
 {
@@ -103,7 +105,7 @@ fn latest_by(by: Option<u64>) -> u64
     }
 }
 
-// The latest time that a `within` tells apart: all are told apart, since it may count from any of them.
+// The latest time that a `within` tells apart: all are told apart, since it may count from any of them. Without a `within` it is 0.
 fn latest_within(within: Option<u64>) -> u64
     ensures { result ≡ latest_within within }
 {
@@ -113,7 +115,7 @@ fn latest_within(within: Option<u64>) -> u64
     }
 }
 
-// The latest time that a claim tells apart. Its conditions ask for no time.
+// The latest time that a claim tells apart; 0 for a claim without a time. Its conditions ask for no time.
 fn latest_of(plain: &Plain) -> u64
     ensures { result ≡ latest_of_plain plain.now }
 {

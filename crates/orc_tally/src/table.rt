@@ -1,4 +1,6 @@
 //! The rows of the table that `orc test` prints of a test. A claim's *section* is the place of its case, or None for `always`.
+//!
+//! A loop that matches on the rest of a list is no `for`, since its invariant speaks of that rest.
 
 ghost use Rattle.std.specs.Prelude.{◌≡◌, ◌++◌, IfOk, OnOk};
 ghost use Rattle.std.specs.List.{slice_get};
@@ -134,7 +136,7 @@ fn is_same(section: Option<usize>, other: Option<usize>) -> bool
     }
 }
 
-// What is reported of a claim over a case; None if it isn't held against the runs of the case.
+// What is reported of a claim over a case; None if it isn't held against the runs of the case, or nothing is reported of it.
 pub(crate) fn told_here(
     section: Option<usize>,
     claim: usize,
@@ -331,7 +333,8 @@ fn is_end(claim: &Claim) -> bool
     claim.conditions.len() == 0 && is_of_end(&claim.plain)
 }
 
-// Whether one of these claims says how the runs of the case at this place end. `lines` has the line of each claim, in the same order.
+// Whether one of these claims says how the runs of the case at this place end. `lines` has the line of each claim, in the same order; in the loop
+// `rest` are the claims that are left, and `behind` their lines.
 fn has_end(case: usize, claims: &[Claim], lines: &[ClaimLine<'_>]) -> bool
     ensures { result ≡ has_end case claims.now lines.now }
 {
