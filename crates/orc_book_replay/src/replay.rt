@@ -681,7 +681,7 @@ impl<P: Run + Naming> Replay<P> {
         }
     }
 
-    /// The records of the run, and nothing else of it.
+    /// The records of the run. All else is let go, part by part as in `drop`.
     pub(crate) fn into_ledger(self) -> Ledger<P> {
         let Replay {
             book,

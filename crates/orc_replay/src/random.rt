@@ -98,10 +98,12 @@ const VARIABLES: [&[u8]; 9] = [
 
 const VALUES: [&[u8]; 4] = [b"0", b"1", b"2", b"true"];
 
+// The name of the variable of a level.
 fn variable(level: u32) -> &'static [u8] {
     VARIABLES[level as usize % 9]
 }
 
+// A value; in half of the cases a variable that is bound, if one is.
 fn value(dice: &mut Dice, names: u32) -> &'static [u8] {
     let start = dice.pick(8) as u32;
     if dice.pick(2) == 0 {

@@ -45,19 +45,21 @@ pub struct Stop {
     pub why: Odd,
 }
 
-// The right side of a cell, or the left side of an otherwise.
+// The right side of the pruning of this cell, or the left side of the otherwise with this number.
 #[derive(Clone, Copy, PartialEq, Eq)]
 enum Side {
     Right(u64),
     Left(u64),
 }
 
-// An open group (the members of a side), the number of the group outside it (0 for the program's own), and whether it has published.
+// An open group: the members of a side.
 #[derive(Clone, Copy)]
 struct Open {
     number: u32,
     side: Side,
+    // The number of the group outside it; 0 for the program's own.
     parent: u32,
+    // Whether a publication has left it. Then it ends without an entry once it has no members.
     left: bool,
 }
 
@@ -246,7 +248,7 @@ impl<P: Run> Replay<P> {
         }
     }
 
-    // Notes the slot of the newest token, and gives its group.
+    // Notes that the newest token is in this slot, and gives its group. The error is Other if the token there has another serial than the next one.
     fn stand(&mut self, slot: usize) -> Result<u32, Odd> {
         let Some(token) = self.ledger.held(slot) else {
             return Err(Odd::Gone);
@@ -279,8 +281,8 @@ impl<P: Run> Replay<P> {
         self.groups.iter().position(|open| open.number == number)
     }
 
-    // Notes that a publication has left the left sides between the group `from` and the enclosing group `to`. At most `MOST_GROUPS` groups are
-    // nested, so the loop reaches `to`.
+    // Notes that a publication has left the left sides from the group `from` outwards, up to the group `to`, which it doesn't leave. Other if one of
+    // them isn't open, or is a right side, which no publication leaves. At most `MOST_GROUPS` groups are nested, so the loop reaches `to`.
     fn leave(&mut self, from: u32, to: u32) -> Result<(), Odd> {
         let mut number = from;
         for _outwards in 0..MOST_GROUPS {
@@ -374,6 +376,7 @@ impl<P: Run> Replay<P> {
         }
     }
 
+    // Answers a pending call: with a value, on which a token stands then, or with a halt.
     fn answer(&mut self, number: u64, answer: Answer) -> Result<(), Odd> {
         match self.ledger.returned(number, answer) {
             Ok(Some(slot)) => {
@@ -388,6 +391,7 @@ impl<P: Run> Replay<P> {
         }
     }
 
+    // Lets time go on to `wanted`. The error is Time if the ledger says that something else comes next.
     fn tick(&mut self, inputs: &Inputs<'_, P>, wanted: u64) -> Result<(), Odd> {
         let next = self.ledger.next(inputs);
         // Shows the prover the ledger's invariant, which `tick` needs; nothing runs.
@@ -440,6 +444,7 @@ fn are_same(alloc: Global, answers: &Answers, one: &Journal, other: &Journal) ->
     Some(whole && other_whole && text.as_slice() == other_text.as_slice())
 }
 
+// `replay_journal` for a graph that is built. The type P names the run.
 fn replay_named<P: Run>(
     alloc: Global,
     graph: &Graph,

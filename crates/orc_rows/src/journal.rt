@@ -19,6 +19,7 @@ pub fn read_journal<'a>(alloc: Global, text: &'a str) -> Result<Told<'a>, AllocE
         published: String::new(alloc),
         time: "0",
     };
+    // The first line names the format.
     for line in text.lines().skip(1) {
         told.entries = told.entries.saturating_add(1);
         if !line.starts_with("cancel ") {

@@ -66,7 +66,8 @@ fn is_end(status: u8) -> bool {
     matches!(status, 0 | 3 | 4)
 }
 
-// Where a line of an explanation underlines, and how much: behind a `|` the number of its blanks, and the number of its `^`.
+// Where a line of an explanation underlines: the byte of its first `^`, and how many `^` there are. None if the line isn't a `|`, with nothing but
+// blanks before it, and then blanks and a `^`.
 fn underlined(line: &str) -> Option<(usize, usize)> {
     let (front, rest) = line.split_once('|')?;
     let marks = rest.trim_start();
@@ -80,7 +81,7 @@ fn underlined(line: &str) -> Option<(usize, usize)> {
     ))
 }
 
-// What the explanation of a fault underlines.
+// What the explanation of a fault underlines in the line above the `^`; empty if it underlines nothing.
 fn marked(text: &str) -> &str {
     for (above, line) in text.lines().zip(text.lines().skip(1)) {
         if let Some((at, many)) = underlined(line) {
@@ -161,6 +162,7 @@ impl<R: Threads + Wait + Sync> Trial<'_, R> {
     // Notes in what the explanation of a run's end differs from that end.
     fn look_at_end(&mut self, words: &mut Vec<&str>, told: &Told, plain: &Done) -> io::Result<()> {
         let is_halted = plain.status == 0;
+        // Of a run that published something and halted, only what looks like a mistake is explained.
         if is_halted && !plain.out.is_empty() || told.entries > MOST_EXPLAINED {
             return Ok(());
         }
@@ -235,7 +237,8 @@ impl<R: Threads + Wait + Sync> Trial<'_, R> {
         Ok(())
     }
 
-    // Notes in what a run differs from the row.
+    // Notes in what the run of a command line differs from the row. One that ended is made again with `--journal`, unless the row has `text`; one
+    // that met a fault is made again with `--explain`, if the row says what that underlines or says.
     fn look_at_run(&mut self, words: &mut Vec<&str>, done: &Done) -> io::Result<()> {
         self.look_at_status(done)?;
         let out = done.out.as_str();
@@ -255,7 +258,8 @@ impl<R: Threads + Wait + Sync> Trial<'_, R> {
         self.try_run_journal(words, done)
     }
 
-    // Runs the program with `--unordered`, and notes in what its journal differs from the row. It looks at one run, since another may differ from it.
+    // Runs the program with `--unordered`, and notes in what its journal differs from the row. The values, too, are read from this journal, since a
+    // second run may publish others.
     fn try_unordered(&mut self, more: &str) -> io::Result<()> {
         let mut words = words_of(self.alloc, RACERS, more)?;
         words.extend_from_slice(["--unordered", "--journal"].as_slice())?;

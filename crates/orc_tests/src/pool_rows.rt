@@ -1,5 +1,6 @@
-//! Worked programs on 1, 2, 4 and 16 workers, each with an open gate and with one that may hold calls, so that all workers are at work. A row says
-//! what the program publishes, how it ends, after how many entries and when; and a check has to accept the journal.
+//! Worked programs on 1, 2, 4 and 16 workers, each twice. With an open gate `run_pool` makes the run as `run_parallel` does; with one that may hold
+//! calls the workers hold the run's tokens. A row says what the program publishes, how it ends, after how many entries and when; and a check has to
+//! accept the journal.
 
 use crate::gates::Slow;
 use crate::pools::{play, state_of};
@@ -32,9 +33,9 @@ struct Worked {
     limit: u64,
     end: End,
     outs: Outs,
-    /// How many entries its journal has, cancels counted; None if runs may differ in that.
+    /// How many entries its journal has, cancels counted; None if any number will do.
     entries: Option<u64>,
-    /// The logical time at which it ends; None if runs may differ in that.
+    /// The logical time at which it ends; None if any time will do.
     now: Option<u64>,
 }
 
@@ -506,6 +507,7 @@ fn works_by_scripts(rt: HostRuntime) -> Result<(), Fail> {
 }
 
 const LIMITS: [Worked; 9] = [
+    // The whole run has ten entries.
     Worked {
         source: b"(1 | 2) >x> Add(x, 10)",
         script: b"",
@@ -570,6 +572,7 @@ const LIMITS: [Worked; 9] = [
         entries: None,
         now: None,
     },
+    // The limit is far away, so the run that waits forever is Quiet.
     Worked {
         source: b"Never() | 1",
         script: b"Never() = never\n",

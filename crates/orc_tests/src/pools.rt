@@ -157,7 +157,8 @@ fn is_as_alone(alloc: Global, loaded: &Loaded, reference: &Played) -> bool {
     }
 }
 
-// Whether runs on one worker and on several do what the reference does.
+// Whether runs on one worker and on several publish what the reference does, and end as it does. None if the program doesn't load, or the reference
+// doesn't run it.
 fn do_as_the_reference<R: Threads + Wait + Sync>(
     rt: &R,
     alloc: Global,
