@@ -266,7 +266,7 @@ impl<P: Run + Naming> Book<P> {
                 };
                 let number = self.ledger.group_of_token(&inner);
                 grow_to(self.alloc, &mut self.posts, number);
-                // The token leaves its group, and its pass stays there for the new group.
+                // In the group around the otherwise one token less is out, and the book holds that token's pass there for the new group.
                 bring_at(&mut self.posts, found.group, found.out - 1, token.pass);
                 raise_at(&mut self.posts, number, opened.word, found.group);
                 self.words.open(number);

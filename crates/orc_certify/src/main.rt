@@ -1,9 +1,9 @@
 //! The program `orc_certify` gives a run's answer from its journal alone. `orc_certify FORM FILE JOURNAL SCRIPT [LIMIT]` checks that JOURNAL is that
-//! of a run of FILE with SCRIPT, with at most LIMIT entries. Then it writes what the run published (FORM `values`) or the journal (FORM `journal`).
-//! If SCRIPT is an empty file there is no script.
+//! of a run of FILE with SCRIPT, with at most LIMIT entries, cancels counted. Then it writes what the run published (FORM `values`) or the journal
+//! (FORM `journal`). If SCRIPT is an empty file there is no script.
 //!
-//! The status is that of the run: 0 if it halted, 3 if it is quiet. Status 10 says that nothing was written: the journal proves no answer, or a file
-//! couldn't be read. Status 6 says that the output couldn't be written whole, and 2 that the command line is wrong.
+//! The status is that of the run: 0 if it halted, 3 if it is quiet. Status 10 says that nothing was written: the journal proves no answer, a file
+//! couldn't be read, or memory was refused. Status 6 says that the output couldn't be written whole, and 2 that the command line is wrong.
 //!
 //! `./orc` starts it while the full program is still being proved. So it is small: it stands on no ledger and no engine.
 #![tactic(auto)]
@@ -31,7 +31,7 @@ struct Asked<'a> {
     source: &'a str,
     journal: &'a str,
     script: &'a str,
-    /// The most entries that the journal may have.
+    /// The most entries that the journal may have, cancels counted.
     limit: u64,
 }
 

@@ -173,6 +173,7 @@ impl Marked {
                     scope as usize,
                 )
             },
+            // Not reached: a holder's tip is `Token` or `Bears`, and on a `Bears` there is a value.
             _ => None,
         }
     }

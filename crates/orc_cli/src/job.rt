@@ -273,7 +273,7 @@ pub struct DrawRunOptions {
 pub enum Order {
     /// The same order in each run.
     Fixed,
-    /// What pseudorandom numbers with this seed choose: the same for the same number. Such a run is one worker's; several don't look at it.
+    /// What pseudorandom numbers with this seed choose: the same for the same number. One worker makes such a run; several would ignore the number.
     Numbered(u64),
     /// What the workers' threads get to first.
     Unordered,

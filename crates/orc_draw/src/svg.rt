@@ -284,6 +284,7 @@ impl<'a> Sheet<'a> {
             }
             // A label is centred on its band. Its letters are taken as 7 pixels wide, and at least 12 pixels stay free between two labels.
             let middle = begin.saturating_add(width / 2);
+            // A digit is counted as 7 pixels wide, so two labels stand 12 pixels or more apart.
             let letters = digits(instant.time);
             if last == 0
                 || middle
@@ -363,6 +364,7 @@ impl<'a> Sheet<'a> {
         // These letters are 7.3 pixels wide.
         let end = place.saturating_add(some.width().saturating_mul(7_300_000));
         let is_short = end > limit;
+        // How many there are is counted as 60 pixels wide.
         if is_short && (some.count < 2 || place.saturating_add(pixels(60)) >= limit) {
             return;
         }
@@ -536,6 +538,7 @@ impl<'a> Sheet<'a> {
             Kind::Pruning(_) => "<line class=\"span\"",
             _ => "<line class=\"ospan\"",
         });
+        // The line from beginning to end, and an upright one at the beginning, 4 pixels up and down.
         page.form(
             " x1=\"%\" x2=\"%\" y1=\"%\" y2=\"%\"/><line class=\"span\" x1=\"%\" x2=\"%\" y1=\"%\" y2=\"%\"/></g>\n",
             &[

@@ -211,7 +211,7 @@ impl Remarks {
         Ok(())
     }
 
-    // Puts one call, with its number from 1, where it belongs: it may have nothing wrong.
+    // Puts one call, with its number from 1, into the groups of what is wrong with it; into none if nothing is.
     fn add(
         &mut self,
         scene: &Scene,

@@ -513,6 +513,7 @@ impl Walk {
                 self.place = Place::Event;
                 self.behind = behind;
             }
+            // `Done` doesn't come here: `over` has returned.
             Next::Back | Next::Done => self.place = self.behind,
         }
     }

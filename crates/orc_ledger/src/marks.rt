@@ -1,7 +1,8 @@
 //! The entries of a token that stands at a node: an end, a void token, a fork, the left side of a `>x>` and of an otherwise, a pruning.
 //!
-//! Each function first asks the limits and reserves memory, and then writes its entry: once that is written nothing refuses it any more. So what is
-//! refused has changed nothing. Each takes the token that is in the slot, and the scope and the nodes of its term.
+//! Each function first asks the limits (`within`: Full or Limit) and reserves memory (Memory), and then writes its entry: once that is written,
+//! nothing refuses it any more. So what is refused has changed nothing. Each takes the token that is in the slot, and the scope and the nodes of its
+//! term.
 //!
 //! Of the clauses `held` says that the token is in the slot, `at` or `form` what it is on, `done` what becomes of the records, `others` which tokens
 //! stay in their slots, `refused` that a refused call changes nothing, and `why` its cause.

@@ -139,7 +139,8 @@ impl<P: Run> Ledger<P> {
     }
 
     /// Makes the call of a site at which this token is, whose operands have values: the call pends in the token's place, and the slot is free. Gives
-    /// the call's record. `args` is lent for the arguments: it has them afterwards, and what it held is lost.
+    /// the call's record. `args` is lent for the arguments: it has them afterwards, and what it held is lost. Full or Limit as of `within`, or
+    /// Memory; then nothing changes but `args`.
     pub fn call(
         &mut self,
         inputs: &Inputs<'_, P>,

@@ -140,7 +140,7 @@ fn is_of_marks(next: &Next) -> bool {
 }
 
 impl Search<'_> {
-    // The site and the arguments of a call that was made on the way, by its number from 1.
+    // The site and the arguments of a call that was made on the way, by its number from 1. None if the way has no such call.
     fn made(&self, call: u64) -> Option<(u32, &Args)> {
         let made = self.calls.get(call.saturating_sub(1) as usize)?;
         match self.way.get(made.entry) {
@@ -223,6 +223,7 @@ impl Search<'_> {
     // Applies the cancels that are due, and the moves of marks of all tokens from the mark `from` on, also of those that such a move makes. These
     // entries leave no choice, so the search takes them at once.
     fn settle(&mut self, marked: &mut Marked, from: u64) -> Result<(), AllocError> {
+        // There is at most one cancel for each call that was made.
         for _turn in 0..marked.new_call() {
             match marked.next_cancel() {
                 Some(call) => self.apply(marked, Entry::Cancel(call))?,

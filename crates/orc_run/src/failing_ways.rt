@@ -39,7 +39,7 @@ impl<R: Threads + Sync> Held<'_, '_, R> {
     // Notes of each of these ways whether the claim fails in it.
     fn add(&self, scripts: &[Vec<u8>], fails: &mut Vec<bool>) -> Result<(), AllocError> {
         let failing = self.count(scripts)?;
-        // Whether the ways agree.
+        // Whether the claim fails in none or in all of these ways, so that no way need be tried alone.
         let is_one = failing == 0 || failing == scripts.len() as u64;
         // A list of one way each, as `count` takes it.
         for way in scripts.chunks(1) {
@@ -54,8 +54,8 @@ impl<R: Threads + Sync> Held<'_, '_, R> {
     }
 }
 
-/// For each of the ways of a case that were tried, whose scripts these are, whether the claim fails in it. `claim` has this one claim; with none of
-/// them the error is the same as with refused memory. What else is tried is as in `tried`.
+/// For each of the ways of a case that were tried, whose scripts these are, whether the claim fails in it. `claim` has this one claim; if it is
+/// empty, the error is the same as with refused memory. All but the claims is as in `tried`, and `workers` threads make the runs.
 pub fn failing_ways<R: Threads + Sync>(
     rt: &R,
     alloc: Global,

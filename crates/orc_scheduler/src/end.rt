@@ -45,7 +45,7 @@ impl<P: Run> Scheduler<P> {
         }
     }
 
-    // How a run has ended that stops for this reason; None and Broken as of `finish`.
+    // How a run has ended that stops for this reason; None, Broken and Site as of `finish`.
     fn end(
         &mut self,
         program: &Program,

@@ -87,7 +87,7 @@ impl Places {
         None
     }
 
-    // Puts it into the first slot, from that of its low bits on, that is free or has the same hash.
+    // Puts a number with its hash into the first slot, from that of the hash's low bits on, that is free or has the same hash.
     fn put(&mut self, new: Slot) {
         let mask = self.slots.len().wrapping_sub(1);
         let mut place = new.low as usize & mask;
@@ -122,8 +122,8 @@ impl Places {
         Ok(())
     }
 
-    /// Keeps this number for this hash, in place of another one that it had. A number of 2^32 - 1 or more isn't kept: it has no slot of four bytes.
-    /// The error is refused memory, and then nothing changes.
+    /// Keeps this number for this hash, in place of another one that it had. A number of 2^32 - 1 (`FREE`) or more isn't kept: a slot has four bytes
+    /// for a number. The error is refused memory, and then nothing changes.
     pub fn insert(&mut self, hash: u64, at: usize) -> Result<(), AllocError> {
         if at >= FREE as usize {
             return Ok(());

@@ -45,7 +45,7 @@ pub(crate) fn lifted_out(
 ) -> Result<Successor, AllocError>
     requires around { AreAround (length terms.old) (reverse path.now) }
     requires part { successor.to < length terms.old }
-    // It is the step through all frames of the path, the last one first.
+    // The result is `successor` led through all frames of the path, the last one first.
     ensures lifted { IfOk result (λ s. IsSuccessor (smalls terms.new) s (through (smalls terms.old) (reverse path.now) (successor_of (smalls terms.old) successor))) }
     ensures kept { Extends (smalls terms.old) (smalls terms.new) }
 {
@@ -77,8 +77,8 @@ impl Walk {
         Ok(())
     }
 
-    /// Plans that those parts of two joined terms that can move are entered next, the left one first. `depth` is that of the joined term. The error
-    /// is refused memory, or a depth past 2^64.
+    /// Plans that those parts of two joined terms that can move are entered next, the left one first. `f` and `g` are the numbers of the left and the
+    /// right term, and `depth` is that of the joined term. The error is refused memory, or a depth of 2^64.
     pub(crate) fn plan_parts(
         &mut self,
         joint: Joint,
@@ -96,6 +96,7 @@ impl Walk {
                 self.plan(Frame::Left(g), f, depth)
             }
             Joint::Feeds(x) => self.plan(Frame::Feeds(x, g), f, depth),
+            // A pruning that isn't opened yet moves as a whole: it opens.
             Joint::Prunes(_) => Ok(()),
             Joint::Instead => self.plan(Frame::First(g), f, depth),
             Joint::Needs => {
@@ -111,7 +112,8 @@ impl Walk {
 
     /// Goes on to the next part, whose frames are the path then; None once all parts have been entered. The error is refused memory.
     pub(crate) fn next(&mut self) -> Result<Option<Spot>, AllocError>
-        // What was still to be found is what the part has to give, and what is still to be found now; with None it was nothing.
+        // The successors that the walk had still to find are those of the part that it gives and those that it has still to find now. With None there
+        // were none.
         ensures { IfOk result (λ o. GoesOn self.old o self.new) }
     {
         while let Some(task) = self.todo.pop() {

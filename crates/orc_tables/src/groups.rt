@@ -308,6 +308,7 @@ impl Groups {
         if self.chains.reserve().is_err() {
             return Err(AllocError);
         }
+        // Without a free number each one but 0 is an open group's, so fewer than `MOST_GROUPS` were given out, as `add_number` asks.
         if self.free.len() == 0 {
             add_number(
                 &mut self.places,

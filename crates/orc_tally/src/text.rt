@@ -75,7 +75,7 @@ impl Report<'_, '_> {
         }
     }
 
-    // How many ways a case has, and how many of them were tried if not all.
+    // How many ways a case has, and how many of them were tried if not all; nothing if nothing is reported of the case.
     fn write_ways(&self, alloc: Global, case: usize, text: &mut Vec<u8>) -> Result<(), AllocError>
         ensures { OnOk result (text.new.items ≡ text.old.items ++ case_ways (slice_get self.now.cases.now case)) }
     {

@@ -262,6 +262,7 @@ impl Ranks {
         if late.push(both).is_ok() {
             let gap = Gap {
                 below: i,
+                // One more for `both`, and one since a step leaves one rank less free than it is long.
                 step: queue_above(items, both).saturating_add(2),
             };
             self.are_kept = self.settle(items, late, gap);

@@ -36,7 +36,7 @@ fn time(word: &[u8], tokens: &[Token<'_>]) -> Option<Option<u64>>
     }
 }
 
-// The claim that an event happens `low` times at least and `most` times at most, where None is no bound; `rest` may say `by` when.
+// The claim that an event happens `low` times at least and `most` times at most, where None is no bound; `rest` may be `by` and a time.
 fn count(event: Event, low: u64, most: Option<u64>, rest: &[Token<'_>]) -> Option<Plain>
     ensures { Gives plain_of result (counted low most (event_of event, tokens_of rest.now)) }
 {
@@ -115,7 +115,7 @@ fn end_first<'t, 'a>(tokens: &'t [Token<'a>]) -> Option<((bool, bool), &'t [Toke
     }
 }
 
-// The claim that a run ends as Halted, or as Quiet, where that is allowed; `tokens` may say `by` when.
+// The claim that a run ends in one of the ways that are allowed: Halted if `halted`, Quiet if `quiet`. `tokens` may be `by` and a time.
 fn ends_up_to(halted: bool, quiet: bool, tokens: &[Token<'_>]) -> Option<Plain>
     ensures { Gives plain_of result (ends_by (halted, quiet) (tokens_of tokens.now)) }
 {

@@ -125,7 +125,7 @@ where
     ensures kept { IfOk result (λ p. is_some p.journal ≡ true) }
     ensures range { IfErr result (λ fault. fault ≡ EngineFault.Range → ⊥) }
 {
-    // A pass for each, and one for the program's first token.
+    // `PASSES` for each worker, and one for the program's first token. The error is refused memory.
     let Ok(words) = Unnamed::new(alloc, WORDS, PASSES * workers as u32 + 1) else {
         return Err(EngineFault::Memory);
     };
@@ -134,7 +134,8 @@ where
     )
 }
 
-// The same, with the words of the groups made. The type P names the run, whose program and sites the caller picks, and the table of words.
+// Does what `run_graph` does, once the words of the groups are made. The type P names the run, whose program and sites the caller picks, and the
+// table of words.
 fn run_named<'x, P, R, S, G>(
     rt: &'x R,
     alloc: Global,
@@ -202,7 +203,8 @@ where
     }
 }
 
-// Lets all workers work until the run has stopped. The fault is Memory if memory for them was refused, or Broken if there are too few passes.
+// Lets all workers work until the run has stopped. The fault is Memory if memory for them was refused, or Broken if there are too few passes or no
+// workers.
 fn play<'x, P, R, S, G>(
     rt: &'x R,
     alloc: Global,
