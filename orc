@@ -12,6 +12,8 @@ if [ "${1:-}" = --no-preview ]; then
     wants_preview=0
     shift
 fi
+# The niceness of proofs, which is 15 beside a more urgent one.
+niceness=10
 # The control characters that take the line of progress off a terminal before another line is written; empty if there is no such line.
 clear=
 
@@ -89,7 +91,8 @@ weigh() {
     declare -A bytes=()
     for crate; do bytes[$crate]=$(cat "$top/crates/$crate"/{src,specs,proofs}/* 2>/dev/null | wc -c); done
     for crate; do
-        if [ -e "$top/crates/$crate/out/rlib" ] || { [ "$crate" = orc_certify ] && [ -x "$certifier" ]; }; then
+        # The folder of one that was broken off is empty.
+        if [ -n "$(ls "$top/crates/$crate/out/rlib" 2>/dev/null)" ] || { [ "$crate" = orc_certify ] && [ -x "$certifier" ]; }; then
             echo "$crate 0"
             continue
         fi
@@ -198,17 +201,17 @@ beside() {
 }
 
 # prove ROOT JOBS CRATE: proves and builds a library, or the program that checks journals. The crates below it are built, so `rt` makes no quick pass over
-# the sources first. The proof runs under `nice`, since somebody waits for the preview.
+# the sources first. The proof runs under `nice`, since somebody waits for the preview, with this `niceness`.
 prove() {
     local status=0 built=$1/crates/$3/out/$3
     if has_failed; then return 1; fi
     if [ "$3" = orc_certify ]; then
         # `rt run` runs it without words, so the status says nothing. The built file shows whether the proof went through.
         rm -f "$built"
-        (cd "$1/crates/$3" && exec nice rt run --jobs "$2") >"$room/$3.log" 2>&1 || status=$?
+        (cd "$1/crates/$3" && exec nice -n "$niceness" rt run --jobs "$2") >"$room/$3.log" 2>&1 || status=$?
         if [ -x "$built" ]; then status=0; fi
     else
-        (cd "$1/crates/$3" && exec nice rt lib --jobs "$2") >"$room/$3.log" 2>&1 || status=$?
+        (cd "$1/crates/$3" && exec nice -n "$niceness" rt lib --jobs "$2") >"$room/$3.log" 2>&1 || status=$?
     fi
     cat "$room/$3.log" >>"$log" || true
     [ "$status" = 0 ] || fail "$3" "$status"
@@ -281,9 +284,19 @@ apart() {
     tell "$crate"
 }
 
+# urgent CRATE..: the first of these crates that isn't proved yet. One that an earlier start has built takes a moment, so it isn't counted.
+urgent() {
+    local crate
+    for crate; do
+        if [ ! -e "$room/$crate.proved" ] && [ -z "${kept[$crate]+known}" ]; then
+            echo "$crate"
+            return
+        fi
+    done
+}
+
 # share PROCESSORS CRATE..: how many jobs the next of these crates gets: the processors, divided by the number of crates that may be at work at the same
-# time. So the last crates, beside which nothing else can work, get all processors. From four processors on the number is rounded up, since memory allows
-# a few more jobs than there are processors.
+# time. So the last crates, beside which nothing else can work, get all processors.
 share() {
     local processors=$1 crate many=0
     shift
@@ -293,13 +306,14 @@ share() {
     done
     if [ "$many" -gt "$lane_count" ]; then many=$lane_count; fi
     if [ "$many" -lt 1 ]; then many=1; fi
-    echo $(((processors < 4 ? processors : processors + many - 1) / many))
+    echo $((processors < many ? 1 : processors / many))
 }
 
-# lane PROCESSORS CRATE..: one of several background processes that share these crates. It takes the first crate that no lane has begun and whose own crates
-# are proved, proves it, and goes on with the next.
+# lane PROCESSORS CRATE..: one of several background processes that share these crates, the most urgent first. It takes the first crate that no lane has begun
+# and whose own crates are proved, proves it, and goes on with the next. The most urgent crate gets a job for each processor, and the others come after
+# it: all lanes wait for it in the end.
 lane() {
-    local processors=$1 crate waits
+    local processors=$1 crate waits jobs
     shift
     # A lane whose script was killed ends after its crate. It holds the lock, so that the next start waits for it.
     while ! has_failed && kill -0 "$$" 2>/dev/null; do
@@ -315,7 +329,14 @@ lane() {
                 fail "$crate" 1
                 return 1
             fi
-            apart "$crate" "$(share "$processors" "$@")" || return 1
+            if [ "$crate" = "$(urgent "$@")" ]; then
+                jobs=$processors
+                niceness=10
+            else
+                jobs=$(share "$processors" "$@")
+                niceness=15
+            fi
+            apart "$crate" "$jobs" || return 1
             continue 2
         done
         [ -n "$waits" ] || return 0
@@ -577,7 +598,7 @@ lock_up() {
 # first_start JOBS WORD..: proves all libraries in lanes.
 first_start() {
     local jobs=$1 each crates names
-    declare -gA uses=()
+    declare -gA uses=() kept=()
     say "building the program for the first time: every proof is checked, on $jobs processors."
     say "That takes half an hour to an hour; the next call starts at once. The log is build.log."
     if [ -n "$early" ]; then say "A proved answer to this command comes earlier, when the check of journals is proved."; fi
@@ -585,6 +606,9 @@ first_start() {
     while IFS=: read -r each names; do
         if [[ $each == [a-z]* ]]; then uses[${each%% *}]=$names; fi
     done <"$top/crates.txt"
+    while read -r each names; do
+        if [ "$names" = 0 ]; then kept[$each]=yes; fi
+    done <"$room/weights"
     crates=$(ways <"$room/weights" | sort -rn | cut -d ' ' -f 2 | grep -v '^orc$')
     # The crates with the longest chain to the check of journals come first, then those with the longest chain to the program.
     if [ -n "$early" ]; then
