@@ -76,13 +76,14 @@ pub const STORMS: [Storm; 8] = [
         published: 1,
         values: &[1, 2],
     },
-    // More races one after another than there may be open groups: a killed group's word has to become free again.
+    // More races one after another, 2,100, than there are words of groups, 2,048: a killed group's word has to become free again. The races are in
+    // three loops, since the term may get deeper with each round of a loop, and the check takes 10,000 levels.
     Storm {
         name: "kills",
-        source: b"def loop(n) = Lt(n, 1100) >b> (Iff(b) >> n | Ift(b) >> (x <x< (n | Never() | Rwait(5))) >> Add(n, 1) >m> loop(m))\nloop(0)",
+        source: b"def loop(n) = Lt(n, 700) >b> (Iff(b) >> n | Ift(b) >> (x <x< (n | Never() | Rwait(5))) >> Add(n, 1) >m> loop(m))\nloop(0) >> loop(0) >> loop(0)",
         end: End::Halted,
         published: 1,
-        values: &[1100],
+        values: &[700],
     },
 ];
 

@@ -250,18 +250,23 @@ fn a_call_that_was_cancelled_counts_no_more(rt: HostRuntime) -> Result<(), Fail>
     Ok(())
 }
 
-// Call 1 is in a side that is dropped at once. It is held until 4,000 calls have come to the gate, while hundreds of races open groups and end. The
-// dropped group's word must become free all the same.
+// How many races come one after another, and how many calls have to come until the gate opens. A race has four to six calls, and two calls come before
+// the races: so it opens after 2,099 races at least, and it opens before the run ends.
+const RACES: i64 = 3_200;
+const OPENS_AT: u64 = 12_600;
+
+// Call 1 is in a side that is dropped at once. It is held while more groups are dropped than there are words of groups, 2,048: their words must become
+// free all the same. A race has at most 25 entries.
 fn takes_no_group<R: Threads + Wait + Sync>(rt: &R, alloc: Global, workers: usize) -> bool {
     let source =
-        b"def loop(n) = Lt(n, 1100) >b> (Iff(b) >> n | Ift(b) >> (x <x< (n | Never() | Rwait(5))) >> Add(n, 1) >m> loop(m))
+        b"def loop(n) = Lt(n, 3200) >b> (Iff(b) >> n | Ift(b) >> (x <x< (n | Never() | Rwait(5))) >> Add(n, 1) >m> loop(m))
 (y <y< (Add(1, 1) | Rwait(0) >> 7)) >> loop(0)";
     let Ok(loaded) = load(alloc, source, NEVER) else {
         return false;
     };
-    let gate = Turnstile::new(1, 1, 4_000);
+    let gate = Turnstile::new(1, 1, OPENS_AT);
     match play(rt, alloc, &loaded, &gate, workers, 100_000) {
-        Ok(played) => halts_with(&played, 1100) && gate.held_all(),
+        Ok(played) => halts_with(&played, RACES) && gate.held_all(),
         Err(_) => false,
     }
 }

@@ -637,13 +637,15 @@ fn starves_nothing_on_any_number_of_workers(rt: HostRuntime) -> Result<(), Fail>
     Ok(())
 }
 
-// More races one after another than groups may be open at a time, each with two calls that are dropped.
+// More races one after another, 2,100, than there are words of groups, of which `run_pool` has 2,048: if the words of dropped groups stay taken, the
+// workers look for a free one again and again, and the run doesn't end. Each race drops two calls. A round has at most 25 entries. The races are in
+// three loops, since the term may get deeper by some levels with each round of a loop, and the check takes 10,000 levels.
 const KILLS: [Worked; 1] = [Worked {
-    source: b"def loop(n) = Lt(n, 1100) >b> (Iff(b) >> n | Ift(b) >> (x <x< (n | Never() | Rwait(5))) >> Add(n, 1) >m> loop(m))\nloop(0)",
+    source: b"def loop(n) = Lt(n, 700) >b> (Iff(b) >> n | Ift(b) >> (x <x< (n | Never() | Rwait(5))) >> Add(n, 1) >m> loop(m))\nloop(0) >> loop(0) >> loop(0)",
     script: b"Never() = never\n",
     limit: 100_000,
     end: End::Halted,
-    outs: Outs::Are(&[1100]),
+    outs: Outs::Are(&[700]),
     entries: None,
     now: Some(0),
 }];
