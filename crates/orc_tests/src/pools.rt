@@ -16,6 +16,9 @@ use std::sync::Wait;
 use std::test::Fail;
 use std::thread::Threads;
 
+// The limit of the runs here: more entries than any of them has.
+const LIMIT: u64 = 10_000;
+
 /// The options of a run that keeps its journal.
 pub(crate) fn keeping(workers: usize, limit: u64) -> RunOptions {
     RunOptions {
@@ -91,22 +94,21 @@ pub(crate) fn is_accepted(alloc: Global, source: &[u8], script: &[u8], played: &
     state_of(alloc, source, script, played).is_some()
 }
 
-// How a run ends, if the check accepts its journal and it publishes these values, in any order.
+// How a run ends, and at what time, if the check accepts its journal and it publishes these values, in any order.
 fn end_of<R: Threads + Wait + Sync, G: Gate + Sync>(
     rt: &R,
     alloc: Global,
     row: (&[u8], &[u8], &[Value]),
     gate: &G,
     workers: usize,
-    limit: u64,
-) -> Option<End> {
+) -> Option<(End, u64)> {
     let (source, script, values) = row;
     let loaded = load(alloc, source, script).ok()?;
-    let played = play(rt, alloc, &loaded, gate, workers, limit).ok()?;
+    let played = play(rt, alloc, &loaded, gate, workers, LIMIT).ok()?;
     if is_accepted(alloc, source, script, &played)
         && are_same(played.published.as_slice(), values)
     {
-        Some(played.summary.end)
+        Some((played.summary.end, played.summary.now))
     } else {
         None
     }
@@ -147,7 +149,7 @@ const ORDERED: [(&[u8], &[u8]); 8] = [
 
 // Whether `run_alone` publishes what the reference does, in any order, ends as it does, and at the same logical time.
 fn is_as_alone(alloc: Global, loaded: &Loaded, reference: &Played) -> bool {
-    match run_alone(alloc, &loaded.program, &loaded.answers, None, false, 10_000) {
+    match run_alone(alloc, &loaded.program, &loaded.answers, None, false, LIMIT) {
         Ok(played) => {
             are_same(reference.published.as_slice(), played.published.as_slice())
                 && played.summary.end == reference.summary.end
@@ -157,7 +159,7 @@ fn is_as_alone(alloc: Global, loaded: &Loaded, reference: &Played) -> bool {
     }
 }
 
-// Whether runs on one worker and on several publish what the reference does, and end as it does. None if the program doesn't load, or the reference
+// Whether runs on one worker and on several publish what the reference does, and end as it does and when it does. None if the program doesn't load, or the reference
 // doesn't run it.
 fn do_as_the_reference<R: Threads + Wait + Sync>(
     rt: &R,
@@ -166,10 +168,11 @@ fn do_as_the_reference<R: Threads + Wait + Sync>(
     script: &[u8],
 ) -> Option<bool> {
     let loaded = load(alloc, source, script).ok()?;
-    let reference = play_plainly(alloc, &loaded.program, &loaded.answers, 10_000).ok()?;
+    let reference = play_plainly(alloc, &loaded.program, &loaded.answers, LIMIT).ok()?;
+    let wanted = Some((reference.summary.end, reference.summary.now));
     let row = (source, script, reference.published.as_slice());
     for workers in [1, 2, 4, 16] {
-        if end_of(rt, alloc, row, &Slow, workers, 10_000) != Some(reference.summary.end) {
+        if end_of(rt, alloc, row, &Slow, workers) != wanted {
             return Some(false);
         }
     }
@@ -184,10 +187,34 @@ fn publishes_what_the_reference_does_on_any_number_of_workers(rt: HostRuntime) {
     }
 }
 
-// A program, the values that it publishes, the `first`, `last` and `wanted` of a `Turnstile`, and the number of workers.
-type HeldRow = (&'static [u8], &'static [Value], [u64; 3], usize);
+// A program whose calls a `Turnstile` holds, and what comes of it.
+#[derive(Clone, Copy)]
+struct HeldRow {
+    source: &'static [u8],
+    // What it publishes, in any order.
+    values: &'static [Value],
+    // When it halts.
+    now: u64,
+    // The calls from `first` to `last` are held until `wanted` calls have come.
+    first: u64,
+    last: u64,
+    wanted: u64,
+    // The numbers of workers on which it is run: each has one for every call that is held at a time.
+    workers: &'static [usize],
+}
 
 const TWO: &[Value] = &[Value::Number(2)];
+
+const TWO_AND_FOUR: &[Value] = &[Value::Number(2), Value::Number(4)];
+
+const THREE_AND_SEVEN: &[Value] = &[Value::Number(3), Value::Number(7)];
+
+const FOUR_TWOS: &[Value] = &[
+    Value::Number(2),
+    Value::Number(2),
+    Value::Number(2),
+    Value::Number(2),
+];
 
 const FOUR: &[Value] = &[
     Value::Number(3),
@@ -196,95 +223,108 @@ const FOUR: &[Value] = &[
     Value::Number(15),
 ];
 
-const HELD: [HeldRow; 11] = [
+const HELD: [HeldRow; 8] = [
     // The first call is held until another one was made.
-    (
-        b"Add(1, 2) | Add(3, 4)",
-        &[Value::Number(3), Value::Number(7)],
-        [1, 2, 2],
-        2,
-    ),
-    (
-        b"Add(1, 2) | Add(3, 4) | Add(5, 6) | Add(7, 8)",
-        FOUR,
-        [1, 4, 4],
-        4,
-    ),
-    (
-        b"Add(1, 2) | Add(3, 4) | Add(5, 6) | Add(7, 8)",
-        FOUR,
-        [1, 4, 4],
-        16,
-    ),
-    (
-        b"Add(1, 2) | (Add(3, 4) | (Add(5, 6) | Add(7, 8)))",
-        FOUR,
-        [1, 4, 4],
-        4,
-    ),
-    (
-        b"Add(1, 2) | (Add(3, 4) | (Add(5, 6) | Add(7, 8)))",
-        FOUR,
-        [1, 4, 4],
-        16,
-    ),
-    (
-        b"(Add(1, 2) | Add(3, 4)) | (Add(5, 6) | Add(7, 8))",
-        FOUR,
-        [1, 4, 4],
-        4,
-    ),
-    (
-        b"(Add(1, 2) | Add(3, 4)) | (Add(5, 6) | Add(7, 8))",
-        FOUR,
-        [1, 4, 4],
-        16,
-    ),
+    HeldRow {
+        source: b"Add(1, 2) | Add(3, 4)",
+        values: THREE_AND_SEVEN,
+        now: 0,
+        first: 1,
+        last: 2,
+        wanted: 2,
+        workers: &[2],
+    },
+    HeldRow {
+        source: b"Add(1, 2) | Add(3, 4) | Add(5, 6) | Add(7, 8)",
+        values: FOUR,
+        now: 0,
+        first: 1,
+        last: 4,
+        wanted: 4,
+        workers: &[4, 16],
+    },
+    HeldRow {
+        source: b"Add(1, 2) | (Add(3, 4) | (Add(5, 6) | Add(7, 8)))",
+        values: FOUR,
+        now: 0,
+        first: 1,
+        last: 4,
+        wanted: 4,
+        workers: &[4, 16],
+    },
+    HeldRow {
+        source: b"(Add(1, 2) | Add(3, 4)) | (Add(5, 6) | Add(7, 8))",
+        values: FOUR,
+        now: 0,
+        first: 1,
+        last: 4,
+        wanted: 4,
+        workers: &[4, 16],
+    },
     // All are due at one time, and each is held until all were polled again and their answers were taken.
-    (
-        b"(Rwait(3) | Rwait(3) | Rwait(3) | Rwait(3)) >> Add(1, 1)",
-        &[
-            Value::Number(2),
-            Value::Number(2),
-            Value::Number(2),
-            Value::Number(2),
-        ],
-        [5, 8, 8],
-        4,
-    ),
+    HeldRow {
+        source: b"(Rwait(3) | Rwait(3) | Rwait(3) | Rwait(3)) >> Add(1, 1)",
+        values: FOUR_TWOS,
+        now: 3,
+        first: 5,
+        last: 8,
+        wanted: 8,
+        workers: &[4],
+    },
     // The right side of an otherwise starts while another call is held.
-    (
-        b"(Ift(false) ; Add(1, 1)) | Add(2, 2)",
-        &[Value::Number(2), Value::Number(4)],
-        [2, 3, 3],
-        2,
-    ),
+    HeldRow {
+        source: b"(Ift(false) ; Add(1, 1)) | Add(2, 2)",
+        values: TWO_AND_FOUR,
+        now: 0,
+        first: 2,
+        last: 3,
+        wanted: 3,
+        workers: &[2],
+    },
     // Time passes while a call is held. The held call is due later than the one for which it waits, or at the same time.
-    (
-        b"Rwait(5) >> stop | Rwait(1) >> Add(1, 1)",
-        TWO,
-        [1, 1, 3],
-        2,
-    ),
-    (
-        b"Rwait(1) >> stop | Rwait(1) >> Add(1, 1)",
-        TWO,
-        [1, 1, 3],
-        2,
-    ),
+    HeldRow {
+        source: b"Rwait(5) >> stop | Rwait(1) >> Add(1, 1)",
+        values: TWO,
+        now: 5,
+        first: 1,
+        last: 1,
+        wanted: 3,
+        workers: &[2],
+    },
+    HeldRow {
+        source: b"Rwait(1) >> stop | Rwait(1) >> Add(1, 1)",
+        values: TWO,
+        now: 1,
+        first: 1,
+        last: 1,
+        wanted: 3,
+        workers: &[2],
+    },
 ];
+
+// How and when the program of a row ends on `workers` workers; None also if a call gave up waiting.
+fn end_when_held<R: Threads + Wait + Sync>(
+    rt: &R,
+    alloc: Global,
+    row: &HeldRow,
+    workers: usize,
+) -> Option<(End, u64)> {
+    let gate = Turnstile::new(row.first, row.last, row.wanted);
+    let ended = end_of(rt, alloc, (row.source, b"", row.values), &gate, workers);
+    if gate.held_all() { ended } else { None }
+}
 
 #[test]
 fn each_worker_makes_calls_while_others_are_held(rt: HostRuntime) {
-    for (source, values, held, workers) in HELD.iter() {
-        let [first, last, wanted] = *held;
-        let gate = Turnstile::new(first, last, wanted);
-        let row: (&[u8], &[u8], &[Value]) = (source, b"", values);
-        let end = end_of(&rt, rt.alloc(), row, &gate, *workers, 1000);
-        assert!(rt;
-            end == Some(End::Halted) && gate.held_all(),
-            "{source:?} on {workers}: {end:?}"
-        );
+    for row in HELD.iter() {
+        let source = row.source;
+        for workers in row.workers {
+            let ended = end_when_held(&rt, rt.alloc(), row, *workers);
+            assert!(rt;
+                ended == Some((End::Halted, row.now)),
+                "{source:?} on {workers}: {ended:?}"
+            );
+        }
     }
 }
 
@@ -307,7 +347,7 @@ fn published_when_held<R: Threads + Wait + Sync>(
     let options = RunOptions {
         workers,
         keeps: false,
-        limit: 1000,
+        limit: LIMIT,
     };
     let played = run_pool(rt, alloc, program, answers, &sites, &Open, options).ok()?;
     if gate.held_all() && played.summary.end == End::Halted {
@@ -342,13 +382,12 @@ fn sites_may_hold_their_calls(rt: HostRuntime) {
 #[test]
 fn one_worker_holds_one_call(rt: HostRuntime) {
     let gate = Turnstile::that_looks(1, 2, 2, 1000);
-    let row: (&[u8], &[u8], &[Value]) = (
-        b"Add(1, 2) | Add(3, 4)",
-        b"",
-        &[Value::Number(3), Value::Number(7)],
+    let row: (&[u8], &[u8], &[Value]) = (b"Add(1, 2) | Add(3, 4)", b"", THREE_AND_SEVEN);
+    let ended = end_of(&rt, rt.alloc(), row, &gate, 1);
+    assert!(rt;
+        ended == Some((End::Halted, 0)) && !gate.held_all(),
+        "{ended:?}"
     );
-    let end = end_of(&rt, rt.alloc(), row, &gate, 1, 1000);
-    assert!(rt; end == Some(End::Halted) && !gate.held_all(), "{end:?}");
 }
 
 // Numbers of workers and limits, of which one is out of range.
