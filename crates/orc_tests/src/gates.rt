@@ -221,6 +221,14 @@ struct Note {
     cancelled: AtomicU64,
 }
 
+/// How often a call passed the gate, was made, and was cancelled.
+#[derive(Clone, Copy, PartialEq, Eq)]
+pub(crate) struct Counts {
+    pub(crate) passed: u64,
+    pub(crate) made: u64,
+    pub(crate) cancelled: u64,
+}
+
 /// Notes how often each call passes the gate, is made and is cancelled, by its number; the last one stands for all greater numbers.
 #[derive(Drop)]
 pub(crate) struct Board {
@@ -249,20 +257,23 @@ impl Board {
         self.notes.get(last.min(number as usize))
     }
 
-    /// How often the call passed, was made and was cancelled.
-    pub(crate) fn counts(&self, number: u64) -> [u64; 3] {
+    pub(crate) fn counts(&self, number: u64) -> Counts {
         match self.note(number) {
-            Some(note) => [
-                note.passed.load(Ordering::SeqCst),
-                note.made.load(Ordering::SeqCst),
-                note.cancelled.load(Ordering::SeqCst),
-            ],
-            None => [0, 0, 0],
+            Some(note) => Counts {
+                passed: note.passed.load(Ordering::SeqCst),
+                made: note.made.load(Ordering::SeqCst),
+                cancelled: note.cancelled.load(Ordering::SeqCst),
+            },
+            None => Counts {
+                passed: 0,
+                made: 0,
+                cancelled: 0,
+            },
         }
     }
 
     fn is_gone(&self, number: u64) -> bool {
-        self.counts(number)[2] > 0
+        self.counts(number).cancelled > 0
     }
 
     // Waits until a call is cancelled.

@@ -1,7 +1,7 @@
 //! Sites that answer late, never or wrongly, that hold their calls, and that are refused memory, on several workers. A wrong or missing answer ends
 //! the run with the fault `Site` of that call (E5).
 
-use crate::gates::{Board, Hold, Manner, Noting, Odd, Slow, Turnstile, Twist, Twisted};
+use crate::gates::{Board, Counts, Hold, Manner, Noting, Odd, Slow, Turnstile, Twist, Twisted};
 use crate::pools::{is_accepted, keeping, play};
 use orc_journal::Journal;
 use orc_load::load;
@@ -104,14 +104,27 @@ fn calls_that_answer_zero_or_nothing_are_found(rt: HostRuntime) {
     }
 }
 
-// Whether each call of a journal passed the gate and was made once, and just those that it cancels were reported as cancelled, once each. A board
-// counts these three in this order.
+// A call that passed the gate and was made, each once.
+const MADE: Counts = Counts {
+    passed: 1,
+    made: 1,
+    cancelled: 0,
+};
+
+// The same, and its cancel was reported once.
+const MADE_AND_CANCELLED: Counts = Counts {
+    passed: 1,
+    made: 1,
+    cancelled: 1,
+};
+
+// Whether each call of a journal passed the gate and was made once, and just those that it cancels were reported as cancelled, once each.
 fn are_told(board: &Board, journal: &Journal) -> bool {
     let (mut calls, mut cancels) = (0u64, 0u64);
     for at in 0..journal.len() {
         match journal.get(at) {
             Some(Entry::Call(_, _, _, _)) => calls = calls.saturating_add(1),
-            Some(Entry::Cancel(number)) if board.counts(number) == [1, 1, 1] => {
+            Some(Entry::Cancel(number)) if board.counts(number) == MADE_AND_CANCELLED => {
                 cancels = cancels.saturating_add(1);
             }
             Some(Entry::Cancel(_)) => return false,
@@ -119,10 +132,11 @@ fn are_told(board: &Board, journal: &Journal) -> bool {
         }
     }
     for number in 1..calls.saturating_add(1) {
-        match board.counts(number) {
-            [1, 1, 0] => {}
-            [1, 1, 1] if cancels > 0 => cancels = cancels.saturating_sub(1),
-            _ => return false,
+        let counts = board.counts(number);
+        if counts == MADE_AND_CANCELLED && cancels > 0 {
+            cancels = cancels.saturating_sub(1);
+        } else if counts != MADE {
+            return false;
         }
     }
     cancels == 0
@@ -210,7 +224,9 @@ fn counts_no_more<R: Threads + Wait + Sync>(
 ) -> Result<bool, AllocError> {
     let board = Board::new(alloc, 20)?;
     match noted(rt, alloc, source, &board, hold, answers_late, workers) {
-        Some(run) => { Ok(halts_with(&run, 4) && board.held_all() && board.counts(1) == [1, 1, 1]) }
+        Some(run) => {
+            Ok(halts_with(&run, 4) && board.held_all() && board.counts(1) == MADE_AND_CANCELLED)
+        }
         None => Ok(false),
     }
 }
@@ -250,13 +266,14 @@ fn a_call_that_was_cancelled_counts_no_more(rt: HostRuntime) -> Result<(), Fail>
     Ok(())
 }
 
-// How many races come one after another, and how many calls have to come until the gate opens. A race has four to six calls, and two calls come before
-// the races: so it opens after 2,099 races at least, and it opens before the run ends.
+// How many races come one after another, and how many calls have to come until the gate opens. A race has four to six calls, and two calls come
+// before the races: so it opens after 2,099 races at least, and it opens before the run ends.
 const RACES: i64 = 3_200;
+
 const OPENS_AT: u64 = 12_600;
 
-// Call 1 is in a side that is dropped at once. It is held while more groups are dropped than there are words of groups, 2,048: their words must become
-// free all the same. A race has at most 25 entries.
+// Call 1 is in a side that is dropped at once. It is held while more groups are dropped than there are words of groups, 2,048: their words must
+// become free all the same. A race has at most 25 entries.
 fn takes_no_group<R: Threads + Wait + Sync>(rt: &R, alloc: Global, workers: usize) -> bool {
     let source =
         b"def loop(n) = Lt(n, 3200) >b> (Iff(b) >> n | Ift(b) >> (x <x< (n | Never() | Rwait(5))) >> Add(n, 1) >m> loop(m))

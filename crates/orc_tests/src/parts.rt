@@ -21,7 +21,7 @@ use std::thread;
 use std::thread::Threads;
 
 // How many tasks go through the queues.
-const TOKENS: u64 = 10_000;
+const TASKS: u64 = 10_000;
 
 // Whether each of five calls of `take` gave a pass: a pass is given back before the fourth.
 fn takes<J: Naming>(made: Unnamed) -> [bool; 5]
@@ -181,7 +181,7 @@ fn steal_all(
     for _ in rt.forever() {
         let is_over = done.load(Ordering::SeqCst) == 1;
         match theft.steal() {
-            Some(token) => stolen.push(token)?,
+            Some(task) => stolen.push(task)?,
             None if is_over => break,
             None => thread::yield_now(),
         }
@@ -192,19 +192,19 @@ fn steal_all(
 // Pushes all tasks, pops some of them in between, and then pops what is left.
 fn push_all(alloc: Global, mut own: Own<u64>, done: &AtomicU64) -> Result<Vec<u64>, AllocError> {
     let mut kept = Vec::new(alloc);
-    for token in 0..TOKENS {
-        if let Err(back) = own.push(token) {
+    for task in 0..TASKS {
+        if let Err(back) = own.push(task) {
             kept.push(back)?;
         }
-        if token % 3 == 0
-            && let Some(token) = own.pop()
+        if task % 3 == 0
+            && let Some(popped) = own.pop()
         {
-            kept.push(token)?;
+            kept.push(popped)?;
         }
     }
-    for _ in 0..TOKENS {
-        let Some(token) = own.pop() else { break };
-        kept.push(token)?;
+    for _ in 0..TASKS {
+        let Some(task) = own.pop() else { break };
+        kept.push(task)?;
     }
     done.store(1, Ordering::SeqCst);
     Ok(kept)
@@ -235,34 +235,34 @@ fn share_out(
 }
 
 #[test]
-fn each_token_comes_out_once(rt: HostRuntime) -> Result<(), Fail> {
+fn each_task_comes_out_once(rt: HostRuntime) -> Result<(), Fail> {
     let mut queues = Queues::<u64>::new(rt.alloc(), 1)?;
     let own = queues.own(0).expect(&rt, "the queue's end");
     let first = queues.theft(0)?.expect(&rt, "a right to steal");
     let second = queues.theft(0)?.expect(&rt, "a right to steal");
-    let mut tokens = Vec::new(rt.alloc());
+    let mut tasks = Vec::new(rt.alloc());
     for part in share_out(&rt, rt.alloc(), own, (first, second))? {
-        for token in part.iter() {
-            tokens.push(*token)?;
+        for task in part.iter() {
+            tasks.push(*task)?;
         }
     }
-    tokens.sort()?;
-    assert_eq!(rt; tokens.len(), 10_000);
+    tasks.sort()?;
+    assert_eq!(rt; tasks.len() as u64, TASKS);
     let mut expected = 0u64;
-    for token in tokens.iter() {
-        assert_eq!(rt; *token, expected);
+    for task in tasks.iter() {
+        assert_eq!(rt; *task, expected);
         expected = expected.saturating_add(1);
     }
     Ok(())
 }
 
 #[test]
-fn a_hand_takes_its_own_tasks_and_then_those_of_the_others(rt: HostRuntime) -> Result<(), Fail> {
+fn a_worker_takes_its_own_tasks_and_then_those_of_the_others(rt: HostRuntime) -> Result<(), Fail> {
     let mut dealt = worker_queues::<u32>(rt.alloc(), 3)?;
     assert_eq!(rt; dealt.len(), 3);
-    let mut third = dealt.pop().expect(&rt, "a worker_queue");
-    let mut second = dealt.pop().expect(&rt, "a worker_queue");
-    let mut first = dealt.pop().expect(&rt, "a worker_queue");
+    let mut third = dealt.pop().expect(&rt, "a worker's queue");
+    let mut second = dealt.pop().expect(&rt, "a worker's queue");
+    let mut first = dealt.pop().expect(&rt, "a worker's queue");
     for task in 1..5u32 {
         assert_eq!(rt; second.push(task), Ok(()));
     }
@@ -294,7 +294,7 @@ fn a_hand_takes_its_own_tasks_and_then_those_of_the_others(rt: HostRuntime) -> R
 
 // Each task that the worker finds grows by one.
 fn grow_all(worker_queue: &mut WorkerQueue<&mut u64>) {
-    for _ in 0..TOKENS {
+    for _ in 0..TASKS {
         let Some(task) = worker_queue.next() else {
             return;
         };
@@ -333,9 +333,9 @@ fn grow_on_four<R: Threads + Sync>(
 }
 
 #[test]
-fn each_task_is_done_once_by_four_hands(rt: HostRuntime) -> Result<(), Fail> {
+fn each_task_is_done_once_by_four_workers(rt: HostRuntime) -> Result<(), Fail> {
     let mut tasks = Vec::new(rt.alloc());
-    for task in 0..TOKENS {
+    for task in 0..TASKS {
         tasks.push(task)?;
     }
     grow_on_four(&rt, rt.alloc(), &mut tasks)?;
