@@ -2,7 +2,7 @@
 
 use crossbeam_channel::{Receiver, Sender, bounded};
 use futures::Future;
-use futures::task::{Context, Poll};
+use futures::task::{Context, Poll, Source, Waker};
 use orc_rules::answers::Answers;
 use orc_rules::value::Answer;
 use orc_site::{Due, Request, SiteCall, SiteFuture, Sites};
@@ -55,6 +55,8 @@ impl<'a, R: Wait> Sites for Office<'a, R> {
             call: SiteCall::new(self.answers, request.copied()),
             now: request.made_at,
             done,
+            source: Source::new(),
+            waker: None,
         })
     }
 
@@ -67,7 +69,7 @@ impl<'a, R: Wait> Sites for Office<'a, R> {
     }
 }
 
-/// A call that was made and has no answer yet. A poll of a call that is due blocks until the clerk has served the call.
+/// A call that was made and has no answer yet. A poll of a call that is due blocks until the clerk has served the call or dropped it.
 #[derive(Drop)]
 pub struct Errand<'a, R: Wait> {
     rt: &'a R,
@@ -77,6 +79,9 @@ pub struct Errand<'a, R: Wait> {
     now: u64,
     // By this channel the clerk says that it has served the call.
     done: Receiver<(), Global>,
+    // Where a call that the clerk has dropped waits. Nothing wakes it.
+    source: Source,
+    waker: Option<Waker>,
 }
 
 impl<R: Wait> Future for Errand<'_, R> {
@@ -89,8 +94,10 @@ impl<R: Wait> Future for Errand<'_, R> {
     fn poll(&mut self, cx: &mut Context<'_>) -> Poll<Answer> {
         if let Due::At(time) = self.call.due()
             && time <= self.now
+            && self.done.recv(self.rt).is_err()
         {
-            let _ = self.done.recv(self.rt);
+            // The clerk has dropped the call unserved, so it has no answer.
+            return cx.register(&self.source, &mut self.waker);
         }
         self.call.poll(cx)
     }
