@@ -4,7 +4,8 @@
 //!     orc_stress ROUNDS                       runs each program ROUNDS times on 2, 4 and 16 workers
 //!     orc_stress NAME WORKERS [ROUNDS]        runs one program on WORKERS workers, once by default; NAME may also be `due`, `asks` or `nap`
 //!
-//! A number that is left out or can't be read is its default. A first word that names no program counts as ROUNDS.
+//! A number that is left out is its default, and so are WORKERS and ROUNDS behind a NAME if they can't be read. If the first word is neither a number
+//! nor a NAME, the program writes the names and ends with status 2.
 #![tactic(auto)]
 
 mod gates;
@@ -16,14 +17,18 @@ use orc_outcome::Played;
 use orc_site::{Gate, Scripted};
 use orc_workers::EngineFault;
 use std::alloc::Global;
+use std::process::ExitCode;
 use std::sync::Wait;
 use std::thread::Threads;
 use std::time::Clock;
 use std::{env, io};
-use storm::{ASKS, DUE, NAP, STORMS, Storm, run};
+use storm::{ALONE, ASKS, NAP, STORMS, Storm, run};
 
 /// How often each program is run if no argument says it.
 const ROUNDS: u32 = 3;
+
+/// The status of a command line whose first word is neither a number nor a program's name.
+const UNKNOWN: u8 = 2;
 
 // Whether a run ended as it has to, and its journal is accepted.
 fn is_right(alloc: Global, storm: &Storm, played: Result<Played, EngineFault>) -> bool {
@@ -187,16 +192,26 @@ fn storm_named(name: &str) -> Option<Storm> {
             return Some(*storm);
         }
     }
-    if name == DUE.name {
-        return Some(DUE);
-    }
-    if name == ASKS.name {
-        return Some(ASKS);
-    }
-    if name == NAP.name {
-        return Some(NAP);
+    for storm in &ALONE {
+        if storm.name == name {
+            return Some(*storm);
+        }
     }
     None
+}
+
+// Writes that a word names no program, and which names there are.
+fn tell_names<R: Eprint>(rt: &R, alloc: Global, word: &str) -> io::Result<()> {
+    let mut names = String::new(alloc);
+    for storm in &STORMS {
+        names.push(' ')?;
+        names.push_str(storm.name)?;
+    }
+    for storm in &ALONE {
+        names.push(' ')?;
+        names.push_str(storm.name)?;
+    }
+    eprintln!(rt; "orc_stress: {word} is no number of rounds, and none of{names}")
 }
 
 // The number in the argument at this place, or `otherwise` if there is no argument or it is no number.
@@ -207,19 +222,27 @@ fn number_of(words: &[String], place: usize, otherwise: u32) -> u32 {
     }
 }
 
-fn main(rt: HostRuntime) -> io::Result<()> {
+fn main(rt: HostRuntime) -> io::Result<ExitCode> {
     let alloc = rt.alloc();
     let words = env::args(&rt)?.collect::<Vec<String>>(alloc)?;
-    let named = match words.get(1) {
-        Some(word) => storm_named(word.as_str()),
-        None => None,
+    let Some(word) = words.get(1) else {
+        run_all(&rt, alloc, ROUNDS)?;
+        return Ok(ExitCode::SUCCESS);
     };
-    match named {
-        Some(storm) => {
-            let workers = number_of(words.as_slice(), 2, 1) as usize;
-            let rounds = number_of(words.as_slice(), 3, 1);
-            run_one(&rt, alloc, &storm, workers, rounds)
+    if let Some(storm) = storm_named(word.as_str()) {
+        let workers = number_of(words.as_slice(), 2, 1) as usize;
+        let rounds = number_of(words.as_slice(), 3, 1);
+        run_one(&rt, alloc, &storm, workers, rounds)?;
+        return Ok(ExitCode::SUCCESS);
+    }
+    match word.parse::<u32>() {
+        Ok(rounds) => {
+            run_all(&rt, alloc, rounds)?;
+            Ok(ExitCode::SUCCESS)
         }
-        None => run_all(&rt, alloc, number_of(words.as_slice(), 1, ROUNDS)),
+        Err(_) => {
+            tell_names(&rt, alloc, word.as_str())?;
+            Ok(ExitCode::from(UNKNOWN))
+        }
     }
 }

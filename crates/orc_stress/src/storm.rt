@@ -114,6 +114,9 @@ pub const NAP: Storm = Storm {
     values: &[1],
 };
 
+/// Programs that are run only by their names.
+pub const ALONE: [Storm; 3] = [DUE, ASKS, NAP];
+
 impl Storm {
     /// A program that makes `workers` calls in parallel, one for each worker, and publishes their answers.
     pub fn held(source: &'static [u8], workers: usize) -> Storm {
