@@ -36,10 +36,16 @@ pub(crate) struct Replayed {
 /// How many passes to the program's own group a replay keeps for the next records there, as a worker keeps some.
 const MOST_WARM: usize = 64;
 
-/// Nothing was replayed: a text can't be read, the journal is of the first version, or memory was refused before the first entry.
+/// Nothing was replayed: a text can't be read, or the journal is of the first version.
 const UNREAD: Stop = Stop {
     at: 0,
     why: Odd::Other,
+};
+
+/// Nothing was replayed, since memory was refused for the graph, the words or the book.
+const REFUSED: Stop = Stop {
+    at: 0,
+    why: Odd::Memory,
 };
 
 /// Replays the text of a journal of the second version: a book that begins with the program does each entry by the call for its kind, and the replay
@@ -57,7 +63,7 @@ pub(crate) fn replay_text(
         return Err(UNREAD);
     };
     let Ok(graph) = Graph::build(alloc, &loaded.program) else {
-        return Err(UNREAD);
+        return Err(REFUSED);
     };
     if journal.version() != Version::Two {
         return Err(UNREAD);
@@ -73,7 +79,7 @@ fn replay_graph(
     journal: &Journal,
 ) -> Result<Replayed, Stop> {
     let Ok(words) = Unnamed::new(alloc, WORDS, PASSES) else {
-        return Err(UNREAD);
+        return Err(REFUSED);
     };
     replay_named::<Brand>(alloc, words, graph, answers, journal)
 }
@@ -100,7 +106,7 @@ fn replay_named<P: Run + Naming>(
         groups: &groups,
     };
     let Some(mut replay) = begin(alloc, &setup, supply, WORDS, MOST_ENTRIES as usize) else {
-        return Err(UNREAD);
+        return Err(REFUSED);
     };
     replay.passes.keep_warm(MOST_WARM);
     follow(&setup, &mut replay, journal)?;
