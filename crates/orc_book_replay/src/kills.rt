@@ -21,8 +21,8 @@ pub(crate) fn leave_one<P: Run + Naming>(
     so(!replay.passes.leave(setup.groups, pass).ok()?)
 }
 
-/// Leaves the last pass to a group, and has the book close the group, which adds no entry. Gives what has become of the group.
-pub(crate) fn leave_last<P: Run + Naming>(
+// Leaves the last pass to a group, and has the book close the group, which adds no entry. Gives what has become of the group.
+fn leave_last<P: Run + Naming>(
     setup: &Setup<'_, P>,
     replay: &mut Replay<P>,
     pass: Pass<P>,
@@ -34,6 +34,48 @@ pub(crate) fn leave_last<P: Run + Naming>(
     let ended = replay.book.halt(last, leave).ok()?;
     so(replay.book.entries() == entries)?;
     Some(ended)
+}
+
+// Leaves the last pass to a killed group, which ends without an entry. No other killed group's word is taken then.
+fn leave_killed<P: Run + Naming>(
+    setup: &Setup<'_, P>,
+    replay: &mut Replay<P>,
+    pass: Pass<P>,
+    leave: &mut Vec<Pass<P>>,
+) -> Option<()> {
+    match leave_last(setup, replay, pass, leave)? {
+        Ended::Group => so(replay.book.dying() == 0),
+        _ => None,
+    }
+}
+
+/// Leaves the last pass to the program's own group, with which the run ends.
+pub(crate) fn leave_run<P: Run + Naming>(
+    setup: &Setup<'_, P>,
+    replay: &mut Replay<P>,
+    pass: Pass<P>,
+    leave: &mut Vec<Pass<P>>,
+) -> Option<()> {
+    match leave_last(setup, replay, pass, leave)? {
+        Ended::Run => Some(()),
+        _ => None,
+    }
+}
+
+// The book refuses a token's bind as Gone: nothing is to be left, and the token comes back.
+fn binds_not<P: Run + Naming>(
+    setup: &Setup<'_, P>,
+    replay: &mut Replay<P>,
+    token: Token<P>,
+    leave: &mut Vec<Pass<P>>,
+) -> Option<Token<P>> {
+    match replay.bind_only(setup, token, leave) {
+        Ok(()) => None,
+        Err(refused) => {
+            so(refused.why == BookFault::Gone && leave.is_empty())?;
+            Some(refused.back)
+        }
+    }
 }
 
 // The right side of cell 1 is bound by its second token while its first one's call pends: two passes are to be left, and the call is gone.
@@ -71,21 +113,15 @@ pub(crate) fn ends_after_a_kill<P: Run + Naming>(
     kill(setup, &mut replay, &mut leave)?;
     leave_one(setup, &mut replay, leave.pop()?)?;
     let pass = leave.pop()?;
-    match leave_last(setup, &mut replay, pass, &mut leave)? {
-        Ended::Group => {}
-        _ => return None,
-    }
-    so(replay.book.dying() == 0 && leave.len() == 1)?;
+    leave_killed(setup, &mut replay, pass, &mut leave)?;
+    so(leave.len() == 1)?;
     let owed = leave.pop()?;
     so(owed.group() == Some(0))?;
     replay.wake(1).ok()?;
     let token = replay.take_token(2)?;
     let own = replay.book.publish(setup.inputs, token).ok()?;
     leave_one(setup, &mut replay, owed)?;
-    match leave_last(setup, &mut replay, own, &mut leave)? {
-        Ended::Run => {}
-        _ => return None,
-    }
+    leave_run(setup, &mut replay, own, &mut leave)?;
     so(leave.is_empty())?;
     has_written(
         alloc,
@@ -120,12 +156,8 @@ pub(crate) fn gives_a_lost_mark_back<P: Run + Naming>(
     let word = token.pass.group();
     let token = won(setup, token)?;
     let mut leave = Vec::new(alloc);
-    let refused = match replay.bind_only(setup, token, &mut leave) {
-        Ok(()) => return None,
-        Err(refused) => refused,
-    };
-    so(refused.why == BookFault::Gone && leave.is_empty())?;
-    so(refused.back.serial == 3 && refused.back.pass.group() == word)?;
+    let token = binds_not(setup, &mut replay, token, &mut leave)?;
+    so(token.serial == 3 && token.pass.group() == word)?;
     has_written(alloc, setup, replay, "open 1 1 2 3\n")
 }
 
@@ -148,11 +180,7 @@ pub(crate) fn keeps_words_of_the_killed<P: Run + Naming>(
     let token = prunes_not(setup, &mut replay, token, BookFault::Full)?;
     so(replay.book.dying() == 1 && leave.len() == 1)?;
     let pass = leave.pop()?;
-    match leave_last(setup, &mut replay, pass, &mut leave)? {
-        Ended::Group => {}
-        _ => return None,
-    }
-    so(replay.book.dying() == 0)?;
+    leave_killed(setup, &mut replay, pass, &mut leave)?;
     replay.hold(token).ok()?;
     enter_all(setup, &mut replay, "open 5 2 6 7\n")?;
     let lines = "seq 1 2\nopen 2 1 3 4\nbind 4 1 1\nsend 3 5 1\nopen 5 2 6 7\n";
@@ -177,16 +205,9 @@ pub(crate) fn tells_killed_tokens<P: Run + Naming>(
             .view(setup.inputs, token.slot, token.serial)
             .is_none(),
     )?;
-    let refused = match replay.bind_only(setup, token, &mut leave) {
-        Ok(()) => return None,
-        Err(refused) => refused,
-    };
-    so(refused.why == BookFault::Gone && replay.book.dying() == 1)?;
-    match leave_last(setup, &mut replay, refused.back.pass, &mut leave)? {
-        Ended::Group => {}
-        _ => return None,
-    }
-    so(replay.book.dying() == 0)?;
+    let token = binds_not(setup, &mut replay, token, &mut leave)?;
+    so(replay.book.dying() == 1)?;
+    leave_killed(setup, &mut replay, token.pass, &mut leave)?;
     has_written(
         alloc,
         setup,

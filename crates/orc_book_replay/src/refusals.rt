@@ -2,11 +2,11 @@
 
 ghost use Rattle.std.specs.Prelude.{◌≡◌, ◌≤◌, true};
 
-use crate::kills::{leave_last, leave_one};
+use crate::kills::{leave_one, leave_run};
 use crate::replay::Replay;
 use crate::rows::{enter_all, has_written, so};
 use crate::setup::Setup;
-use orc_book::{BookFault, Ended, Token};
+use orc_book::{BookFault, Refused, Token};
 use orc_log::Run;
 use orc_rules::value::Args;
 use orc_word::{Naming, Pass};
@@ -59,74 +59,19 @@ pub(crate) fn is_live<P: Run + Naming>(
     let mut leave = Vec::new(alloc);
     let token = leaves_early(setup, &mut replay, token, &mut leave)?;
     let pass = replay.book.publish(setup.inputs, token).ok()?;
-    match leave_last(setup, &mut replay, pass, &mut leave)? {
-        Ended::Run => {}
-        _ => return None,
-    }
+    leave_run(setup, &mut replay, pass, &mut leave)?;
     let lines = "other 1 2\nopen 2 1 3 4\nend 4\nlost 1\nvoid 3\nright 1 5\npublish 5 7\n";
     has_written(alloc, setup, replay, lines)
 }
 
-// The token of a refused call, if it was refused as Wrong.
-fn wrong<P: Run + Naming>(why: BookFault, token: Token<P>) -> Option<Token<P>> {
-    so(why == BookFault::Wrong && token.serial == 1)?;
-    Some(token)
-}
-
-fn ends_not<P: Run + Naming>(
-    setup: &Setup<'_, P>,
-    replay: &mut Replay<P>,
-    token: Token<P>,
-) -> Option<Token<P>> {
-    match replay.book.end(setup.inputs, token) {
+// The token of a call of the book that has to be refused as Wrong.
+fn wrong<P: Run + Naming, T: Drop>(answer: Result<T, Refused<Token<P>>>) -> Option<Token<P>> {
+    match answer {
         Ok(_) => None,
-        Err(refused) => wrong(refused.why, refused.back),
-    }
-}
-
-fn publishes_not<P: Run + Naming>(
-    setup: &Setup<'_, P>,
-    replay: &mut Replay<P>,
-    token: Token<P>,
-) -> Option<Token<P>> {
-    match replay.book.publish(setup.inputs, token) {
-        Ok(_) => None,
-        Err(refused) => wrong(refused.why, refused.back),
-    }
-}
-
-fn calls_not<P: Run + Naming>(
-    setup: &Setup<'_, P>,
-    replay: &mut Replay<P>,
-    token: Token<P>,
-) -> Option<Token<P>> {
-    let mut args = Args::new();
-    match replay.book.call(setup.inputs, token, &mut args) {
-        Ok(_) => None,
-        Err(refused) => wrong(refused.why, refused.back),
-    }
-}
-
-fn waits_not<P: Run + Naming>(
-    setup: &Setup<'_, P>,
-    replay: &mut Replay<P>,
-    token: Token<P>,
-) -> Option<Token<P>> {
-    match replay.book.wait(setup.inputs, token) {
-        Ok(()) => None,
-        Err(refused) => wrong(refused.why, refused.back),
-    }
-}
-
-fn binds_not<P: Run + Naming>(
-    setup: &Setup<'_, P>,
-    replay: &mut Replay<P>,
-    token: Token<P>,
-    leave: &mut Vec<Pass<P>>,
-) -> Option<Token<P>> {
-    match replay.bind_only(setup, token, leave) {
-        Ok(()) => None,
-        Err(refused) => wrong(refused.why, refused.back),
+        Err(refused) => {
+            so(refused.why == BookFault::Wrong && refused.back.serial == 1)?;
+            Some(refused.back)
+        }
     }
 }
 
@@ -141,7 +86,8 @@ fn forks_not<P: Run + Naming>(
         Err(refused) => {
             let (token, same) = refused.back;
             leave_one(setup, replay, same)?;
-            wrong(refused.why, token)
+            so(refused.why == BookFault::Wrong && token.serial == 1)?;
+            Some(token)
         }
     }
 }
@@ -155,12 +101,13 @@ pub(crate) fn refuses_other_moves<P: Run + Naming>(
     requires { P.keeps ≡ true }
 {
     let mut leave = Vec::new(alloc);
+    let mut args = Args::new();
     let token = replay.take_token(1)?;
-    let token = ends_not(setup, &mut replay, token)?;
-    let token = publishes_not(setup, &mut replay, token)?;
-    let token = calls_not(setup, &mut replay, token)?;
-    let token = waits_not(setup, &mut replay, token)?;
-    let token = binds_not(setup, &mut replay, token, &mut leave)?;
+    let token = wrong(replay.book.end(setup.inputs, token))?;
+    let token = wrong(replay.book.publish(setup.inputs, token))?;
+    let token = wrong(replay.book.call(setup.inputs, token, &mut args))?;
+    let token = wrong(replay.book.wait(setup.inputs, token))?;
+    let token = wrong(replay.bind_only(setup, token, &mut leave))?;
     let token = forks_not(setup, &mut replay, token)?;
     so(replay.book.entries() == 0 && leave.is_empty())?;
     replay.hold(token).ok()?;
