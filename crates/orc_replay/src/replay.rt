@@ -54,13 +54,13 @@ enum Side {
 
 // An open group: the members of a side.
 #[derive(Clone, Copy)]
-struct Open {
+struct OpenGroup {
     number: u32,
     side: Side,
     // The number of the group outside it; 0 for the program's own.
     parent: u32,
     // Whether a publication has left it. Then it ends without an entry once it has no members.
-    left: bool,
+    has_published: bool,
 }
 
 /// A ledger that does entries one after another, and what the replay has to note of them.
@@ -68,7 +68,7 @@ pub struct Replay<P: Run> {
     pub ledger: Ledger<P>,
     // The slot in which the ledger keeps each token, by the token's serial (its mark in the journal); there is no serial 0.
     slots: Vec<usize>,
-    groups: Vec<Open>,
+    groups: Vec<OpenGroup>,
     // Lent to the ledger's calls.
     scopes: Vec<StoredScope>,
     cancelled: Vec<u64>,
@@ -171,7 +171,7 @@ impl<P: Run> Replay<P> {
             Entry::Tick(time) => self.tick(inputs, *time)?,
             Entry::Cancel(_) => return Err(Odd::Other),
         }
-        self.close_left()
+        self.close_published()
     }
 
     // Makes room for the notes on an entry: two tokens and a group. So no memory is refused for them once the ledger has moved.
@@ -264,11 +264,11 @@ impl<P: Run> Replay<P> {
 
     // Notes that the group with this number was opened for a side, inside the group `parent`.
     fn note(&mut self, number: u32, side: Side, parent: u32) -> Result<(), Odd> {
-        let group = Open {
+        let group = OpenGroup {
             number,
             side,
             parent,
-            left: false,
+            has_published: false,
         };
         match self.groups.push(group) {
             Ok(()) => Ok(()),
@@ -295,7 +295,7 @@ impl<P: Run> Replay<P> {
             if let Side::Right(_) = open.side {
                 return Err(Odd::Other);
             }
-            open.left = true;
+            open.has_published = true;
             number = open.parent;
         }
         Err(Odd::Other)
@@ -336,12 +336,10 @@ impl<P: Run> Replay<P> {
     }
 
     // Closes the groups that have published and have no members left: they end without an entry.
-    fn close_left(&mut self) -> Result<(), Odd> {
+    fn close_published(&mut self) -> Result<(), Odd> {
         for _outwards in 0..MOST_GROUPS {
-            let Some(place) = self
-                .groups
-                .iter()
-                .position(|open| open.left && self.ledger.is_empty(open.number))
+            let Some(place) = self.groups.iter().position(|open| open.has_published
+                && self.ledger.is_empty(open.number))
             else {
                 return Ok(());
             };

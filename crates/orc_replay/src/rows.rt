@@ -11,6 +11,7 @@ use orc_ledger::{Action, Inputs, Ledger, LedgerFault, Next, ReturnFault, Run};
 use orc_load::load;
 use orc_rules::answers::Answers;
 use orc_rules::entry::{Entry, State};
+use orc_rules::limits::MOST_ENTRIES;
 use orc_rules::value::{Answer, Value};
 use std::alloc::{AllocError, Global};
 use std::marker::Brand;
@@ -45,7 +46,7 @@ pub(crate) struct Row {
 const SIGNAL: Answer = Answer::Value(Value::Signal);
 
 // What the token with this mark does next. No row has a hundred tokens.
-fn word<P: Run>(ledger: &Ledger<P>, inputs: &Inputs<'_, P>, serial: u64) -> Option<Action> {
+fn next_action<P: Run>(ledger: &Ledger<P>, inputs: &Inputs<'_, P>, serial: u64) -> Option<Action> {
     for slot in 0..100_usize {
         if let Some(token) = ledger.held(slot)
             && token.serial == serial
@@ -74,11 +75,14 @@ fn does<P: Run>(replay: &mut Replay<P>, inputs: &Inputs<'_, P>, lines: &str) -> 
 }
 
 // Does a step, or asks the ledger: whether the ledger does, says or refuses what the step wants.
-fn is_so<P: Run>(replay: &mut Replay<P>, inputs: &Inputs<'_, P>, step: &Step) -> bool {
+fn step_holds<P: Run>(replay: &mut Replay<P>, inputs: &Inputs<'_, P>, step: &Step) -> bool {
     match *step {
         Step::Does(lines) => does(replay, inputs, lines),
         Step::Waits(serial) => {
-            matches!(word(&replay.ledger, inputs, serial), Some(Action::Wait(_)))
+            matches!(
+                next_action(&replay.ledger, inputs, serial),
+                Some(Action::Wait(_))
+            )
         }
         Step::Next(next) => replay.ledger.next(inputs) == next,
         Step::Due(number) => replay.ledger.due_beyond(0) == number,
@@ -128,7 +132,7 @@ fn wrong_step<P: Run>(
         return Some(0);
     };
     for (at, step) in steps.iter().enumerate() {
-        if !is_so(&mut replay, &inputs, step) {
+        if !step_holds(&mut replay, &inputs, step) {
             return Some(at);
         }
     }
@@ -302,8 +306,8 @@ fn refused_at<P: Run>(
     requires limit { limit ≡ P.limit }
 {
     let inputs = Inputs::new(graph, answers);
-    // The contract of `begin` wants a limit from 1 to `MOST_ENTRIES`.
-    if limit < 1 || limit > 10_000_000 {
+    // The range that the contract of `begin` wants.
+    if limit < 1 || limit > MOST_ENTRIES as usize {
         return None;
     }
     let mut ledger = Ledger::<P>::begin(alloc, true, limit, graph.root()).ok()?;
