@@ -146,190 +146,130 @@ fn first_fault<R: Threads + Wait + Sync>(
     Ok(None)
 }
 
+// What most rows say: a program without a script, which halts at time 0. It gives the fields that a row doesn't name.
+const AT_ONCE: Worked = Worked {
+    source: b"",
+    script: b"",
+    limit: 100_000,
+    end: End::Halted,
+    published: Published::Are(&[]),
+    entries: None,
+    now: Some(0),
+};
+
 const TERMS: [Worked; 20] = [
     Worked {
         source: b"1",
-        script: b"",
-        limit: 100_000,
-        end: End::Halted,
         published: Published::Are(&[1]),
         entries: Some(1),
-        now: Some(0),
+        ..AT_ONCE
     },
     Worked {
         source: b"stop",
-        script: b"",
-        limit: 100_000,
-        end: End::Halted,
         published: Published::Are(&[]),
         entries: Some(1),
-        now: Some(0),
+        ..AT_ONCE
     },
     Worked {
         source: b"1 >x> Add(x, 10)",
-        script: b"",
-        limit: 100_000,
-        end: End::Halted,
         published: Published::Are(&[11]),
-        entries: None,
-        now: Some(0),
+        ..AT_ONCE
     },
     Worked {
         source: b"(1 | 2) >x> Add(x, 10)",
-        script: b"",
-        limit: 100_000,
-        end: End::Halted,
         published: Published::InAnyOrder(&[11, 12]),
         entries: Some(10),
-        now: Some(0),
+        ..AT_ONCE
     },
     Worked {
         source: b"(1 | 2) >x> (10 | 20) >y> Add(x, y)",
-        script: b"",
-        limit: 100_000,
-        end: End::Halted,
         published: Published::InAnyOrder(&[11, 12, 21, 22]),
-        entries: None,
-        now: Some(0),
+        ..AT_ONCE
     },
     Worked {
         source: b"x <x< (1 | 2)",
-        script: b"",
-        limit: 100_000,
-        end: End::Halted,
         published: Published::OneOf(&[1, 2]),
-        entries: None,
-        now: Some(0),
+        ..AT_ONCE
     },
     Worked {
         source: b"val x = 1 | 2\nAdd(x, x)",
-        script: b"",
-        limit: 100_000,
-        end: End::Halted,
         published: Published::OneOf(&[2, 4]),
-        entries: None,
-        now: Some(0),
+        ..AT_ONCE
     },
     Worked {
         source: b"1 ; 2",
-        script: b"",
-        limit: 100_000,
-        end: End::Halted,
         published: Published::Are(&[1]),
-        entries: None,
-        now: Some(0),
+        ..AT_ONCE
     },
     Worked {
         source: b"Ift(false) ; 2",
-        script: b"",
-        limit: 100_000,
-        end: End::Halted,
         published: Published::Are(&[2]),
-        entries: None,
-        now: Some(0),
+        ..AT_ONCE
     },
     Worked {
         source: b"(Ift(false) >> 1) ; 2",
-        script: b"",
-        limit: 100_000,
-        end: End::Halted,
         published: Published::Are(&[2]),
-        entries: None,
-        now: Some(0),
+        ..AT_ONCE
     },
     Worked {
         source: b"(1 ; 2) >x> Add(x, 1)",
-        script: b"",
-        limit: 100_000,
-        end: End::Halted,
         published: Published::Are(&[2]),
-        entries: None,
-        now: Some(0),
+        ..AT_ONCE
     },
     Worked {
         source: b"(Add(x, 1) <x< stop) ; 7",
-        script: b"",
-        limit: 100_000,
-        end: End::Halted,
         published: Published::Are(&[7]),
         entries: Some(7),
-        now: Some(0),
+        ..AT_ONCE
     },
     Worked {
         source: b"(Add(x, 1) <x< Ift(false)) ; 3",
-        script: b"",
-        limit: 100_000,
-        end: End::Halted,
         published: Published::Are(&[3]),
-        entries: None,
-        now: Some(0),
+        ..AT_ONCE
     },
     // Once x is lost the left side of `;` halts, though y has no value yet.
     Worked {
         source: b"((Add(x, y) ; 5) <x< stop) <y< Never()",
         script: b"Never() = never\n",
-        limit: 100_000,
         end: End::Quiet,
         published: Published::Are(&[5]),
-        entries: None,
-        now: Some(0),
+        ..AT_ONCE
     },
     // A definition is called before all of its arguments have values.
     Worked {
         source: b"def f(x, y) = x\nf(1, y) <y< Never()",
         script: b"Never() = never\n",
-        limit: 100_000,
         end: End::Quiet,
         published: Published::Are(&[1]),
-        entries: None,
-        now: Some(0),
+        ..AT_ONCE
     },
     // The argument is the outer x, and the body adds its own one to it.
     Worked {
         source: b"def g(a) = Add(a, x) <x< 1\ng(x) <x< 10",
-        script: b"",
-        limit: 100_000,
-        end: End::Halted,
         published: Published::Are(&[11]),
         entries: Some(8),
-        now: Some(0),
+        ..AT_ONCE
     },
     Worked {
         source: b"def f(a, b) = Add(a, b)\nf(2, 3) >y> Add(y, y)",
-        script: b"",
-        limit: 100_000,
-        end: End::Halted,
         published: Published::Are(&[10]),
-        entries: None,
-        now: Some(0),
+        ..AT_ONCE
     },
     Worked {
         source: b"def f(n) = Ift(b) >> Add(n, -1) >m> (f(m) | n) <b< Lt(0, n)\nf(5)",
-        script: b"",
-        limit: 100_000,
-        end: End::Halted,
         published: Published::InAnyOrder(&[1, 2, 3, 4, 5]),
-        entries: None,
-        now: Some(0),
+        ..AT_ONCE
     },
     // A sum over the greatest number halts.
     Worked {
         source: b"Add(9223372036854775807, 1) ; 0",
-        script: b"",
-        limit: 100_000,
-        end: End::Halted,
         published: Published::Are(&[0]),
-        entries: None,
-        now: Some(0),
+        ..AT_ONCE
     },
     Worked {
         source: b"-9223372036854775808",
-        script: b"",
-        limit: 100_000,
-        end: End::Halted,
         published: Published::Are(&[i64::MIN]),
-        entries: None,
-        now: Some(0),
+        ..AT_ONCE
     },
 ];
 
@@ -342,87 +282,66 @@ fn works_terms_and_cells(rt: HostRuntime) -> Result<(), Fail> {
 const TIMES: [Worked; 9] = [
     Worked {
         source: b"x <x< (Rwait(2) >> 20 | Rwait(1) >> 10)",
-        script: b"",
-        limit: 100_000,
-        end: End::Halted,
         published: Published::Are(&[10]),
         entries: Some(12),
         now: Some(1),
+        ..AT_ONCE
     },
     // The limit counts no cancels.
     Worked {
         source: b"x <x< (Rwait(2) >> 20 | Rwait(1) >> 10)",
-        script: b"",
         limit: 11,
-        end: End::Halted,
         published: Published::Are(&[10]),
         entries: Some(12),
         now: Some(1),
+        ..AT_ONCE
     },
     Worked {
         source: b"Rwait(5) >> 1",
-        script: b"",
-        limit: 100_000,
-        end: End::Halted,
         published: Published::Are(&[1]),
-        entries: None,
         now: Some(5),
+        ..AT_ONCE
     },
     Worked {
         source: b"(Rwait(3) >> Ift(false)) ; 9",
-        script: b"",
-        limit: 100_000,
-        end: End::Halted,
         published: Published::Are(&[9]),
         entries: Some(10),
         now: Some(3),
+        ..AT_ONCE
     },
     // The greatest time is 2^64 - 1, and a call that would be due after it is never due.
     Worked {
         source: b"Rwait(9223372036854775807) >> Rwait(9223372036854775807) >> Rwait(1) >> 1",
-        script: b"",
-        limit: 100_000,
-        end: End::Halted,
         published: Published::Are(&[1]),
-        entries: None,
         now: Some(u64::MAX),
+        ..AT_ONCE
     },
     Worked {
         source: b"Rwait(9223372036854775807) >> Rwait(9223372036854775807) >> Rwait(2) >> 1",
         script: b"Never() = never\n",
-        limit: 100_000,
         end: End::Quiet,
         published: Published::Are(&[]),
-        entries: None,
         now: Some(u64::MAX - 1),
+        ..AT_ONCE
     },
     Worked {
         source: b"Add(Add(1, 2), Rwait(1) >> 4)",
-        script: b"",
-        limit: 100_000,
-        end: End::Halted,
         published: Published::Are(&[7]),
-        entries: None,
         now: Some(1),
+        ..AT_ONCE
     },
     Worked {
         source: b"Add(1, x) <x< Rwait(1) >> 2 >y> Iff(false) >> y",
-        script: b"",
-        limit: 100_000,
-        end: End::Halted,
         published: Published::Are(&[3]),
-        entries: None,
         now: Some(1),
+        ..AT_ONCE
     },
     // Several calls are due at one time.
     Worked {
         source: b"(Rwait(2) | Rwait(2) | Rwait(2) | Rwait(1)) >> Add(1, 1)",
-        script: b"",
-        limit: 100_000,
-        end: End::Halted,
         published: Published::Are(&[2, 2, 2, 2]),
-        entries: None,
         now: Some(2),
+        ..AT_ONCE
     },
 ];
 
@@ -436,67 +355,50 @@ const SCRIPTS: [Worked; 7] = [
     Worked {
         source: b"Pair(1, 9) | (Pair(2, 9) ; 6)",
         script: b"Pair(1, _) = 5 after 2\nPair(_, _) = halt\n",
-        limit: 100_000,
-        end: End::Halted,
         published: Published::Are(&[6, 5]),
-        entries: None,
         now: Some(2),
+        ..AT_ONCE
     },
     Worked {
         source: b"A()",
         script: b"A() = 1\nA() = 2",
-        limit: 100_000,
-        end: End::Halted,
         published: Published::Are(&[1]),
-        entries: None,
-        now: Some(0),
+        ..AT_ONCE
     },
     // The first of two answers is taken, and the other call is cancelled.
     Worked {
         source: b"x <x< (A() | B())",
         script: b"A() = 1 after 7\nB() = 2 after 3\n",
-        limit: 100_000,
-        end: End::Halted,
         published: Published::Are(&[2]),
-        entries: None,
         now: Some(3),
+        ..AT_ONCE
     },
     Worked {
         source: b"Flip() | Flip() | Flip() | Flip()",
         script: b"Flip() = 1 then halt then 3 after 2",
-        limit: 100_000,
-        end: End::Halted,
         published: Published::Are(&[1, 3, 3]),
-        entries: None,
         now: Some(2),
+        ..AT_ONCE
     },
     Worked {
         source: b"Try() ; Try() ; Try() ; 0",
         script: b"Try() = halt then halt then 5",
-        limit: 100_000,
-        end: End::Halted,
         published: Published::Are(&[5]),
-        entries: None,
-        now: Some(0),
+        ..AT_ONCE
     },
     // A sequence counts for each list of arguments, not for each line.
     Worked {
         source: b"Flip(1) | Flip(2)",
         script: b"Flip(_) = 1 then 2",
-        limit: 100_000,
-        end: End::Halted,
         published: Published::Are(&[1, 1]),
-        entries: None,
-        now: Some(0),
+        ..AT_ONCE
     },
     Worked {
         source: b"A() | A()",
         script: b"A() = never then 1",
-        limit: 100_000,
         end: End::Quiet,
         published: Published::Are(&[1]),
-        entries: None,
-        now: Some(0),
+        ..AT_ONCE
     },
 ];
 
@@ -510,67 +412,56 @@ const LIMITS: [Worked; 9] = [
     // The whole run has ten entries.
     Worked {
         source: b"(1 | 2) >x> Add(x, 10)",
-        script: b"",
         limit: 10,
-        end: End::Halted,
         published: Published::InAnyOrder(&[11, 12]),
-        entries: None,
-        now: Some(0),
+        ..AT_ONCE
     },
     Worked {
         source: b"(1 | 2) >x> Add(x, 10)",
-        script: b"",
         limit: 9,
         end: End::Limit,
         published: Published::OneOf(&[11, 12]),
         entries: Some(9),
-        now: Some(0),
+        ..AT_ONCE
     },
     Worked {
         source: b"(1 | 2) >x> Add(x, 10)",
-        script: b"",
         limit: 1,
         end: End::Limit,
         published: Published::Are(&[]),
         entries: Some(1),
-        now: Some(0),
+        ..AT_ONCE
     },
     // As many frames, or groups, as there may be: 4,096 left sides of a `>x>`, or 1,023 of a `;`, take two entries each, and one more `def` follows.
     Worked {
         source: b"def f() = f() >> 1\nf()",
-        script: b"",
-        limit: 100_000,
         end: End::Full,
         published: Published::Are(&[]),
         entries: Some(8_193),
-        now: Some(0),
+        ..AT_ONCE
     },
     Worked {
         source: b"def f() = f() ; 1\nf()",
-        script: b"",
-        limit: 100_000,
         end: End::Full,
         published: Published::Are(&[]),
         entries: Some(2_047),
-        now: Some(0),
+        ..AT_ONCE
     },
     Worked {
         source: b"def f() = f()\nf()",
-        script: b"",
         limit: 500,
         end: End::Limit,
         published: Published::Are(&[]),
         entries: Some(500),
-        now: Some(0),
+        ..AT_ONCE
     },
     Worked {
         source: b"def clock() = Rwait(1) >> clock()\nclock()",
-        script: b"",
         limit: 100,
         end: End::Limit,
         published: Published::Are(&[]),
-        entries: None,
         now: None,
+        ..AT_ONCE
     },
     // The limit is far away, so the run that waits forever is Quiet.
     Worked {
@@ -579,8 +470,7 @@ const LIMITS: [Worked; 9] = [
         limit: 500,
         end: End::Quiet,
         published: Published::Are(&[1]),
-        entries: None,
-        now: Some(0),
+        ..AT_ONCE
     },
     // After the last of five entries only moves of marks are left, or none.
     Worked {
@@ -589,8 +479,7 @@ const LIMITS: [Worked; 9] = [
         limit: 5,
         end: End::Quiet,
         published: Published::Are(&[]),
-        entries: None,
-        now: Some(0),
+        ..AT_ONCE
     },
 ];
 
@@ -604,30 +493,22 @@ fn works_to_its_limits(rt: HostRuntime) -> Result<(), Fail> {
 const LOOPS: [Worked; 3] = [
     Worked {
         source: b"def loop() = loop()\nx <x< (loop() | 1)",
-        script: b"",
         limit: 10_000_000,
-        end: End::Halted,
         published: Published::Are(&[1]),
-        entries: None,
-        now: Some(0),
+        ..AT_ONCE
     },
     Worked {
         source: b"def loop() = loop()\nx <x< (loop() | Add(0, 1))",
-        script: b"",
         limit: 10_000_000,
-        end: End::Halted,
         published: Published::Are(&[1]),
-        entries: None,
-        now: Some(0),
+        ..AT_ONCE
     },
     Worked {
         source: b"def loop() = loop()\nx <x< (Rwait(1) >> loop() | Rwait(1) >> 1)",
-        script: b"",
         limit: 10_000_000,
-        end: End::Halted,
         published: Published::Are(&[1]),
-        entries: None,
         now: Some(1),
+        ..AT_ONCE
     },
 ];
 
@@ -643,11 +524,8 @@ fn starves_nothing_on_any_number_of_workers(rt: HostRuntime) -> Result<(), Fail>
 const KILLS: [Worked; 1] = [Worked {
     source: b"def loop(n) = Lt(n, 700) >b> (Iff(b) >> n | Ift(b) >> (x <x< (n | Never() | Rwait(5))) >> Add(n, 1) >m> loop(m))\nloop(0) >> loop(0) >> loop(0)",
     script: b"Never() = never\n",
-    limit: 100_000,
-    end: End::Halted,
     published: Published::Are(&[700]),
-    entries: None,
-    now: Some(0),
+    ..AT_ONCE
 }];
 
 #[test]
@@ -660,11 +538,9 @@ fn works_a_storm_of_kills(rt: HostRuntime) -> Result<(), Fail> {
 const STANDING: [Worked; 1] = [Worked {
     source: b"def idle(n) = Lt(0, n) >b> Ift(b) >> ((x <x< Never()) | Sub(n, 1) >m> idle(m))\ndef loop(n) = Lt(n, 100) >b> (Iff(b) >> n | Ift(b) >> (x <x< (Add(n, 0) | Never())) >> Add(n, 1) >m> loop(m))\nidle(1020) | loop(0)",
     script: b"Never() = never\n",
-    limit: 100_000,
     end: End::Quiet,
     published: Published::Are(&[100]),
-    entries: None,
-    now: Some(0),
+    ..AT_ONCE
 }];
 
 #[test]
