@@ -99,6 +99,7 @@ impl<R: Threads + Wait + Sync> Trial<'_, R> {
         }
         words.push("--explain")?;
         let done = self.run(words.as_slice())?;
+        words.pop();
         let err = done.err.as_str();
         if let Some(wanted) = self.row.field("marks") {
             if marked(err) != wanted {
@@ -272,13 +273,14 @@ impl<R: Threads + Wait + Sync> Trial<'_, R> {
         Ok(())
     }
 
-    /// Tries a row that is a program: with each of its lines of words, on each number of workers, and with `--unordered`.
+    /// Tries a row that is a program: with each of its lines of words, on each number of workers, and with `--unordered` where the run before that came
+    /// to an end, and not to a fault. A row that says which text or workers it wants isn't tried with `--unordered`.
     pub fn try_program(&mut self) -> io::Result<()> {
         // What the run before this one has written.
         let mut last: Option<String> = None;
-        // Whether the row is tried with `--unordered`: not once one of its runs has come to a fault.
-        let mut is_run = !self.row.has("text") && !self.row.has("workers");
+        let may_race = !self.row.has("text") && !self.row.has("workers");
         for more in self.row.field("words").unwrap_or("").split('\n') {
+            let mut has_ended = false;
             for workers in self.row.field("workers").unwrap_or(WORKERS).split(' ') {
                 let mut words = words_of(self.alloc, workers, more)?;
                 let line = joined(self.alloc, words.as_slice())?;
@@ -292,10 +294,10 @@ impl<R: Threads + Wait + Sync> Trial<'_, R> {
                     self.note("not what it publishes on others", done.out.as_str())?;
                 }
                 self.count(line.as_str())?;
-                is_run = is_run && is_end(done.status);
+                has_ended = is_end(done.status);
                 last = Some(done.out);
             }
-            if is_run {
+            if may_race && has_ended {
                 self.try_unordered(more)?;
             }
         }

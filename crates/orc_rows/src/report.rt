@@ -6,6 +6,9 @@ use std::io;
 /// How many failures are written in full; the others are only counted.
 const MOST_TOLD: u64 = 20;
 
+/// How many bytes of a text are shown at most.
+const MOST_SHOWN: usize = 400;
+
 /// How many command lines did what their rows say, how many didn't, and the text on these.
 #[derive(Drop)]
 pub struct Report {
@@ -27,13 +30,13 @@ impl Report {
         }
     }
 
-    /// Notes one thing that a command line did otherwise than it has to: `wanted` are words that introduce a text, such as `the status is` or
-    /// `--explain has to say`, and `got` is that text, of which the front is shown. The error is refused memory, here and in `count` and `add`.
-    pub fn note(&mut self, wanted: &str, got: &str) -> Result<(), AllocError> {
+    /// Notes one thing that a command line did otherwise than it has to: `label` are words that introduce a text, such as `the status is` or
+    /// `--explain has to say`, and of `text` the front is shown. The error is refused memory, here and in `count` and `add`.
+    pub fn note(&mut self, label: &str, text: &str) -> Result<(), AllocError> {
         self.wrong.push_str("  ")?;
-        self.wrong.push_str(wanted)?;
+        self.wrong.push_str(label)?;
         self.wrong.push_str(": ")?;
-        self.wrong.push_str(front_of(got))?;
+        self.wrong.push_str(front_of(text))?;
         self.wrong.push('\n')
     }
 
@@ -80,7 +83,16 @@ impl Report {
     }
 }
 
-// The first 400 bytes of a text; the whole text if it is shorter, or a character stands across that place.
+// The characters of a text that lie within its first `MOST_SHOWN` bytes.
 fn front_of(text: &str) -> &str {
-    text.get(..400).unwrap_or(text)
+    if text.len() <= MOST_SHOWN {
+        return text;
+    }
+    // A character has at most four bytes, so one of these four places is where one begins.
+    for back in 0..4 {
+        if let Some(front) = text.get(..MOST_SHOWN.saturating_sub(back)) {
+            return front;
+        }
+    }
+    ""
 }

@@ -64,9 +64,9 @@ impl<'a, R: Threads + Wait + Sync> Trial<'a, R> {
         orc(self.rt, self.alloc, words, &self.folder)
     }
 
-    /// Notes a difference, as `Report::note` does: words that introduce a text, and the text.
-    pub fn note(&mut self, wanted: &str, got: &str) -> Result<(), AllocError> {
-        self.report.note(wanted, got)
+    /// Notes a difference, as `Report::note` does.
+    pub fn note(&mut self, label: &str, text: &str) -> Result<(), AllocError> {
+        self.report.note(label, text)
     }
 
     /// Notes a number that isn't what a field of the row says.
