@@ -212,11 +212,17 @@ impl Search<'_> {
         Ok(after)
     }
 
-    // Applies an entry to a term and adds it to the way. The rules allow the entry, so the checker refuses it only as Memory; the way lacks it then.
+    // Applies an entry to a term. The rules allow the entry, so the checker refuses it only as Memory.
+    fn step(&self, marked: &mut Marked, entry: &Entry) -> Result<(), AllocError> {
+        marked
+            .step(self.program, self.answers, entry)
+            .map_err(|_| AllocError)
+    }
+
+    // Applies an entry to a term and adds it to the way.
     fn apply(&mut self, marked: &mut Marked, entry: Entry) -> Result<(), AllocError> {
-        if marked.step(self.program, self.answers, &entry).is_ok() {
-            self.way.push(entry)?;
-        }
+        self.step(marked, &entry)?;
+        self.way.push(entry)?;
         Ok(())
     }
 
@@ -363,10 +369,7 @@ impl Search<'_> {
             return Ok(Turn::More);
         };
         let from = marked.new_mark();
-        // The rules allow each entry of a level, so the checker refuses one only as Memory. The search then passes over it.
-        if marked.step(self.program, self.answers, &entry).is_err() {
-            return Ok(Turn::More);
-        }
+        self.step(&mut marked, &entry)?;
         let counts = self.add(entry, counts)?;
         self.settle(&mut marked, from)?;
         self.stand(wanted, marked, counts, seen)
@@ -447,8 +450,7 @@ fn way_to<W: Wanted>(
 /// journal. The contract says that it is a run of the program and ended by itself, but not that the wanted things happen: a caller checks that on the
 /// journal. None if the search found no run, or one of more than `limit` entries, cancels not counted.
 ///
-/// The fault is Memory if memory was refused, or Broken if the rules refuse an entry of the run that the search found. But where the checker has no
-/// memory for an entry that the search tries, the search goes on without that entry.
+/// The fault is Memory if memory was refused, or Broken if the rules refuse an entry of the run that the search found.
 pub fn find<W: Wanted>(
     alloc: Global,
     program: &Program,
