@@ -78,7 +78,7 @@ struct Remarks {
     unanswered: Groups,
     // Other calls that halted.
     halted: Groups,
-    // For each line of the script, in the order of its list, whether it has answered a call.
+    // For each line of the script, in the order of its list, whether it is the line of a call that was made.
     used: Vec<bool>,
 }
 
@@ -211,7 +211,8 @@ impl Remarks {
         Ok(())
     }
 
-    // Puts one call, with its number from 1, into the groups of what is wrong with it; into none if nothing is.
+    // Notes which line of the script a call has, and puts the call, with its number from 1, into a group if it halted. A call that was cancelled
+    // before hasn't.
     fn add(
         &mut self,
         scene: &Scene,
@@ -223,41 +224,25 @@ impl Remarks {
             return Ok(());
         };
         let name = name_of(scene.ended.answers, site);
-        if scene.ended.answers.is_scripted(site) {
-            self.scripted(lines, name, args.as_slice(), made, number)
-        } else if wanted(name, args.as_slice()).is_some() {
+        let is_scripted = scene.ended.answers.is_scripted(site);
+        let line = if is_scripted {
+            lines.first(name, args.as_slice())
+        } else {
+            None
+        };
+        if let Some(place) = line {
+            if let Some(used) = self.used.get_mut(place) {
+                *used = true;
+            }
+        }
+        if !made.has_halted {
+            Ok(())
+        } else if is_scripted && line.is_none() {
+            self.unanswered.add(made, number)
+        } else if !is_scripted && wanted(name, args.as_slice()).is_some() {
             self.wrong.add(made, number)
         } else {
-            self.other(made, number)
-        }
-    }
-
-    // A call that its site, or a line of the script, answered. It is noted only if that was halt.
-    fn other(&mut self, made: Made, number: u64) -> Result<(), AllocError> {
-        if made.has_halted {
             self.halted.add(made, number)
-        } else {
-            Ok(())
-        }
-    }
-
-    // A call of a script's site: notes which line answers it, or that none does.
-    fn scripted(
-        &mut self,
-        lines: &ScriptLines,
-        name: &[u8],
-        args: &[Value],
-        made: Made,
-        number: u64,
-    ) -> Result<(), AllocError> {
-        match lines.first(name, args) {
-            Some(place) => {
-                if let Some(used) = self.used.get_mut(place) {
-                    *used = true;
-                }
-                self.other(made, number)
-            }
-            None => self.unanswered.add(made, number),
         }
     }
 
@@ -392,12 +377,12 @@ impl Scene<'_, '_> {
         }
     }
 
-    // Where tokens ended without a publication, since values that they needed were lost: a line for each spot.
+    // Where tokens ended without a publication, since values that they needed were lost: a line for each of the first spots, and how many more there are.
     fn losses(&self, page: &mut Page) {
-        for loss in &self.replay.losses {
+        for loss in self.replay.losses.iter().take(SHOWN as usize) {
             self.loss(page, *loss);
         }
-        self.rest(page, self.replay.other_losses, 0);
+        self.rest(page, self.replay.losses.len() as u64, SHOWN);
     }
 
     // The line of one spot: its text, and the value that was lost.

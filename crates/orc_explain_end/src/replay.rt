@@ -12,9 +12,7 @@ use orc_rules::program::{Program, TermNode};
 use orc_source_map::{Purpose, Shape, Sketch, Token, Trail, Way};
 use orc_term::arena::{Kind, Tip};
 use std::alloc::{AllocError, Global};
-
-/// How many spots at which values were lost are noted.
-const MOST_LOSSES: usize = 4;
+use std::collections::HashMap;
 
 /// A call that was made, at this spot in this step.
 #[derive(Clone, Copy)]
@@ -56,10 +54,10 @@ pub(crate) struct Replay<'a> {
     pub calls: Vec<Made>,
     /// The cells, cell 1 first.
     pub cells: Vec<Cell<'a>>,
-    /// Where values were lost, at the first few spots.
+    /// Where values were lost, one for each spot, in the order of the first losses.
     pub losses: Vec<Loss>,
-    /// How many tokens ended so at other spots.
-    pub other_losses: u64,
+    // The place in the list of each spot's loss.
+    loss_places: HashMap<usize, usize>,
     /// How often a definition was called.
     pub definitions: u64,
 }
@@ -73,7 +71,7 @@ impl Drop for Replay<'_> {
             calls: _,
             cells: _,
             losses: _,
-            other_losses: _,
+            loss_places: _,
             definitions: _,
         } = self;
     }
@@ -100,7 +98,7 @@ impl<'a> Replay<'a> {
             calls: Vec::new(alloc),
             cells: Vec::new(alloc),
             losses: Vec::new(alloc),
-            other_losses: 0,
+            loss_places: HashMap::new(alloc),
             definitions: 0,
         };
         replay.read(ended, sketch)?;
@@ -167,23 +165,22 @@ impl<'a> Replay<'a> {
     // Counts a token that ends, since a value that it needs was lost, among those of its spot.
     fn add_loss(&mut self, program: &Program, token: u64) -> Result<(), AllocError> {
         let spot = self.token(token).spot.unwrap_or(0);
-        for place in 0..self.losses.len() {
-            if let Some(loss) = self.losses.get_mut(place) {
-                if loss.spot == spot {
+        let place = self.loss_places.get(&spot).copied();
+        match place {
+            Some(place) => {
+                if let Some(loss) = self.losses.get_mut(place) {
                     loss.count = loss.count.saturating_add(1);
-                    return Ok(());
                 }
             }
-        }
-        if self.losses.len() < MOST_LOSSES {
-            let cell = self.lost_cell(program, token);
-            self.losses.push(Loss {
-                spot,
-                cell,
-                count: 1,
-            })?;
-        } else {
-            self.other_losses = self.other_losses.saturating_add(1);
+            None => {
+                let cell = self.lost_cell(program, token);
+                self.loss_places.insert(spot, self.losses.len())?;
+                self.losses.push(Loss {
+                    spot,
+                    cell,
+                    count: 1,
+                })?;
+            }
         }
         Ok(())
     }
