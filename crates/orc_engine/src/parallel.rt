@@ -382,7 +382,7 @@ where
         let mean = tally.mean();
         if tally.long > tally.over {
             Trial::Long
-        } else if tally.over < tally.count / 2
+        } else if tally.over < tally.count.saturating_sub(tally.over)
             || mean < LEAST_MEAN_ENTRIES.max(self.inputs.graph.len())
         {
             // A sub-run begins with a copy of the program's graph, so it has to be longer than that.

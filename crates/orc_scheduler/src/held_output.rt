@@ -43,14 +43,14 @@ impl Holding {
         self.last
     }
 
-    /// The run has made a call that isn't answered at once, so the sub-run is unusable.
+    /// The sub-run is unusable: it has made a call that isn't answered at once, or would publish from the left side of an otherwise.
     #[inline(always)]
     pub(crate) fn give_up(&mut self) {
         self.is_unusable = true;
     }
 
-    /// Whether the sub-run can't replace its call: it has made a call that wasn't answered at once, or yielded two values though only one can be
-    /// merged.
+    /// Whether the sub-run can't replace its call: it has made a call that wasn't answered at once, would publish from the left side of an otherwise,
+    /// or has yielded two values though only one can be merged.
     pub(crate) fn is_unusable(&self) -> bool {
         self.is_unusable
     }

@@ -285,7 +285,12 @@ impl<P: Run> Scheduler<P> {
                 break;
             }
             if self.is_held_back(inputs, &token) {
-                self.holding.keep(slot);
+                // Only a token that nothing encloses can be merged on its value.
+                if token.step == 0 {
+                    self.holding.keep(slot);
+                } else {
+                    self.holding.give_up();
+                }
                 return Ok(());
             }
             match self.step(inputs, slot, token)? {
@@ -311,13 +316,10 @@ impl<P: Run> Scheduler<P> {
         }
     }
 
-    // Whether the token would publish a value of the run next, which is held back. A value in the left side of an otherwise, where the token's step
-    // isn't 0, is published.
+    // Whether the token would publish a value of the run next, and such values are held back.
     #[inline(always)]
     fn is_held_back(&self, inputs: &Inputs<'_, P>, token: &Token) -> bool {
-        self.holding.is_on()
-            && token.step == 0
-            && matches!(self.ledger.what(inputs, token), Action::Publish(_))
+        self.holding.is_on() && matches!(self.ledger.what(inputs, token), Action::Publish(_))
     }
 
     // Drops the handles of gone tokens from the front of the run queue. A bind may drop many tokens at once, and only one turn in each round would

@@ -22,8 +22,7 @@ pub enum SubRunResult<P: Run> {
     /// The sub-run stopped at its limit of entries.
     Long,
     /// The sub-run is over. That of an *outermost* call, whose publications are the program's, has published all that the call does. Any other has
-    /// yielded one value or none, and can replace the call; or it has published from the left side of an otherwise, and then it isn't merged
-    /// (`SubRun::is_of`).
+    /// yielded one value or none, and can replace the call.
     Over(SubRun<P>),
 }
 
