@@ -3,6 +3,7 @@ use Rattle.std.specs.Prelude.{ℕ, List, [], ◌++◌, Option, Some, None, cond,
 use Rattle.orc_rules.specs.declared.limits.TheConstants.{DEFAULT_ENTRIES}
 use Rattle.orc_cli.specs.declared.arguments.TheConstants.{DEFAULT_STATES, DEFAULT_TRIALS, DEFAULT_WAYS}
 use Rattle.orc_cli.specs.declared.job.TestOptions.{TestOptions}
+use Rattle.orc_tally.specs.Shell.{word_of}
 use Rattle.orc_run.specs.declared.call.Names.{Names}
 
 -- the names that a command line has for a test's files
@@ -15,9 +16,9 @@ pub record Named : Type 0 where
 abbrev pub named_of : Names → Named
 named_of n = record { source = n.source.now; test = n.test.now; script = option_map (λ p. p.now) n.script }
 
--- the option that names the script
+-- the option that names the script, as a shell takes it
 abbrev pub script_text : Option (List ℕ) → List ℕ
-script_text (Some name) = codes " --script " ++ name
+script_text (Some name) = codes " --script " ++ word_of name
 script_text None = []
 
 -- an option with its number, empty if that is the default

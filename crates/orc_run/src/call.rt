@@ -5,6 +5,7 @@ ghost use Rattle.orc_run.specs.Called.{option_text, options_text, script_text};
 
 use orc_cli::{DEFAULT_STATES, DEFAULT_TRIALS, DEFAULT_WAYS, TestOptions};
 use orc_rules::limits::DEFAULT_ENTRIES;
+use orc_tally::write_word;
 use std::alloc::{AllocError, Global};
 
 /// The names that a command line has for the files of a test, which the table's title and commands repeat.
@@ -15,14 +16,14 @@ pub struct Names<'n> {
     pub script: Option<&'n str>,
 }
 
-// Writes the option that names the script, if there is one. The error is refused memory.
+// Writes the option that names the script, as a shell takes it, if there is one. The error is refused memory.
 fn write_script(script: Option<&str>, text: &mut Vec<u8>) -> Result<(), AllocError>
     ensures { OnOk result (text.new.items ≡ text.old.items ++ script_text (option_map (λ p. p.now) script.entry)) }
 {
     match script {
         Some(name) => {
             text.extend_from_slice(b" --script ")?;
-            text.extend_from_slice(name.as_bytes())
+            write_word(name.as_bytes(), text)
         }
         None => Ok(()),
     }

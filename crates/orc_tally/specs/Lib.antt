@@ -1,4 +1,5 @@
 pub mod Laws
+pub mod Shell
 pub mod Sight
 pub mod Table
 pub mod Told

@@ -2,6 +2,7 @@
 use Rattle.std.specs.Prelude.{ℕ, zero, suc, List, [], ◌∷◌, ◌++◌, Option, Some, None, Bool, true, false, cond, not, ◌||◌, ◌&&◌, ◌+◌, ◌-◌, ◌%◌, codes, decimal, drop, take, is_some, length, nat_eq, nat_lt}
 use Rattle.std.specs.Char.{is_ascii_whitespace}
 use Rattle.std.specs.List.{prefix_len, suffix_len, slice_get}
+use Rattle.orc_tally.specs.Shell.{word_of}
 use Rattle.orc_tally.specs.declared.told.Told.{Told}
 use Rattle.orc_tally.specs.declared.told.Failure.{Failure}
 use Rattle.orc_tally.specs.declared.table.CaseReport.{CaseReport}
@@ -303,13 +304,13 @@ way_of (counterexample.Schedule b) = b.way
 abbrev pub title_text : List ℕ → List ℕ → List ℕ
 title_text source test = test ++ (codes ", on " ++ (source ++ codes "\n"))
 
--- the command that shows the first failure
+-- the command that shows the first failure, as a shell takes it
 abbrev pub call_text : List ℕ → List ℕ → List ℕ → List ℕ
-call_text source test options = codes "orc test " ++ (source ++ (codes " " ++ (test ++ (options ++ codes " --fail 1"))))
+call_text source test options = codes "orc test " ++ (word_of source ++ (codes " " ++ (word_of test ++ (options ++ codes " --fail 1"))))
 
 -- which commands show it
 abbrev pub commands_text : List ℕ → List ℕ → List ℕ → List ℕ
-commands_text source test options = codes "[1] is shown by: " ++ (call_text source test options ++ (codes " > way.script\n                 " ++ (call_text source test options ++ (codes " --journal | orc draw " ++ (source ++ codes " - --script way.script --text\n")))))
+commands_text source test options = codes "[1] is shown by: " ++ (call_text source test options ++ (codes " > way.script\n                 " ++ (call_text source test options ++ (codes " --journal | orc draw " ++ (word_of source ++ codes " - --script way.script --text\n")))))
 
 -- the last lines, where a claim fails
 abbrev pub hint_text : List ℕ → List ℕ → List ℕ → ℕ → List ℕ

@@ -5,11 +5,13 @@
 #![tactic(auto)]
 
 pub mod laws;
+mod shell;
 mod sight;
 mod table;
 mod text;
 mod told;
 
+pub use shell::write_word;
 pub use sight::{ClaimSite, claim_number, happenings_of};
 pub use table::{
     Broken, CaseReport, Counterexample, Report, Row, Searched, Shown, failing, failure_at, is_held,

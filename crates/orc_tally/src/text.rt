@@ -6,6 +6,7 @@ ghost use Rattle.std.specs.Prelude.{◌≡◌, ◌++◌, IfOk, IfSome, OnOk, Som
 ghost use Rattle.std.specs.List.{slice_get};
 ghost use Rattle.orc_tally.specs.Table.{all_tried, all_ways, always_text, before_comment, call_text, case_text, case_ways, claim_at, comma, commands_text, failing, failing_in, fails_text, hint_text, holds_text, is_grouped, lines, name_at, note, number_text, orders_text, row_text, rows, schedule_text, section_in, share, share_text, shares, sum_text, table, title_text, trimmed, ways_text, whole_note};
 
+use crate::shell::write_word;
 use crate::table::{CaseReport, Counterexample, Report, Row, claims_told, failing, told_here};
 use crate::told::Told;
 use orc_ways::test::ClaimLine;
@@ -18,7 +19,7 @@ pub struct Call<'c> {
     pub source: &'c str,
     /// The name of the test's file.
     pub test: &'c str,
-    /// The options on which the failures depend, each behind a blank.
+    /// The options on which the failures depend, each behind a blank, as a shell takes them.
     pub options: &'c [u8],
 }
 
@@ -320,9 +321,9 @@ impl Call<'_> {
         ensures { OnOk result (text.new.items ≡ text.old.items ++ call_text self.now.source.now self.now.test.now self.now.options.now) }
     {
         text.extend_from_slice(b"orc test ")?;
-        text.extend_from_slice(self.source.as_bytes())?;
+        write_word(self.source.as_bytes(), text)?;
         text.push(b' ')?;
-        text.extend_from_slice(self.test.as_bytes())?;
+        write_word(self.test.as_bytes(), text)?;
         text.extend_from_slice(self.options)?;
         text.extend_from_slice(b" --fail 1")
     }
@@ -336,7 +337,7 @@ impl Call<'_> {
         text.extend_from_slice(b" > way.script\n                 ")?;
         self.write_call(text)?;
         text.extend_from_slice(b" --journal | orc draw ")?;
-        text.extend_from_slice(self.source.as_bytes())?;
+        write_word(self.source.as_bytes(), text)?;
         text.extend_from_slice(b" - --script way.script --text\n")?;
         Ok(())
     }
