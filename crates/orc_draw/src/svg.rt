@@ -271,7 +271,7 @@ impl<'a> Sheet<'a> {
         let instants = &self.picture.slots.instants;
         let are_bands = instants.len() <= MOST_BANDS;
         let height = self.bottom().saturating_sub(HEAD);
-        // Where the last label ends, whose digits are 7 pixels wide. A label that would come near to it is left out.
+        // Where the last label ends. A label that would come near to it is left out.
         let mut last: u64 = 0;
         for (i, instant) in instants.iter().enumerate() {
             let begin = self.band(i);
@@ -282,9 +282,8 @@ impl<'a> Sheet<'a> {
                     &[begin, HEAD, width, height],
                 );
             }
-            // A label is centred on its band. Its letters are taken as 7 pixels wide, and at least 12 pixels stay free between two labels.
+            // A label is centred on its band. A digit is taken as 7 pixels wide, and 12 pixels or more stay free between two labels.
             let middle = begin.saturating_add(width / 2);
-            // A digit is counted as 7 pixels wide, so two labels stand 12 pixels or more apart.
             let letters = digits(instant.time);
             if last == 0
                 || middle
