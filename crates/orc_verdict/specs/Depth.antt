@@ -13,7 +13,7 @@ use Rattle.orc_term.specs.declared.arena.Tip.TheVariants.{Token}
 use Rattle.orc_term.specs.declared.arena.Single.TheVariants.{Feeds, Entered, Passed}
 use Rattle.orc_verdict.specs.Heights.{height, AreHeights, AreAtMost}
 
--- the levels of the program's term in a node, 0 where there is none
+-- the levels of the program's term in a node; without one, 1 for a leaf, otherwise 0
 abbrev pub own_levels : List ℕ → Kind → ℕ
 own_levels levels (Leaf (Token s f e)) = height levels f
 own_levels levels (Leaf k) = 1
