@@ -147,6 +147,7 @@ impl Depth {
             Kind::Val => self.bind(),
             Kind::Joint(_) => self.operate(),
             Kind::Arrow(_) => self.sign(),
+            // A name, a literal, a comma, a `=` or a `def` nests nothing.
             _ => Ok(()),
         }
     }

@@ -69,6 +69,7 @@ struct Levels {
     right: usize,
 }
 
+// The levels of the grammar: `>x>` groups to the right and asks more of its left side, the others group to the left and ask more of their right one.
 fn levels_of(operator: Operator) -> Levels
     ensures own { result.own ≡ level (link operator.entry) }
     ensures left { result.left ≡ left_level (link operator.entry) }
@@ -118,7 +119,7 @@ impl<'a> Printer<'a> {
         Ok(())
     }
 
-    // Pushes so many arguments behind the first one, each after a comma.
+    // Pushes `count` arguments, which stand behind the first one, each after a comma.
     fn others(&mut self, count: usize) -> Result<(), AllocError>
         ensures tasks { OnOk result (waiting self.new.tasks.items ≡ more count (waiting self.old.tasks.items)) }
         ensures pieces { self.new.pieces ≡ self.old.pieces }
@@ -130,7 +131,7 @@ impl<'a> Printer<'a> {
         Ok(())
     }
 
-    // Pushes so many arguments with commas between them.
+    // Pushes `count` arguments with commas between them.
     fn arguments(&mut self, count: usize) -> Result<(), AllocError>
         ensures tasks { OnOk result (waiting self.new.tasks.items ≡ given count (waiting self.old.tasks.items)) }
         ensures pieces { self.new.pieces ≡ self.old.pieces }
@@ -172,7 +173,7 @@ impl<'a> Printer<'a> {
         }
     }
 
-    // Pushes an opening bracket, where there is one.
+    // Pushes an opening bracket if the form stands inside brackets.
     fn opening(&mut self, inner: bool) -> Result<(), AllocError>
         ensures tasks { OnOk result (waiting self.new.tasks.items ≡ opening inner (waiting self.old.tasks.items)) }
         ensures pieces { self.new.pieces ≡ self.old.pieces }
@@ -180,7 +181,7 @@ impl<'a> Printer<'a> {
         if inner { self.say(b"(") } else { Ok(()) }
     }
 
-    // Pushes a closing bracket, where there is one.
+    // Pushes a closing bracket if the form stands inside brackets.
     fn closing(&mut self, inner: bool) -> Result<(), AllocError>
         ensures tasks { OnOk result (waiting self.new.tasks.items ≡ closing inner (waiting self.old.tasks.items)) }
         ensures pieces { self.new.pieces ≡ self.old.pieces }
@@ -188,7 +189,7 @@ impl<'a> Printer<'a> {
         if inner { self.say(b")") } else { Ok(()) }
     }
 
-    // Pushes an operator with its sides, in brackets where it binds more loosely than wanted.
+    // Pushes an operator with its sides, in brackets where it binds more loosely than the level `wanted`.
     fn operation(&mut self, operator: Operator<'a>, wanted: usize) -> Result<(), AllocError>
         ensures tasks { OnOk result (waiting self.new.tasks.items ≡ parts wanted (operation (link operator.entry)) (waiting self.old.tasks.items)) }
         ensures pieces { self.new.pieces ≡ self.old.pieces }
@@ -202,8 +203,8 @@ impl<'a> Printer<'a> {
         self.closing(inner)
     }
 
-    // Pushes a `val` with its sides, in brackets unless any expression will do. Its G always is in brackets of its own: without them a G that ends in
-    // a name and an F that begins with a bracket would be read as a call.
+    // Pushes a `val` with its sides, in brackets unless any expression will do (level 0). Its G always is in brackets of its own: without them a G
+    // that ends in a name and an F that begins with a bracket would be read as a call.
     fn val(&mut self, name: Name<'a>, wanted: usize) -> Result<(), AllocError>
         ensures tasks { OnOk result (waiting self.new.tasks.items ≡ parts wanted (val (label name.entry)) (waiting self.old.tasks.items)) }
         ensures pieces { self.new.pieces ≡ self.old.pieces }
@@ -267,6 +268,7 @@ impl<'a> Printer<'a> {
     fn print(&mut self, nodes: &[Node<'a>]) -> Result<(), AllocError>
         ensures { OnOk result (said self.new.pieces.items ≡ back (waiting self.old.tasks.items) (reverse (map item nodes.now)) ++ said self.old.pieces.items) }
     {
+        // How many nodes are left, from the front.
         let mut count = nodes.len();
         while count > 0 {
             let Some(level) = self.next()? else {
@@ -304,6 +306,7 @@ fn push_piece(out: &mut Vec<u8>, piece: Piece) -> Result<(), AllocError>
 fn push_pieces(out: &mut Vec<u8>, pieces: &[Piece]) -> Result<(), AllocError>
     ensures { OnOk result (out.new.items ≡ out.old.items ++ said pieces.now) }
 {
+    // How many pieces are left, from the front.
     let mut count = pieces.len();
     while count > 0 {
         count -= 1;
@@ -364,6 +367,7 @@ fn print_definition(alloc: Global, d: &Definition, out: &mut Vec<u8>) -> Result<
     Ok(())
 }
 
+// Appends a line for each definition.
 fn print_definitions(alloc: Global, ds: &[Definition], out: &mut Vec<u8>) -> Result<(), AllocError>
     ensures { (es : List Define) → AreDefinitions ds.now es → OnOk result (out.new.items ≡ out.old.items ++ definitions es) }
 {
@@ -373,6 +377,7 @@ fn print_definitions(alloc: Global, ds: &[Definition], out: &mut Vec<u8>) -> Res
     Ok(())
 }
 
+// Appends the text of a program. After refused memory a part of it may stand in `out`.
 fn print_text(alloc: Global, ast: &Ast, out: &mut Vec<u8>) -> Result<(), AllocError>
     ensures { (s : Source) → IsAst ast.now s → OnOk result (out.new.items ≡ out.old.items ++ printed s) }
 {

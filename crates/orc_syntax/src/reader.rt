@@ -23,7 +23,8 @@ use std::mem;
 // In contracts `machine.f` is the function f of specs/Machine.antt, mostly that of the same name. `Leaves` says that the result and the reader are
 // what it gives, and `Makes` that the operand is so, unless memory was refused. `context`, `nodes` and `stack` are what the reader holds.
 
-/// Where an expression that has been read begins and ends, its outer brackets included. Its nodes need no mention: they are the last ones.
+/// Where an expression that has been read begins and ends, its outer brackets included, in bytes of the text from 0. Its nodes need no
+/// mention: they are the last ones.
 #[derive(Clone, Copy)]
 pub struct Operand {
     pub start: usize,
@@ -85,9 +86,9 @@ pub enum Mode<'a> {
     Named(Name<'a>),
     /// A whole operand.
     Have(Operand),
-    /// The first sign of an operator with a variable.
+    /// The first sign of `>x>` or `<x<`, behind the operand that stands left of it.
     Signed(Side, Operand),
-    /// Its variable. Both keep the operand on the operator's left.
+    /// That sign and the variable behind it, with the operand left of the sign.
     Variable(Side, Operand, Name<'a>),
     /// Part of a `val x =` or `def f(a, b) =`.
     Heads(Heading<'a>),
@@ -249,7 +250,8 @@ impl<'a> Reader<'a> {
     }
 
     // Makes nodes of the operators on top of the stack that bind at least as tightly as `level`: `last` is the right side of the topmost, and what
-    // that makes is the right side of the next. Level 0 leaves no operator and no `val` up to the innermost bracket or heading.
+    // that makes is the right side of the next. Level 0 leaves no operator and no `val` up to the innermost bracket or heading. Gives the operand
+    // that comes out, which is `last` where nothing was joined.
     #[inline(always)]
     fn reduce(&mut self, level: u8, last: Operand) -> Result<Operand, StepError>
         ensures reduced { Makes result (λ o. machine.reduce level (operand last) (nodes self.old) (stack self.old) ≡ machine.reduced (operand o) (nodes self.new) (stack self.new)) }
@@ -267,6 +269,7 @@ impl<'a> Reader<'a> {
                     }
                     right = self.node(joining.part(), start, right.end)?;
                 }
+                // A bracket or a heading: its expression has ended with `right`, and the caller says what happens to it.
                 other => {
                     self.frames.push(other)?;
                     return Ok(right);
@@ -284,6 +287,7 @@ impl<'a> Reader<'a> {
         let mut count = self.frames.len();
         while count > 0 {
             match self.frames[count - 1] {
+                // What waits outside this operator or `val` decides, since the expression may be its whole right side.
                 Frame::Before(_, _) => count -= 1,
                 Frame::Bracket(_) => return What::Close,
                 Frame::Arguments(_, _) => return What::CommaOrClose,
@@ -296,7 +300,7 @@ impl<'a> Reader<'a> {
         What::End
     }
 
-    // What waits innermost, on top of the stack.
+    // What waits innermost, on top of the stack. None where nothing waits.
     #[inline(always)]
     #[tactic(auto, using(crate::proofs::Views::over_last))]
     fn top(&self) -> Option<Frame<'a>>
@@ -311,7 +315,7 @@ impl<'a> Reader<'a> {
         }
     }
 
-    // May a `val` begin here? Not as the right side of an operator: there it needs brackets.
+    // May a `val` begin here, where an expression has to begin? Not as the right side of an operator: there it needs brackets.
     #[inline(always)]
     fn takes_val(&self) -> bool
         ensures { result ≡ machine.takes_val (stack self.now) }
@@ -351,6 +355,7 @@ impl<'a> Reader<'a> {
             }
             Kind::Val => self.begin_val(span.start),
             Kind::Def => self.begin_definition(),
+            // An operator or its sign, a `)`, a `,` or a `=`.
             _ => Err(StepError::Wanted(What::Expression)),
         }
     }
@@ -411,6 +416,7 @@ impl<'a> Reader<'a> {
     fn close(&mut self, end: usize) -> Result<Mode<'a>, StepError>
         ensures { Leaves result self.new (machine.close end (context self.old) (nodes self.old) (stack self.old)) }
     {
+        // Where nothing is open, the expression could only be the main one.
         let Some(top) = self.frames.pop() else {
             return Err(StepError::Wanted(What::End));
         };
@@ -424,11 +430,13 @@ impl<'a> Reader<'a> {
                 // Not reached: no text has so many arguments. `Memory` is the error that says nothing of the text.
                 None => Err(StepError::Memory),
             },
+            // The bracket closes nothing: behind the G of a `val` or a body the next expression has to come.
             Frame::Bound(_, _) | Frame::Body(_) => Err(StepError::Wanted(What::Expression)),
         }
     }
 
-    // A comma behind a whole expression, all of whose operators are joined: another argument has to come.
+    // A comma behind a whole expression, all of whose operators are joined: another argument has to come. Where no call is
+    // open, the error names what could come instead, as in `behind`.
     #[inline(always)]
     #[tactic(auto, using(crate::proofs::Views::stacks))]
     fn another(&mut self) -> Result<Mode<'a>, StepError>
@@ -503,7 +511,8 @@ impl<'a> Reader<'a> {
             Kind::Joint(joint) => self.push(operator_of(joint), last),
             Kind::Arrow(side) => Ok(Mode::Signed(side, last)),
             Kind::Close => {
-                // The operand that this gives isn't needed: brackets and calls have the places of their own signs.
+                // The operand that `reduce` gives isn't needed, here and below: brackets and calls have the places of their own signs, and a `val` or
+                // `def` that of its word.
                 self.reduce(0, last)?;
                 self.close(token.span.end)
             }
@@ -511,8 +520,10 @@ impl<'a> Reader<'a> {
                 self.reduce(0, last)?;
                 self.another()
             }
+            // No expression goes on with a `=`.
             Kind::Assign => Err(StepError::Wanted(self.behind())),
             Kind::Name(_) | Kind::Plain(_) | Kind::Open | Kind::Def | Kind::Val => {
+                // Asked first, since `follow` takes the innermost bracket or heading off the stack.
                 let wanted = self.behind();
                 self.reduce(0, last)?;
                 self.follow(wanted, token)
@@ -556,12 +567,12 @@ impl<'a> Reader<'a> {
     fn close_first(&mut self, end: usize) -> Result<Mode<'a>, StepError>
         ensures { (at : Span) → at.end ≡ end → Leaves result self.new (machine.first tokens.Close at (context self.old) (nodes self.old) (stack self.old)) }
     {
+        // Neither this error nor the one below comes: `Mode::First` stands directly behind the bracket of a call.
         let Some(top) = self.frames.pop() else {
             return Err(StepError::Wanted(What::Expression));
         };
         match top {
             Frame::Arguments(name, before) => self.called(name, before, end),
-            // Not reached: `Mode::First` stands directly behind the bracket of a call.
             Frame::Before(_, _) | Frame::Bracket(_) | Frame::Bound(_, _) | Frame::Body(_) => {
                 Err(StepError::Wanted(What::Expression))
             }
@@ -579,7 +590,7 @@ impl<'a> Reader<'a> {
         }
     }
 
-    // A token behind the first sign of `>x>` or `<x<`: it has to be the variable.
+    // A token behind the first sign of `>x>` or `<x<`: it has to be the variable. `last` is the operand left of that sign.
     #[inline(always)]
     fn bind(&self, side: Side, last: Operand, token: Token<'a>) -> Result<Mode<'a>, StepError>
         ensures { Leaves result self.now (machine.bind side (operand last) (sort token.entry.kind) token.entry.span (context self.now) (nodes self.now) (stack self.now)) }
@@ -597,7 +608,7 @@ impl<'a> Reader<'a> {
         }
     }
 
-    // A token behind the variable of `>x>` or `<x<`: it has to be the first sign again.
+    // A token behind the variable of `>x>` or `<x<`: it has to be the first sign again. `last` is the operand left of the operator.
     #[inline(always)]
     fn second(
         &mut self,
@@ -644,7 +655,7 @@ impl<'a> Reader<'a> {
         Ok(Mode::Want)
     }
 
-    // One more token of a `val x =` or `def f(a, b) =`.
+    // One more token of a `val x =` or `def f(a, b) =`. Each `_` is a token that doesn't come at this point of the heading.
     #[inline(always)]
     fn head(&mut self, head: Heading<'a>, token: Token<'a>) -> Result<Mode<'a>, StepError>
         ensures { Leaves result self.new (machine.head (heading head.entry) (sort token.entry.kind) token.entry.span (context self.old) (nodes self.old) (stack self.old)) }
@@ -680,7 +691,7 @@ impl<'a> Reader<'a> {
         }
     }
 
-    // A name in a `val x =` or `def f(a, b) =`.
+    // A name in a `val x =` or `def f(a, b) =`. It is refused where the heading has its name, its parameter or its `)` already.
     #[inline(always)]
     fn head_name(&mut self, head: Heading<'a>, name: Name<'a>) -> Result<Mode<'a>, StepError>
         ensures { Leaves result self.new (machine.head (heading head.entry) (tokens.Word name.entry.text.now) name.entry.span (context self.old) (nodes self.old) (stack self.old)) }
@@ -714,7 +725,7 @@ impl<'a> Reader<'a> {
         }
     }
 
-    // The program, where the text ends behind the operand `last`: an error unless nothing waits then.
+    // The program, where the text ends behind the operand `last`: an error where a bracket, the G of a `val` or a body still waits then.
     fn whole(mut self, last: Operand) -> Result<Ast<'a>, StepError>
         ensures { Ends result (machine.whole (context self.entry) (machine.reduce 0 (operand last) (nodes self.entry) (stack self.entry))) }
     {

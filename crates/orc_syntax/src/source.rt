@@ -34,7 +34,7 @@ fn unread_fault(why: Unread, at: usize) -> SyntaxFault
     }
 }
 
-// The fault where the token at a place, or the end there, is refused.
+// The fault where the reader refuses the token that begins at a place, or the text's end there.
 fn refused(error: StepError, at: usize) -> SyntaxFault
     ensures { result ≡ fault_by error at }
 {
@@ -103,6 +103,7 @@ fn read_text<'a>(alloc: Global, src: &'a [u8]) -> Result<Ast<'a>, SyntaxFault>
             Piece::Unread(why) => return Err(unread_fault(why, at)),
         }
     }
+    // The whole text was read, so a fault stands at its end.
     match reader.finish(mode) {
         Ok(ast) => Ok(ast),
         Err(error) => Err(refused(error, at)),
