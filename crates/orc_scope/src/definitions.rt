@@ -17,7 +17,7 @@ use std::alloc::{AllocError, Global};
 
 // In contracts `IsLeast result faults` says that the result is the least of these faults, or None where there are none.
 
-// The place of a name, from 0, if it is among the first `number` names.
+// The place of a name, from 0, if its first one is among the first `number` names; None if it comes later or not at all.
 fn earlier(names: &Names, number: usize, text: &[u8]) -> Option<usize>
     ensures { result ≡ position (take number names.now) text.now }
 {
@@ -46,6 +46,7 @@ fn parameters_fault<'a>(
     ensures scope { OnOk result (looking.new.scope ≡ map text (map label parameters.now)) }
     ensures room { looking.new.room ≡ looking.old.room }
 {
+    // The names of the definition before are out of scope.
     looking.scope.truncate(0);
     let mut least = None;
     let mut at = 0;
@@ -76,6 +77,7 @@ fn definition_fault<'a>(
 {
     let before = earlier(&known.definitions, number, definition.name.text);
     let own = repeated(FaultKind::DefinedTwice, before, definition.name.span);
+    // Before the body, since it puts the parameters into its scope.
     let parameters = parameters_fault(looking, &definition.parameters)?;
     let body = looking.expression(known, &definition.body.nodes)?;
     Ok(lesser(own, lesser(parameters, body)))
@@ -127,7 +129,7 @@ fn parameter_names<'a>(names: &mut Names<'a>, parameters: &[Name<'a>]) -> Result
     Ok(())
 }
 
-// The name that a node binds: the variable of `>x>`, `<x<` or `val x`.
+// The name that a node binds: the variable of `>x>`, `<x<` or `val x`. None for any other node.
 fn bound_name(part: Part<'_>) -> Option<&[u8]>
     ensures { bound (bind_of result) [] ≡ sort_names (sort part.entry) }
 {

@@ -60,7 +60,8 @@ pub fn one(kind: FaultKind, span: Span) -> Option<ScopeFault>
     Some(ScopeFault { kind, span })
 }
 
-// The fault of a called name at `span`, with so many arguments. The name means a variable, else a definition, else a site.
+// The fault of a called name at `span`, with so many arguments; None if it may be called so. The name means a variable, else a definition, else a
+// site.
 fn call_fault(
     known: &Known,
     scope: &Names,
@@ -93,7 +94,7 @@ fn call_fault(
     }
 }
 
-// The fault of a name without a bracket: it has to mean a variable.
+// The fault of a name without a bracket; None if it means a variable, as it has to.
 fn name_fault(known: &Known, scope: &Names, text: &[u8], span: Span) -> Option<ScopeFault>
     ensures { IsLeast result (name_faults (meaning (known_of known.now) scope.now text.now) span) }
 {
@@ -106,7 +107,7 @@ fn name_fault(known: &Known, scope: &Names, text: &[u8], span: Span) -> Option<S
     one(FaultKind::Unbound, span)
 }
 
-// The fault of a node itself, without its parts.
+// The fault of a node itself, without its parts: only a name can be at fault.
 fn node_fault(known: &Known, scope: &Names, part: Part) -> Option<ScopeFault>
     ensures { IsLeast result (node_faults (known_of known.now) scope.now (sort part.entry)) }
 {
@@ -241,6 +242,7 @@ impl<'a> Looking<'a> {
         ensures room { OnOk result (self.new.room ≡ self.old.room - weighs (waiting self.old) (reverse (map item nodes.now))) }
     {
         let mut least = None;
+        // How many nodes are left, from the front.
         let mut count = nodes.len();
         while count > 0 {
             // Not reached with the nodes of a tree: each has a task.
@@ -272,6 +274,7 @@ impl<'a> Looking<'a> {
         ensures least { (t : Tree) → IsExpr nodes.now t → IfOk result (λ least. IsLeast least (faults (known_of known.now) self.old.scope t)) }
         ensures room { (t : Tree) (k : Outside) (names : List (List ℕ)) → IsExpr nodes.now t → OnOk result (self.new.room ≡ self.old.room - size (written k names t)) }
     {
+        // No task is left of an expression that was looked through; no contract says so.
         self.tasks.clear();
         self.wait(None, 0)?;
         self.find(known, nodes)

@@ -62,7 +62,7 @@ fn is_same(name: &[u8], text: &[u8]) -> bool
     true
 }
 
-// The place of a name among these, from 0: the first one.
+// The place of a name among these, from 0: the first one. None if it isn't among them.
 #[inline(always)]
 #[tactic(auto, using(crate::proofs::Early::place_here, crate::proofs::Early::place_later, crate::proofs::Early::place_nowhere))]
 fn place_among(names: &[&[u8]], text: &[u8]) -> Option<usize>
@@ -96,7 +96,7 @@ impl<'a> Names<'a> {
         self.texts.len()
     }
 
-    /// The place of a name, from 0: the first one.
+    /// The place of a name, from 0: the first one. None if it isn't there.
     // Inlined, with what it calls: a look-up among few names takes less than a call.
     #[inline(always)]
     #[tactic(auto, using(crate::proofs::Early::found_early, crate::proofs::Early::found_late, crate::proofs::Early::found_nowhere))]
@@ -111,7 +111,7 @@ impl<'a> Names<'a> {
         }
     }
 
-    /// The name at a place, from 0.
+    /// The name at a place, from 0. None behind the last one.
     pub fn get(&self, place: usize) -> Option<&'a [u8]>
         ensures { option_map (λ n. n.now) result ≡ slice_get self.now place }
     {
@@ -151,6 +151,7 @@ impl<'a> Names<'a> {
     pub fn truncate(&mut self, len: usize)
         ensures { self.new ≡ take len self.old }
     {
+        // One by one: each name that goes may have to leave the table too.
         while self.texts.len() > len {
             self.pop();
         }

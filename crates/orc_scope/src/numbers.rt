@@ -50,6 +50,7 @@ impl<'a, 's> Numbers<'a, 's> {
         ensures some { IfSome result (λ n. n ≡ record { known = known_of known.entry; names = variables.entry }) }
         ensures none { IfNone result (AreSmall (record { known = known_of known.entry; names = variables.entry }) → ⊥) }
     {
+        // How many names 32 bits number. Variables leave `MOST_ARGUMENTS` numbers for new ones.
         let most = 1 << 32;
         if known.definitions.len() > most
             || known.sites.len() > most

@@ -179,6 +179,7 @@ impl Writing {
         ensures ready { OnOk result (IsReady self.new) }
         ensures keeps { OnOk result (Keeps (terms self.old.nodes) (terms self.new.nodes)) }
     {
+        // The arguments were written before, so there are `count` pieces, and the subtraction never saturates.
         let base = self.pieces.len().saturating_sub(count);
         let operands = self.operands(numbers, base);
         let at = self.nodes.add_call(numbers, text, operands)?;
