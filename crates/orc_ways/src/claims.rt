@@ -178,6 +178,7 @@ fn values<'t, 'a>(
             return Ok(Some((values, rest)));
         }
     }
+    // Only reached where there is no token at all.
     Ok(None)
 }
 
@@ -204,6 +205,7 @@ fn literals<'t, 'a>(
 {
     let mut values = Vec::new(alloc);
     let mut rest = same_tokens(tokens);
+    // Each turn reads a token, so there are enough turns.
     for _ in 0..tokens.len() {
         let Some((value, is_last, behind)) = next_literal(rest) else {
             return Ok(None);
@@ -214,6 +216,7 @@ fn literals<'t, 'a>(
             return Ok(Some((values, rest)));
         }
     }
+    // Only reached where there is no token at all.
     Ok(None)
 }
 
@@ -290,7 +293,8 @@ fn publishes(alloc: Global, tokens: &[Token<'_>]) -> Result<Option<Plain>, Alloc
     }
 }
 
-// Reads the `no` that may stand before the event of a condition: false with it, true without it; and hands back the tokens of the event.
+// Reads the `no` that may stand before the event of a condition: false with it, true without it; and hands back the tokens of the event. A `no`
+// before a bracket is a site, as `begins_with` knows, and not read.
 fn happens<'t, 'a>(tokens: &'t [Token<'a>]) -> (bool, &'t [Token<'a>])
     ensures { (result.0, tokens_of result.1.now) ≡ not_at (tokens_of tokens.now) }
 {
@@ -508,6 +512,7 @@ impl Scope<'_, '_> {
             conditions.push(condition)?;
             rest = same_tokens(behind);
         }
+        // Only reached where there is no token at all: otherwise the turns don't run out.
         Ok(Some((conditions, rest)))
     }
 

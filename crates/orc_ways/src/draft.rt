@@ -53,6 +53,7 @@ pub struct Draft<'a> {
     pub part: Part,
 }
 
+// Whether a case has this name.
 fn has_case_named(cases: &[Case<'_>], name: &[u8]) -> bool
     ensures { result ≡ has_case (cases_of cases.now) name.now }
 {
@@ -131,6 +132,7 @@ impl<'a> Draft<'a> {
             Part::Given => Some(None),
             // The section `Case` begins with a case, so there is at least one, and the subtraction doesn't saturate.
             Part::Case => Some(Some(self.test.cases.len().saturating_sub(1))),
+            // Before any section, or below `always`.
             _ => None,
         }
     }
@@ -141,7 +143,9 @@ impl<'a> Draft<'a> {
     {
         match self.part {
             Part::Always => Some(None),
+            // The last case; the subtraction doesn't saturate, as for a service.
             Part::Case => Some(Some(self.test.cases.len().saturating_sub(1))),
+            // Before any section, or below `given`.
             _ => None,
         }
     }
@@ -215,6 +219,7 @@ impl<'a> Draft<'a> {
         };
         // Before the line is read: a claim has the places of its sites among these.
         add_mentions(&mut self.test.sites, number, tokens.as_slice())?;
+        // The one site over the limit is there if the line names one too many.
         if MOST_SITES < self.test.sites.len() {
             return Ok(LineEnd::NoLine);
         }

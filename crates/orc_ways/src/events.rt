@@ -94,7 +94,7 @@ impl Scope<'_, '_> {
         let Some((slots, rest)) = self.slots(alloc, tokens)? else {
             return Ok(None);
         };
-        // It is one of the scope's sites, since they include those of its own line.
+        // It is one of the scope's sites, since they include those of its own line; `Scope` says that their places fit 32 bits.
         let site = number_of_site(self.sites, name, slots.len()) as u32;
         let (wanted, rest) = self.wanted(rest);
         Ok(Some((Simple::Call(site, slots, wanted), rest)))
@@ -171,6 +171,7 @@ impl Scope<'_, '_> {
                 return Ok(Some((Event { alternatives }, rest)));
             }
         }
+        // Only reached where there is no token at all.
         Ok(None)
     }
 

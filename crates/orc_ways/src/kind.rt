@@ -25,6 +25,7 @@ pub enum Kind<'a> {
     Claim(Claim),
 }
 
+// Whether a `=` is among the tokens, wherever it stands.
 fn has_equals_sign(tokens: &[Token<'_>]) -> bool
     ensures { result ≡ has_equals (tokens_of tokens.now) }
 {

@@ -12,10 +12,10 @@ pub const MOST_SERVICES: usize = 1_024;
 /// The most sites that a test names, each with a number of arguments.
 pub const MOST_SITES: usize = 1_024;
 
-/// The most alternatives of a service.
+/// The most alternatives in one line of a service.
 pub const MOST_ALTERNATIVES: usize = 64;
 
-/// The most calls that take alternatives of their own.
+/// The greatest N of `in each of N calls`: the most calls that take alternatives of their own.
 pub const MOST_CALLS: usize = 4;
 
 /// The most ways of a case.

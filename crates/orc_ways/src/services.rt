@@ -173,6 +173,7 @@ fn alternatives<'t, 'a>(
     Ok(None)
 }
 
+// Whether a history is one answer.
 fn is_one_answer(replies: &[Reply]) -> bool
     ensures { result ≡ is_one replies.now }
 {
@@ -194,7 +195,7 @@ fn are_single(alternatives: &[Vec<Reply>]) -> bool
     true
 }
 
-// The N of `in each of N calls`, if it is 2 to `MOST_CALLS`.
+// The N of `in each of N calls`, if it is 2 to `MOST_CALLS`; None if it isn't. A test leaves the words out for 1.
 fn within_calls(number: u64) -> Option<usize>
     ensures { result ≡ calls_within number }
 {

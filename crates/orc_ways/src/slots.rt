@@ -48,6 +48,7 @@ fn begins_small(name: &[u8]) -> bool
     }
 }
 
+// Whether a name may be a variable: it begins with a small letter and is no word that may follow a slot.
 fn is_variable_name(name: &[u8]) -> bool
     ensures { result ≡ is_variable name.now }
 {
@@ -85,6 +86,7 @@ impl Scope<'_, '_> {
     {
         if is_variable_name(name) {
             let at = place_in(self.line, name)?;
+            // The cast loses nothing: `Scope` says that places in the line fit 32 bits.
             Some(Slot::Variable(at as u32))
         } else {
             None
@@ -115,7 +117,8 @@ impl Scope<'_, '_> {
         }
     }
 
-    // Reads one to `MOST_ARGUMENTS` slots with commas between them up to the `)`: the slots, and the tokens behind it. The error is refused memory.
+    // Reads one to `MOST_ARGUMENTS` slots with commas between them up to the `)`: the slots, and the tokens behind it. None if the tokens don't begin
+    // so, or the slots are more. The error is refused memory.
     fn some_slots<'t, 'b>(
         self,
         alloc: Global,
