@@ -1,5 +1,7 @@
 //! The choices of a service: what it may answer in a way, one call after the other. A call that doesn't take the first alternative is *off*
 //! (unusual).
+//!
+//! The loops take `rest`, what is left of a slice, apart from the front, as the definitions in specs/ take lists apart.
 
 ghost use Rattle.std.specs.Prelude.{◌≡◌, ◌++◌, ◌∷◌, ◌+◌, [], IfOk, OnOk, map};
 ghost use Rattle.orc_ways.specs.Values.{histories_of, service_of};
@@ -94,6 +96,7 @@ fn add_delays(
 ) -> Result<(), AllocError>
     ensures { OnOk result (choices_from all.new.items ≡ choices_from all.old.items ++ answers_of (Reply.Between answer low high)) }
 {
+    // Not reached: no such range is read.
     if low > high {
         return Ok(());
     }
@@ -169,6 +172,7 @@ fn histories(alloc: Global, off: u64, replies: &[Reply]) -> Result<Vec<Choice>, 
     ensures { IfOk result (λ cs. choices_from cs.items ≡ with_replies (begin off ∷ []) replies.now) }
 {
     let mut all = Vec::new(alloc);
+    // One choice without answers, to which each reply adds its own.
     all.push(Choice::begin(alloc, off))?;
     let mut rest = replies;
     loop {
@@ -210,6 +214,7 @@ fn all_choices(alloc: Global, service: &Service<'_>) -> Result<Vec<Choice>, Allo
     let options = options(alloc, service.alternatives.as_slice())?;
     let mut all = Vec::new(alloc);
     all.push(Choice::begin(alloc, 0))?;
+    // How many calls still take an alternative. A service has 1 at least, so `max` changes nothing.
     let mut left = service.calls.max(1);
     while left > 0 {
         all = each_followed(alloc, all.as_slice(), options.as_slice())?;

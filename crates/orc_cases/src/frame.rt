@@ -1,5 +1,7 @@
 //! The frame of a case: what the scripts of all its ways have in common. A way is a number in the frame, from 0, and `push_way` writes it out.
 //!
+//! The loops take `rest`, what is left of a slice, apart from the front, as the definitions in specs/ take lists apart.
+//!
 //! In contracts `way_at (all_choices_of lines) number` is the way with this number, which is its lines' choices, and `IsCounted` says that `count` is
 //! the number of ways.
 
@@ -51,7 +53,8 @@ fn line_of(alloc: Global, service: &Service<'_>) -> Result<Line, AllocError>
     Ok(Line { call, choices })
 }
 
-/// The lines of the services at these places of the test's list, each with what it may do. The error is refused memory.
+/// The lines of the services at these places of the test's list, each with what it may do. A place that isn't in the list would be left out;
+/// `case_places` gives none such. The error is refused memory.
 pub(crate) fn lines_of(
     alloc: Global,
     services: &[ServiceLine<'_>],
@@ -112,7 +115,8 @@ fn push_line(
     push_answers(text, choice.answers.as_slice())
 }
 
-// Writes the lines of the way with this number; with `only_telling` those alone that tell it from other ways. `count` is the number of ways.
+// Writes the lines of the way with this number, from 0; with `only_telling` those alone that tell it from other ways. `count` is the number of all
+// ways of these lines.
 fn push_way(
     text: &mut Vec<u8>,
     lines: &[Line],
@@ -125,6 +129,7 @@ fn push_way(
     ensures { OnOk result (text.new.items ≡ text.old.items ++ lines_text only_telling (lines_from lines.now) (way_at (all_choices_of lines.now) number)) }
 {
     let mut left = count;
+    // What is left of the number: its digits from this line on.
     let mut digits = number;
     for line in lines {
         let choices = line.choices.as_slice();
@@ -137,7 +142,7 @@ fn push_way(
     Ok(())
 }
 
-// The choice of the line at a place in the way with this number; None where there is no such line. It divides as `push_way` does.
+// The choice of the line at a place, from 0, in the way with this number; None where there is no such line. It divides as `push_way` does.
 fn choice_at(lines: &[Line], count: usize, number: usize, place: usize) -> Option<&Choice>
     requires counted { count ≡ length (combinations (all_choices_of lines.now)) }
     requires within { number < count }
@@ -145,6 +150,7 @@ fn choice_at(lines: &[Line], count: usize, number: usize, place: usize) -> Optio
 {
     let mut left = count;
     let mut digits = number;
+    // How many lines still stand before the one at `place`.
     let mut before = place;
     for line in lines {
         let choices = line.choices.as_slice();

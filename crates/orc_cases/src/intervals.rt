@@ -1,4 +1,6 @@
 //! Sorted numbers as intervals: 3, 4, 5 and 9 are 3 to 5 and 9 to 9.
+//!
+//! The loops take `rest`, what is left of a slice, apart from the front, as the definitions in specs/ take lists apart.
 
 ghost use Rattle.std.specs.Prelude.{◌≡◌, IfOk};
 ghost use Rattle.orc_cases.specs.Intervals.{alone, intervals};
@@ -31,6 +33,7 @@ pub(crate) fn intervals(alloc: Global, numbers: &[u64]) -> Result<Vec<Interval>,
     let [first, behind @ ..] = numbers else {
         return Ok(all);
     };
+    // The last interval so far: the next number may still extend it.
     let mut open = alone(*first);
     let mut rest = behind;
     loop {

@@ -1,5 +1,7 @@
 //! Which services a case has: its own, and those of `given` that it doesn't override. Services are meant by their places in the test's list, from 0.
 //!
+//! The loops take `rest`, what is left of a slice, apart from the front, as the definitions in specs/ take lists apart.
+//!
 //! In contracts `services_at services places` is the list of the services at these places.
 
 ghost use Rattle.std.specs.Prelude.{◌≡◌, ◌++◌, IfOk, OnOk, map, option_map, slice_get};
@@ -25,6 +27,7 @@ fn same_pattern(a: Slot, b: Slot) -> bool
     }
 }
 
+// Whether both have the same patterns, as many and in the same order.
 fn same_patterns(a: &[Slot], b: &[Slot]) -> bool
     ensures { result ≡ slots_eq a.now b.now }
 {
@@ -54,7 +57,7 @@ fn is_same(a: &Service<'_>, b: &Service<'_>) -> bool
     a.name == b.name && same_patterns(a.patterns.as_slice(), b.patterns.as_slice())
 }
 
-// Whether a service's line is one of this case; a line of `given` has None.
+// Whether a service's line is one of the case at this place. `of` is the place of the line's own case, None for a line of `given`.
 fn is_own(case: usize, of: Option<usize>) -> bool
     ensures { result ≡ is_own case of }
 {
@@ -64,7 +67,7 @@ fn is_own(case: usize, of: Option<usize>) -> bool
     }
 }
 
-/// The service of the line at a place, if there is one.
+/// The service of the line at a place; None if the list has no such place, which no caller hands in: `case_places` finds all places.
 pub(crate) fn service_at<'s, 'a>(
     services: &'s [ServiceLine<'a>],
     place: usize,
@@ -153,6 +156,7 @@ pub(crate) fn case_places(
     Ok(places)
 }
 
+// Whether the name is among these.
 fn has_name(names: &[&[u8]], name: &[u8]) -> bool
     ensures { result ≡ has_name (map (λ n. n.now) names.now) name.now }
 {

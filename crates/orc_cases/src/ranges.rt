@@ -1,5 +1,7 @@
 //! With which delays of a range a case fails: `Pay(_) = 1 after 3..7, 12`.
 //!
+//! The loops take `rest`, what is left of a slice, apart from the front, as the definitions in specs/ take lists apart.
+//!
 //! In contracts `map (way_at ..) numbers` is the list of the ways, in their order.
 
 ghost use Rattle.std.specs.Prelude.{◌≡◌, ◌<◌, ◌++◌, IfOk, OnOk, map, option_map};
@@ -28,8 +30,9 @@ pub(crate) struct Failing<'f> {
 }
 
 impl Failing<'_> {
-    // The delays after which a line gives this answer to the call at `place`, from 0, one for each way that fails and in which the line takes a
-    // range. The error is refused memory.
+    // The delays after which a line gives this answer to the call at `place`, one for each way that fails and in which the line takes a range. `line`
+    // is the line's place in the frame and `place` that of the call among those that it answers, both from 0, here and below. The error is refused
+    // memory.
     fn delays(
         &self,
         alloc: Global,
@@ -48,6 +51,7 @@ impl Failing<'_> {
             match numbers {
                 [] => return Ok(delays),
                 [number, more @ ..] => match fails {
+                    // The other ways were not tried.
                     [] => return Ok(delays),
                     [does_fail, others @ ..] => {
                         if *does_fail {
@@ -134,8 +138,8 @@ impl Failing<'_> {
         }
     }
 
-    // Writes the line at a place if its choice has a range; in place of each delay stand all those with which some way fails. The error is refused
-    // memory.
+    // Writes the line at a place in the frame, from 0, if its choice has a range; in place of each delay stand all those with which some way fails.
+    // The error is refused memory.
     fn write_line(
         &self,
         alloc: Global,
@@ -156,6 +160,7 @@ impl Failing<'_> {
                 text.extend_from_slice(line.call.as_slice())?;
                 self.write_answers(alloc, place, choice.answers.as_slice(), text)
             }
+            // Not reached: a way has a choice for each line.
             None => Ok(()),
         }
     }
@@ -185,6 +190,7 @@ impl Failing<'_> {
     }
 }
 
+// Whether both halt, or answer with the same value.
 fn is_same_answer(a: Answer, b: Answer) -> bool
     ensures { result ≡ answer_eq a b }
 {

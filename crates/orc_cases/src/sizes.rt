@@ -1,4 +1,6 @@
 //! How many ways there are, counted before any is written out. The true number may be far over 2^64, so all numbers here stop at `MANY`.
+//!
+//! The loops take `rest`, what is left of a slice, apart from the front, as the definitions in specs/ take lists apart.
 
 ghost use Rattle.std.specs.Prelude.{◌≡◌, length};
 ghost use Rattle.orc_ways.specs.Values.{histories_of, service_of};
@@ -36,6 +38,7 @@ fn reply_size(reply: Reply) -> u64
 {
     match reply {
         Reply::Never => 1,
+        // Its two ends are included. No empty range is read; it would stand for no answer.
         Reply::Between(_, low, high) => { if low <= high { plus(high - low, 1) } else { 0 } }
     }
 }
@@ -80,6 +83,7 @@ fn service_size(service: &Service<'_>) -> u64
 {
     let options = options_size(service.alternatives.as_slice());
     let mut size = 1;
+    // How many calls still take an alternative. A service has 1 at least, so `max` changes nothing.
     let mut left = service.calls.max(1);
     while left > 0 {
         size = times(size, options);
@@ -88,7 +92,8 @@ fn service_size(service: &Service<'_>) -> u64
     size
 }
 
-/// How many ways the services at these places have together; `MOST_WAYS` + 1 if there are more than `MOST_WAYS`.
+/// How many ways the services at these places have together; `MOST_WAYS` + 1 if there are more than `MOST_WAYS`. A place that isn't in the list
+/// counts for nothing; `case_places` gives none such.
 pub(crate) fn ways_size(services: &[ServiceLine<'_>], places: &[usize]) -> u64
     ensures { result ≡ ways_from_size 1 (services_at services.now places.now) }
 {

@@ -1,5 +1,7 @@
 //! The text of a script's lines, as docs/orc.md, *Scripts*, has it. Each `push_..` appends to `out`; its error is refused memory, and then `out` may
 //! end anywhere.
+//!
+//! The loops take `rest`, what is left of a slice, apart from the front, as the definitions in specs/ take lists apart.
 
 ghost use Rattle.std.specs.Prelude.{◌≡◌, ◌++◌, OnOk, map, codes, decimal, true};
 ghost use Rattle.orc_rules.specs.Text.{value_text};
@@ -10,6 +12,7 @@ use orc_claims::claim::Slot;
 use orc_rules::value::{Answer, Found, Value};
 use std::alloc::AllocError;
 
+// A value: a number in decimal, `true`, `false` or `signal`.
 fn push_value(out: &mut Vec<u8>, value: Value) -> Result<(), AllocError>
     ensures { OnOk result (out.new.items ≡ out.old.items ++ value_text value) }
 {
@@ -51,6 +54,7 @@ fn push_closing(out: &mut Vec<u8>, patterns: &[Slot]) -> Result<(), AllocError>
     }
 }
 
+// The patterns of a service in brackets: `(_, 1)`, or `()` for none.
 fn push_patterns(out: &mut Vec<u8>, patterns: &[Slot]) -> Result<(), AllocError>
     ensures { OnOk result (out.new.items ≡ out.old.items ++ patterns_text patterns.now) }
 {
@@ -86,6 +90,7 @@ pub(crate) fn push_reply(out: &mut Vec<u8>, answer: Answer) -> Result<(), AllocE
     }
 }
 
+// A number in decimal.
 fn push_number(out: &mut Vec<u8>, number: u64) -> Result<(), AllocError>
     ensures { OnOk result (out.new.items ≡ out.old.items ++ decimal number) }
 {
@@ -137,6 +142,7 @@ pub(crate) fn push_mark(out: &mut Vec<u8>, place: usize) -> Result<(), AllocErro
     }
 }
 
+// One answer with its delay.
 fn push_answer(out: &mut Vec<u8>, answer: Found) -> Result<(), AllocError>
     ensures { OnOk result (out.new.items ≡ out.old.items ++ answer_text answer) }
 {
@@ -175,6 +181,7 @@ pub(crate) fn push_answers(out: &mut Vec<u8>, answers: &[Found]) -> Result<(), A
     ensures { OnOk result (out.new.items ≡ out.old.items ++ answers_text answers.now) }
 {
     match answers {
+        // Not reached: a choice has an answer.
         [] => out.extend_from_slice(b"\n"),
         [answer, more @ ..] => {
             out.extend_from_slice(b" = ")?;
@@ -206,6 +213,7 @@ pub(crate) fn push_end(out: &mut Vec<u8>, text: &[u8]) -> Result<(), AllocError>
                 }
                 return out.extend_from_slice(b"\n");
             }
+            // Only the last byte tells.
             [_, more @ ..] => rest = more,
         }
     }
