@@ -48,7 +48,8 @@ impl Loaded {
     }
 }
 
-/// Memory for the list of the sites' names was refused: C9, as of memory that the check itself is refused.
+/// Memory for the list of the sites' names was refused: C9, as of memory that the check itself is refused. Such a fault has no place, so its span is
+/// the text's start.
 const NO_MEMORY: ScopeFault = ScopeFault {
     kind: FaultKind::Memory,
     span: Span { start: 0, end: 0 },

@@ -1,4 +1,5 @@
-//! The limits of the project, each said once: code and contracts cite them here.
+//! The limits of the project, each said once: code and contracts cite them here. docs/orc.md, *Limits*, shows most of them to users. Each number is
+//! still allowed.
 
 /// The most arguments of a call, parameters of a definition, or patterns of a script's line.
 pub const MOST_ARGUMENTS: usize = 16;

@@ -97,6 +97,7 @@ fn is_match(patterns: &[Option<Value>], args: &[Value]) -> bool
         ([Some(pattern), patterns @ ..], [arg, args @ ..]) => {
             is_same(*pattern, *arg) && is_match(patterns, args)
         }
+        // One of the two has more than the other.
         _ => false,
     }
 }
@@ -162,6 +163,7 @@ impl Patterns {
         }
     }
 
+    // Adds a pattern at the end.
     fn push(&mut self, pattern: Option<Value>)
         requires { length self.old < MOST_ARGUMENTS }
         ensures { self.new ≡ self.old ++ pattern ∷ [] }
@@ -184,6 +186,7 @@ impl Patterns {
         requires { length self.old + length args.now ≤ MOST_ARGUMENTS }
         ensures { self.new ≡ self.old ++ filled shape.now args.now }
     {
+        // It ends with the shorter of the two; `place` hands in two of one length.
         if let ([is_value, shape @ ..], [arg, args @ ..]) = (shape, args) {
             self.push(if *is_value { Some(*arg) } else { None });
             self.fill(shape, args);
@@ -296,11 +299,13 @@ impl Lines {
         self.lines.try_reserve(1)?;
         self.index.enter(alloc, &line.patterns, self.lines.len())?;
         let pushed = self.lines.push(line);
+        // For the prover: with the room that was reserved the push can't fail.
         prove!(pushed.is_ok());
         Ok(())
     }
 
-    // The place of the first line that matches these arguments. Without such a line, how many there are.
+    // The place of the first line that matches these arguments. Without such a line, how many there are. The lines are looked at one by one where
+    // they are few, where the index isn't kept up, and where there are more arguments than `Patterns` can hold.
     fn first(&self, args: &[Value]) -> usize
         ensures { result ≡ match_place self.now args.now }
     {

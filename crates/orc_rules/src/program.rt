@@ -123,7 +123,7 @@ impl Program {
         }
     }
 
-    // What `node` gives, with only the first clause of its contract.
+    // What `node` gives, with only the first clause of its contract; `node` adds the second one.
     fn node_or_stop(&self, id: usize) -> TermNode
         ensures { result ≡ node_of self.now.nodes id }
     {

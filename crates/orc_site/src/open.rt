@@ -11,6 +11,7 @@ pub struct Open;
 impl Gate for Open {
     ghost holds_nobody = { λ _. Unit {0} };
 
+    // Returns at once.
     fn pass(&self, _number: u64) {}
 
     fn may_wait(&self) -> bool

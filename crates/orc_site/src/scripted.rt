@@ -34,6 +34,7 @@ impl<'a> Sites for Scripted<'a> {
         Ok(SiteCall::new(self.answers, request.copied()))
     }
 
+    // Nothing is kept of a call outside its own future, so there is nothing to undo.
     fn cancel(&self, _number: u64) {}
 
     fn may_wait(&self) -> bool

@@ -116,6 +116,7 @@ impl SiteCall<'_> {
                 self.state = State::Done(answer);
                 Poll::Ready(answer)
             }
+            // Not due yet, or never. `Fresh` doesn't come: `begin` has ended it.
             State::Fresh | State::Waiting(_) | State::Never => {
                 cx.register(&self.source, &mut self.waker)
             }
