@@ -22,7 +22,7 @@ pub(crate) struct Choice {
     pub(crate) answers: Vec<Found>,
 }
 
-// Written out, so that a caller's proof sees one call and not the drop of each field.
+// Written out, so that a caller's proof sees one call and not the drop of each field. In the pattern `_` drops a field.
 impl Drop for Choice {
     fn drop(self) {
         let Choice {

@@ -43,7 +43,7 @@ pub(crate) fn intervals(alloc: Global, numbers: &[u64]) -> Result<Vec<Interval>,
                 return Ok(all);
             }
             [number, more @ ..] => {
-                // A number that isn't greater is in the open interval already.
+                // A number that isn't greater is in the open interval already; a greater one isn't 0, so the subtraction is safe.
                 if *number > open.last {
                     if *number - 1 == open.last {
                         open.last = *number;

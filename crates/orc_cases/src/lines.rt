@@ -2,6 +2,8 @@
 //!
 //! The loops take `rest`, what is left of a slice, apart from the front, as the definitions in specs/ take lists apart.
 //!
+//! Each place that is handed in is in the list. `service_at` would give None for another one, which would be passed over.
+//!
 //! In contracts `services_at services places` is the list of the services at these places.
 
 ghost use Rattle.std.specs.Prelude.{◌≡◌, ◌++◌, IfOk, OnOk, map, option_map, slice_get};

@@ -15,16 +15,16 @@ use orc_ways::test::{Reply, Service, ServiceLine};
 /// Stands for every number above `MOST_WAYS`.
 const MANY: u64 = MOST_WAYS + 1;
 
+// The product, or `MANY` if it is over `MOST_WAYS`.
 #[tactic(auto, unfolding(crate::specs::Sizes::capped, crate::specs::Sizes::times))]
-// The product, or `MANY`.
 fn times(a: u64, b: u64) -> u64
     ensures { result ≡ times a b }
 {
     a.saturating_mul(b).min(MANY)
 }
 
+// The sum, or `MANY` if it is over `MOST_WAYS`.
 #[tactic(auto, unfolding(crate::specs::Sizes::capped, crate::specs::Sizes::plus))]
-// The sum, or `MANY`.
 fn plus(a: u64, b: u64) -> u64
     ensures { result ≡ plus a b }
 {

@@ -1,4 +1,4 @@
-//! The ways of a case, in their order, and the texts that tell of them.
+//! The ways of a case, in their order, and the texts that tell of them. A `usize` has 64 bits, so no cast here changes a number.
 
 ghost use Rattle.std.specs.Prelude.{◌≡◌, Bool, IfOk, List, [], false, length, map};
 ghost use Rattle.orc_ways.specs.Drafting.{test_of};

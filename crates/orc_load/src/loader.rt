@@ -25,7 +25,7 @@ pub struct Loaded {
     pub answers: Answers,
 }
 
-// Written out, so that a caller's proof sees one call and not the drop of each field.
+// Written out, so that a caller's proof sees one call and not the drop of each field. In the pattern `_` drops a field.
 impl Drop for Loaded {
     fn drop(self) {
         let Loaded {

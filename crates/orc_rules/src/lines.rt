@@ -34,6 +34,7 @@ pub struct Lines {
 #[derive(Drop)]
 struct Index {
     // The place of the first line that has these patterns.
+    // `FoldHasher` is the hasher that a `HashMap` has by default.
     places: HashMap<Vec<Option<Value>>, usize, BuildHasherDefault<FoldHasher>>,
     // The lines' shapes, each once: true is a value.
     shapes: Vec<Vec<bool>>,
@@ -47,7 +48,7 @@ struct Patterns {
     len: usize,
 }
 
-// Written out, so that a caller's proof sees one call and not the drop of each field.
+// Written out, so that a caller's proof sees one call and not the drop of each field. In the pattern `_` drops a field.
 impl Drop for Lines {
     fn drop(self) {
         let Lines { lines: _, index: _ } = self;

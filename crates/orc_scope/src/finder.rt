@@ -42,7 +42,7 @@ pub struct Looking<'a> {
     pub room: usize,
 }
 
-// Written out, so that a caller's proof sees one call and not the drop of each field.
+// Written out, so that a caller's proof sees one call and not the drop of each field. In the pattern `_` drops a field.
 impl Drop for Looking<'_> {
     fn drop(self) {
         let Looking {

@@ -17,7 +17,7 @@ pub struct Known<'a, 's> {
     pub sites: Names<'s>,
 }
 
-// Written out, so that a caller's proof sees one call and not the drop of each field.
+// Written out, so that a caller's proof sees one call and not the drop of each field. In the pattern `_` drops a field.
 impl Drop for Known<'_, '_> {
     fn drop(self) {
         let Known {

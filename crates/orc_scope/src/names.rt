@@ -24,7 +24,7 @@ pub struct Names<'a> {
     places: HashMap<&'a [u8], usize>,
 }
 
-// Written out, so that a caller's proof sees one call and not the drop of each field.
+// Written out, so that a caller's proof sees one call and not the drop of each field. In the pattern `_` drops a field.
 impl Drop for Names<'_> {
     fn drop(self) {
         let Names {

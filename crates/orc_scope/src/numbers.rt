@@ -26,7 +26,7 @@ pub struct Numbers<'a, 's> {
     variables: Names<'a>,
 }
 
-// Written out, so that a caller's proof sees one call and not the drop of each field.
+// Written out, so that a caller's proof sees one call and not the drop of each field. In the pattern `_` drops a field.
 impl Drop for Numbers<'_, '_> {
     fn drop(self) {
         let Numbers {

@@ -99,7 +99,7 @@ impl Writing {
         Ok(Some((i, j)))
     }
 
-    // Joins the last two parts by an operator, and pushes what that makes.
+    // Joins the last two parts by an operator, and pushes what that makes: i and j are the nodes of its left and its right side.
     fn operate(&mut self, numbers: &Numbers, operator: Operator) -> Result<(), AllocError>
         requires { IsReady self.old }
         ensures parts { OnOk result (parts self.new ≡ built numbers.now.known numbers.now.names (operation (link operator.entry)) (parts self.old)) }

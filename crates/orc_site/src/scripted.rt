@@ -43,6 +43,7 @@ impl<'a> Sites for Scripted<'a> {
         false
     }
 
+    // The table alone answers, and a call leaves nothing behind.
     fn goes_by_table(&self) -> bool
         ensures { result ≡ true }
     {

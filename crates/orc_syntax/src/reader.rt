@@ -263,13 +263,13 @@ impl<'a> Reader<'a> {
             match top {
                 Frame::Before(joining, start) => {
                     if joining.level() < level {
-                        // It binds too loosely, so it goes back.
+                        // It binds too loosely, so it goes back into the room that it left.
                         self.frames.push(Frame::Before(joining, start))?;
                         return Ok(right);
                     }
                     right = self.node(joining.part(), start, right.end)?;
                 }
-                // A bracket or a heading: its expression has ended with `right`, and the caller says what happens to it.
+                // A bracket or a heading: nothing outside it can be joined to what stands inside.
                 other => {
                     self.frames.push(other)?;
                     return Ok(right);
@@ -287,7 +287,7 @@ impl<'a> Reader<'a> {
         let mut count = self.frames.len();
         while count > 0 {
             match self.frames[count - 1] {
-                // What waits outside this operator or `val` decides, since the expression may be its whole right side.
+                // The operator or `val` has its right side now, so what waits outside it decides.
                 Frame::Before(_, _) => count -= 1,
                 Frame::Bracket(_) => return What::Close,
                 Frame::Arguments(_, _) => return What::CommaOrClose,
@@ -416,7 +416,7 @@ impl<'a> Reader<'a> {
     fn close(&mut self, end: usize) -> Result<Mode<'a>, StepError>
         ensures { Leaves result self.new (machine.close end (context self.old) (nodes self.old) (stack self.old)) }
     {
-        // Where nothing is open, the expression could only be the main one.
+        // Nothing waits, so this was the main expression, behind which the text has to end.
         let Some(top) = self.frames.pop() else {
             return Err(StepError::Wanted(What::End));
         };
@@ -511,8 +511,8 @@ impl<'a> Reader<'a> {
             Kind::Joint(joint) => self.push(operator_of(joint), last),
             Kind::Arrow(side) => Ok(Mode::Signed(side, last)),
             Kind::Close => {
-                // The operand that `reduce` gives isn't needed, here and below: brackets and calls have the places of their own signs, and a `val` or
-                // `def` that of its word.
+                // The operand that `reduce` gives isn't needed, here and below: a bracket, a call and a `val` have a place of their own, and a
+                // definition needs none.
                 self.reduce(0, last)?;
                 self.close(token.span.end)
             }

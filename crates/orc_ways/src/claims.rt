@@ -1,4 +1,5 @@
 //! Claims: what has to hold. Each reader here takes the tokens of the line from where its part begins; None says that they are no such claim.
+//! `same_tokens` gives back what it gets, in a form that the prover knows again.
 //!
 //! In contracts `Gives f result (NAME_at ..)` says that a reader answers what the definition NAME_at gives for these tokens, and None where that
 //! does; f turns the code's value into that of the definitions.

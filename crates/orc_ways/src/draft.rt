@@ -187,7 +187,8 @@ impl<'a> Draft<'a> {
         Ok(true)
     }
 
-    // Adds a line of this kind; false if it isn't allowed here, and then nothing changes. The error is refused memory.
+    // Adds a line of this kind, with its number, from 1, and its text; false if it isn't allowed here, and then nothing changes. The error is refused
+    // memory.
     #[tactic(auto, unfolding(crate::specs::Drafts::placed))]
     fn place(&mut self, number: usize, line: &'a [u8], kind: Kind<'a>) -> Result<bool, AllocError>
         ensures { IfOk result (λ good. IsPlaced (placed (draft_of self.old) number line.now (kind_of kind.entry)) (draft_of self.new) good) }

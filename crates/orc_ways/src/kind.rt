@@ -20,6 +20,7 @@ pub enum Kind<'a> {
     Blank,
     Given,
     Always,
+    /// `case` and this name.
     Case(&'a [u8]),
     Service(Service<'a>),
     Claim(Claim),

@@ -1,4 +1,5 @@
 //! The sites that a line names: each name that stands before brackets with up to `MOST_ARGUMENTS` arguments, whatever the line is.
+//! `same_tokens` gives back what it gets, in a form that the prover knows again.
 
 ghost use Rattle.std.specs.Prelude.{◌≡◌, ◌∷◌, IfOk, OnOk, option_map, Some};
 ghost use Rattle.orc_rules.specs.Digits.{Gives};
@@ -81,8 +82,8 @@ fn mention<'a>(token: &Token<'a>, behind: &[Token<'a>]) -> Option<(&'a [u8], usi
     Some((name, arguments(behind)?))
 }
 
-// Pushes a site that isn't among them. The list may grow to one over the limit, by which the caller sees that they are too many. The error is refused
-// memory.
+// Pushes a site that isn't among them, with the number of the line that names it. The list may grow to one over the limit, by which the caller sees
+// that they are too many. The error is refused memory.
 fn add_site<'a>(
     sites: &mut Vec<SiteName<'a>>,
     line: usize,
@@ -91,9 +92,11 @@ fn add_site<'a>(
 ) -> Result<(), AllocError>
     ensures { OnOk result (sites_of sites.new.items ≡ with_site (sites_of sites.old.items) line name.now arguments) }
 {
+    // It is among them already.
     if number_of_site(sites.as_slice(), name, arguments) < sites.len() {
         return Ok(());
     }
+    // The one over the limit is there already.
     if MOST_SITES < sites.len() {
         return Ok(());
     }

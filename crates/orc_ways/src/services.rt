@@ -1,4 +1,4 @@
-//! The lines of services: `Pay(_) = 1 after 0..13 | halt then 2`.
+//! The lines of services: `Pay(_) = 1 after 0..13 | halt then 2`. `same_tokens` gives back what it gets, in a form that the prover knows again.
 //!
 //! In contracts `Gives f result (NAME_at ..)` says that a reader answers what the definition NAME_at gives for these tokens, and None where that
 //! does; f turns the code's value into that of the definitions.

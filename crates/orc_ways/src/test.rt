@@ -30,8 +30,8 @@ pub struct Service<'a> {
     /// What it may do, the usual alternative first. Each has an answer for the first call, the second one and so on; its last one answers all further
     /// calls.
     pub alternatives: Vec<Vec<Reply>>,
-    /// The N of `in each of N calls`, 2 to 4: each of the first N calls with the same arguments takes an alternative of its own, which is one answer
-    /// then. Without it 1: the line takes one alternative for all its calls.
+    /// The N of `in each of N calls`, 2 to `MOST_CALLS`: each of the first N calls with the same arguments takes an alternative of its own, which is
+    /// one answer then. Without it 1: the line takes one alternative for all its calls.
     pub calls: usize,
 }
 
@@ -74,7 +74,7 @@ pub struct Test<'a> {
     pub cases: Vec<Case<'a>>,
 }
 
-// Written out, so that a caller's proof sees one call and not the drop of each field.
+// Written out, so that a caller's proof sees one call and not the drop of each field. In the pattern `_` drops a field.
 impl Drop for Test<'_> {
     fn drop(self) {
         let Test {
