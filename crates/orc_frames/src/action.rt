@@ -3,6 +3,8 @@
 //! In contracts a path is what is around a token, the innermost first: `feeding` is the left side of a `>x>`, `aiding` the right side of a cell,
 //! `trying` the left side of an otherwise, and `whole` nothing. `seen left` leaves out the otherwises that have published, which take nothing.
 //! `what_by` defines what a token does next, and `scan` what one at a call of a site does.
+//!
+//! `from` is the number of a token's innermost step, from which a search goes outwards; 0 is the program as a whole.
 
 ghost use Rattle.std.specs.Prelude.{◌≡◌, ℕ, Bool, true, false, None as Nothing};
 ghost use Rattle.orc_rules.specs.Term.{Term};
@@ -46,7 +48,8 @@ pub enum Action {
     Bind(u64, Value),
     /// It calls a site, and all arguments have values.
     Call,
-    /// It waits for this cell, the first one if it waits for several; 0 if no cell can end the wait.
+    /// It waits for this cell, the first one if it waits for several. 0 (no cell has this number) if no cell can end the wait: it is at a name that
+    /// isn't bound, or at a call of a definition that isn't there. No checked program has these.
     Wait(u64),
 }
 
@@ -89,7 +92,8 @@ pub fn are_values(
 }
 
 /// What a token at a call of a site does: `Call` where all operands have values, `Void` where one is void, else `Wait`. `operands` are those that are
-/// still to be looked at: `waits` says that one before them has no value yet, and `first` is the first unbound cell before them.
+/// still to be looked at: `waits` says that one before them has no value yet, and `first` is the first unbound cell before them. A caller begins with
+/// all operands, false and None.
 pub fn site_call_action(
     scopes: &[StoredScope],
     cells: &[Bound],
@@ -104,6 +108,7 @@ pub fn site_call_action(
     match operands {
         [] => {
             if waits {
+                // 0 if only names that aren't bound have no value.
                 Action::Wait(first.unwrap_or(0))
             } else {
                 Action::Call
@@ -139,11 +144,12 @@ fn variable_action(
         Some(Bound::Is(value)) => publish_action(steps, from, value),
         Some(Bound::Cell(cell)) => Action::Wait(cell),
         Some(Bound::Void) => Action::Void,
+        // A name that isn't bound; no checked program has one.
         None => Action::Wait(0),
     }
 }
 
-/// What a token does at a node in a scope, where `from` is its innermost step, 0 if it has none.
+/// What a token does at this node of the program in this scope, where `from` is its innermost step, 0 if it has none.
 pub fn action_at(
     graph: &Graph,
     scopes: &[StoredScope],
@@ -172,6 +178,7 @@ pub fn action_at(
         Node::Call(definition, _) => match graph.body(definition as usize) {
             // Its arguments need no values: they are passed on as they are.
             Some(_) => Action::Def,
+            // There is no such definition; no checked program calls one.
             None => Action::Wait(0),
         },
         Node::Par(_, _) => Action::Fork,

@@ -8,7 +8,7 @@ ghost use Rattle.orc_tables.specs.declared.records.Step.{Step as Entering};
 
 use orc_tables::{Frame, Steps};
 
-// Whether this is the left side of the otherwise with this number.
+// Whether what a step enters is the left side of the otherwise with this number.
 fn is_number(entered: Frame, number: u64) -> bool
     ensures { result ≡ is_number number entered }
 {
@@ -18,7 +18,8 @@ fn is_number(entered: Frame, number: u64) -> bool
     }
 }
 
-/// Whether the otherwise with this number has published. None if `step` isn't the step into its left side, and then nothing is known.
+/// Whether the otherwise with this number has published: true keeps its right side from ever running. `step` is a guess: None if it isn't the step
+/// into its left side, and then nothing is known.
 pub fn left_at(steps: &Steps, step: usize, number: u64) -> Option<bool>
     requires { weight (tries number) steps.now.items ≤ 1 }
     ensures left { IfSome result (λ left. left ≡ has_left steps.now.items number) }
@@ -42,12 +43,14 @@ fn is_left(steps: &Steps, step: usize, number: u64) -> bool
     }
 }
 
-/// Whether the otherwise with this number has published. It looks at one step after another, and at all of them where it hasn't.
+/// Whether the otherwise with this number has published; false for a number that no otherwise has. It looks at one step after another, and at all of
+/// them where it hasn't.
 pub fn has_left(steps: &Steps, number: u64) -> bool
     ensures { result ≡ has_left steps.now.items number }
 {
     let mut at = 0;
     while at < steps.len() {
+        // Steps are numbered from 1.
         if is_left(steps, at + 1, number) {
             return true;
         }

@@ -29,6 +29,7 @@ pub fn parameter_scopes(
     if params.len() != operands.len() {
         return Ok(None);
     }
+    // From the last parameter to the first. `left` counts those that have no scope yet.
     let mut outer = 0;
     let mut left = params.len();
     while left > 0 {

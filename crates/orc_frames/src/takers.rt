@@ -18,9 +18,9 @@ use orc_tables::{Frame, Steps};
 pub enum Taker {
     /// Nothing: the program publishes it.
     Whole,
-    /// A `>x>`: its name, the node of its right side, its scope, and the step around it.
+    /// A `>x>`: the number of its name, the node of its right side, the scope in which the whole `f >x> g` is, and the step around that.
     SeqLeft(u32, u32, usize, usize),
-    /// A `<x<`, from its right side: its cell, and the step around it.
+    /// A `<x<`, from its right side: its cell, and the step around the whole `f <x< g`.
     PruneRight(u64, usize),
 }
 
@@ -37,14 +37,15 @@ pub fn find_taker(steps: &Steps, from: usize) -> Taker
         Some(step) => match step.entered {
             Frame::SeqLeft(name, node, scope) => Taker::SeqLeft(name, node, scope, step.outer),
             Frame::PruneRight(cell) => Taker::PruneRight(cell, step.outer),
-            // This doesn't happen: `taker` passes over them.
+            // It doesn't happen: `taker` passes over the left sides of otherwises.
             Frame::OtherwiseLeft(_) => Taker::Whole,
         },
+        // Step 0: nothing takes it.
         None => Taker::Whole,
     }
 }
 
-/// Marks as published each otherwise that a publication passes on its way from step `from` to what takes it.
+/// Marks as published each otherwise that a publication passes on its way from step `from` to what takes it: their right sides never run then.
 pub fn leave_others(steps: &mut Steps, from: usize)
     requires within { from ≤ length steps.old.items }
     requires outwards { AreOutwards steps.old.items }

@@ -30,6 +30,7 @@ pub fn list_cells(
                 reserve(listed)?;
                 push_within(listed, cell);
             }
+            // A value and a void operand aren't waited for, and for a name that isn't bound nothing ever comes.
             Some(Bound::Is(_)) => {}
             Some(Bound::Void) => {}
             None => {}

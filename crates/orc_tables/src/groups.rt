@@ -25,7 +25,7 @@ pub struct Groups {
     sizes: Vec<u32>,
     // By number: the step into the side of the group, as `open` was told. A hint, which callers test.
     hints: Vec<usize>,
-    // The numbers that no group has; the last one is given out next.
+    // The numbers that were given out and that no open group has now; the last one is given out next.
     free: Vec<u32>,
     // The places in `items` of the groups in each group. They are hints.
     chains: Chains,
@@ -70,6 +70,7 @@ fn size_at(sizes: &Vec<u32>, number: u32) -> u32
     }
 }
 
+// Writes how many members the group with this number has. For a number that was never given out nothing changes.
 #[inline(always)]
 fn set_size(sizes: &mut Vec<u32>, number: u32, size: u32)
     ensures { sizes.new.items ≡ slice_set sizes.old.items number size }
@@ -89,6 +90,7 @@ fn none_at(sizes: &Vec<u32>, number: u32) -> usize
     }
 }
 
+// Writes where the group with this number is among the items. For a number that was never given out nothing changes.
 fn set_place(places: &mut Vec<usize>, number: u32, place: usize)
     ensures { places.new.items ≡ slice_set places.old.items number place }
 {
@@ -97,19 +99,21 @@ fn set_place(places: &mut Vec<usize>, number: u32, place: usize)
     }
 }
 
+// Where the group with this number is among the items, if it is open; None for a number that was never given out.
 fn place_at(places: &Vec<usize>, number: u32) -> Option<usize>
     ensures { result ≡ slice_get places.now.items number }
 {
     places.get(number as usize).copied()
 }
 
+// The group at a place among the items, from 0; None past the end.
 fn group_in(items: &Vec<Group>, place: usize) -> Option<Group>
     ensures { result ≡ slice_get items.now.items place }
 {
     items.get(place).copied()
 }
 
-// Where the group with this number is.
+// Where the open group with this number is among the items; None if no open group has it.
 fn place_of(items: &Vec<Group>, places: &Vec<usize>, number: u32) -> Option<usize>
     requires lead { LeadTo items.now.items places.now.items }
     ensures found { MatchOption result ((k : ℕ) (g : Its) → slice_get items.now.items k ≡ Some g → g.number ≡ number → ⊥) (λ k. (g : Its) × (slice_get items.now.items k ≡ Some g) × (g.number ≡ number)) }
@@ -138,7 +142,7 @@ fn count_at(items: &Vec<Group>, places: &Vec<usize>, number: u32) -> usize
     }
 }
 
-// `count_at` if `asked`, else 0.
+// `count_at` if `asked`, else 0: what `join` subtracts from `empty`, and `leave` adds.
 #[inline(always)]
 fn count_if(asked: bool, items: &Vec<Group>, places: &Vec<usize>, number: u32) -> usize
     requires lead { LeadTo items.now.items places.now.items }
@@ -173,11 +177,12 @@ fn add_number(
     reserve(sizes)?;
     reserve(hints)?;
     let number = places.len();
-    // Room for all numbers, so that `remove` can put each back without asking for memory.
+    // Room for the numbers 1 to `number`, so that `remove` can put each back without asking for memory. None is in the list now.
     if free.try_reserve(number).is_err() {
         return Err(AllocError);
     }
     push_within(free, number as u32);
+    // Nothing here counts until `open` gives the number to a group.
     push_within(places, 0);
     push_within(sizes, 0);
     push_within(hints, 0);
@@ -192,6 +197,7 @@ fn take_free(free: &mut Vec<u32>) -> u32
 {
     match free.pop() {
         Some(number) => number,
+        // It doesn't happen: the caller makes sure of a number.
         None => 0,
     }
 }
@@ -213,8 +219,10 @@ fn remove_at(
     ensures rest { (w : Its → ℕ) → weight w items.new.items + w result ≡ weight w items.old.items }
 {
     let group = items.swap_remove(place);
+    // The list is shorter by one now, so its length is where the last group was.
     chains.swap_take(place, items.len());
     match group_in(items, place) {
+        // The removed group was the last itself.
         None => group,
         Some(moved) => {
             set_place(places, moved.number, place);
@@ -352,6 +360,7 @@ impl Groups {
             },
         );
         self.chains.put(place, parent);
+        // Nothing in this table says that the members of the group that had the number before are gone, so its size is asked.
         self.empty += none_at(&self.sizes, number);
         number
     }
@@ -393,6 +402,7 @@ impl Groups {
         ensures sizes { self.new.sizes ≡ self.old.sizes }
     {
         let group = remove_at(&mut self.items, &mut self.places, &mut self.chains, place);
+        // `add_number` has made room for it.
         push_within(&mut self.free, group.number);
         self.empty -= none_at(&self.sizes, group.number);
         group

@@ -1,4 +1,5 @@
-//! The calls that pend, by their numbers.
+//! The calls that pend, found by their numbers, which count from 1 in the order in which calls are made. A *place* is one in the list of pending
+//! calls, from 0.
 //!
 //! In contracts `weight w items` is the sum of w over the items: an equation for every w says which items there are, in any order. `but p w` leaves
 //! out those that pass p.
@@ -72,7 +73,7 @@ fn due_of(call: Call) -> Option<u64>
     due_time(call.found, call.made_at)
 }
 
-// The place of a number.
+// The place of the call with this number, if it pends (else any place); None for 0 and for a number that wasn't given out.
 fn place_at(places: &Vec<usize>, number: u64) -> Option<usize>
     ensures there { IfSome result (λ k. (1 ≤ number) × (slice_get places.now.items (number - 1) ≡ Some k)) }
     ensures none { IfNone result (1 ≤ number → slice_get places.now.items (number - 1) ≡ None) }
@@ -86,7 +87,7 @@ fn place_at(places: &Vec<usize>, number: u64) -> Option<usize>
     }
 }
 
-// Writes the place of a number that was given out.
+// Writes the place of the call with this number. If the number wasn't given out, nothing changes.
 fn set_place(places: &mut Vec<usize>, number: u64, place: usize)
     requires { 1 ≤ number }
     ensures { places.new.items ≡ slice_set places.old.items (number - 1) place }
@@ -96,6 +97,7 @@ fn set_place(places: &mut Vec<usize>, number: u64, place: usize)
     }
 }
 
+// The call at a place; None past the end.
 fn call_at(items: &Vec<Call>, place: usize) -> Option<Call>
     ensures there { IfSome result (λ c. slice_get items.now.items place ≡ Some c) }
     ensures none { IfNone result (slice_get items.now.items place ≡ None) }
@@ -106,7 +108,7 @@ fn call_at(items: &Vec<Call>, place: usize) -> Option<Call>
     }
 }
 
-// The call with this number, and its place.
+// The call with this number, and its place; None if it doesn't pend.
 fn find(items: &Vec<Call>, places: &Vec<usize>, number: u64) -> Option<Spot>
     ensures found { IfSome result (λ s. (slice_get items.now.items s.place ≡ Some s.call) × (s.call.number ≡ number)) }
     ensures none { IfNone result (ArePlaced items.now.items places.now.items → (k : ℕ) (c : Its) → slice_get items.now.items k ≡ Some c → c.number ≡ number → ⊥) }
@@ -145,8 +147,10 @@ fn remove_at(
     ensures others { (c : Its) → IsIn c items.new.items → IsIn c items.old.items × (c.number ≡ result.number → ⊥) }
 {
     let call = items.swap_remove(place);
+    // The list is shorter by one now, so its length is where the last call was.
     chains.swap_take(place, items.len());
     match call_at(items, place) {
+        // The removed call was the last itself.
         None => call,
         Some(moved) => {
             set_place(places, moved.number, place);
@@ -164,7 +168,7 @@ fn forget(dues: &mut Dues, call: Call)
     }
 }
 
-// Removes the calls inside the right side of a cell from the lists and from their groups.
+// Removes the calls inside the right side of a cell, at any depth, from the lists and from their groups. It looks at each call.
 fn drop_inside(
     items: &mut Vec<Call>,
     places: &mut Vec<usize>,
@@ -206,13 +210,14 @@ fn is_due(items: &Vec<Call>, places: &Vec<usize>, time: u64, number: u64) -> boo
     match find(items, places, number) {
         None => false,
         Some(spot) => match due_of(spot.call) {
+            // It pends for good.
             None => false,
             Some(due) => due == time,
         },
     }
 }
 
-// The least due time of the pending calls; None if none is ever due. Notes before it whose calls are gone are dropped.
+// The least due time of the pending calls; None if none is ever due. Notes before it whose calls are gone are dropped, so the loop ends.
 fn next_due(items: &Vec<Call>, places: &Vec<usize>, dues: &mut Dues) -> Option<u64>
     requires placed { ArePlaced items.now.items places.now.items }
     requires noted { HaveNotes dues.old items.now.items }
@@ -228,7 +233,8 @@ fn next_due(items: &Vec<Call>, places: &Vec<usize>, dues: &mut Dues) -> Option<u
     None
 }
 
-// The least number over `beyond` whose call is due at this time, if there is one. Notes in between whose calls are gone are dropped.
+// The least number over `beyond` whose call is due at exactly this time; None if there is none. Notes in between whose calls are gone are dropped, so
+// the loop ends.
 fn due_beyond(
     items: &Vec<Call>,
     places: &Vec<usize>,
@@ -291,7 +297,8 @@ impl Pending {
         }
     }
 
-    /// Makes room for a call, and notes when it is due. The error is refused memory. The calls stay either way.
+    /// Makes room for a call, and notes when it is due, which takes memory, too. The error is refused memory. The calls stay either way: a note whose
+    /// call isn't added after all is dropped by later searches.
     pub fn reserve(&mut self, call: Call) -> Result<(), AllocError>
         ensures items { self.new.items ≡ self.old.items }
         ensures made { self.new.made ≡ self.old.made }
@@ -344,15 +351,18 @@ impl Pending {
         push_within(&mut self.places, 0);
     }
 
-    /// Gives the next `count` numbers to calls that don't pend. The error is refused memory, and then nothing changes.
+    /// Gives the next `count` numbers to calls that don't pend: those of a sub-run, all answered. The error is refused memory, and then nothing
+    /// changes.
     pub fn skip_numbers(&mut self, count: u64) -> Result<(), AllocError>
         ensures items { self.new.items ≡ self.old.items }
         ensures made { OnOk result (self.new.made ≡ self.old.made + count) }
         ensures refused { OnErr result (self.new.made ≡ self.old.made) }
     {
         let Some(len) = self.places.len().checked_add(count as usize) else {
+            // No memory has room for so many.
             return Err(AllocError);
         };
+        // No item has these numbers, so the places 0 are never used.
         self.places.resize(len, 0)
     }
 
@@ -378,7 +388,7 @@ impl Pending {
         }
     }
 
-    /// Writes the places of a group's calls over `places`, each once. They are hints: some may be missing or wrong.
+    /// Writes the places of the calls in a group over `places`, each once. They are hints: some may be missing or wrong.
     pub(crate) fn list(&self, group: u32, places: &mut Vec<usize>)
         ensures once { (k : ℕ) → weight (is_this k) places.new.items ≤ 1 }
     {
@@ -392,7 +402,7 @@ impl Pending {
         &self.items
     }
 
-    /// Removes the calls inside the right side of a cell from the table and from their groups.
+    /// Removes the calls inside the right side of a cell, at any depth, from the table and from their groups. It looks at each call.
     pub(crate) fn drop_inside(&mut self, groups: &mut Groups, steps: &Steps, cell: u64)
         ensures made { self.new.made ≡ self.old.made }
         ensures rest { (w : Its → ℕ) → weight w self.new.items ≡ weight (but (λ (k : Its). stands_inside cell steps.now.items k.step) w) self.old.items }
@@ -425,6 +435,7 @@ impl Pending {
         ensures sizes { HaveLeft groups.old.sizes groups.new.sizes (calls_in steps.now.items self.old.items) (calls_in steps.now.items self.new.items) }
     {
         for number in numbers {
+            // `listed` speaks of calls that pend: any other number is passed over.
             if let Some(gone) = self.take(*number) {
                 groups.leave(steps.group_at(gone.step));
             }
@@ -441,8 +452,8 @@ impl Pending {
         next_due(&self.items, &self.places, &mut self.dues)
     }
 
-    /// The least number over `beyond` whose call is due at this time, if there is one. Notes in between whose calls are gone are dropped: hence
-    /// `&mut`.
+    /// The least number over `beyond` whose call is due at exactly this time; None if there is none. With `beyond` 0 it is the first such call. Notes
+    /// in between whose calls are gone are dropped: hence `&mut`.
     pub fn due_beyond(&mut self, time: u64, beyond: u64) -> Option<u64>
         ensures items { self.new.items ≡ self.old.items }
         ensures made { self.new.made ≡ self.old.made }

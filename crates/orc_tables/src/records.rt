@@ -7,7 +7,7 @@ use orc_rules::value::{Found, Value};
 /// What a token is on.
 #[derive(Clone, Copy)]
 pub enum Standing {
-    /// A node of the program, in a scope; scope 0 has no names.
+    /// The node of the program with this number, in the scope with this number; scope 0 has no names.
     At(u32, usize),
     /// A value that a call has answered.
     On(Value),
@@ -18,6 +18,7 @@ pub enum Standing {
 pub struct Token {
     /// Its mark in the journal, from 1. In a slot that is free it is 0.
     pub serial: u64,
+    /// What it is on.
     pub standing: Standing,
     /// Its innermost step, which it took last; 0 is the program as a whole.
     pub step: usize,
@@ -28,7 +29,7 @@ pub struct Token {
 pub struct Call {
     /// Its number in the journal, from 1.
     pub number: u64,
-    /// What the table of sites says: an answer after a delay, or none ever.
+    /// What the table of sites says of it: an answer after a delay from `made_at` on, or none ever.
     pub found: Found,
     /// When it was made, in logical time.
     pub made_at: u64,
@@ -43,7 +44,7 @@ pub struct Call {
 /// What a step enters.
 #[derive(Clone, Copy)]
 pub enum Frame {
-    /// The left side of a `>x>`: its name, the node of its right side, and the scope of the whole.
+    /// The left side of a `>x>`: the number of its name `x`, the node of its right side, and the scope in which the whole `f >x> g` is.
     SeqLeft(u32, u32, usize),
     /// The right side of this cell.
     PruneRight(u64),
@@ -70,7 +71,7 @@ pub struct Step {
 pub enum Side {
     /// The right side of this cell.
     Right(u64),
-    /// The left side of the otherwise with this number; the node of its right side, and its scope.
+    /// The left side of the otherwise with this number; the node of its right side, and the scope in which the whole `f ; g` is.
     Left(u64, u32, usize),
 }
 

@@ -31,7 +31,7 @@ impl Model for Steps {
     ghost invariant = { λ s. AreLinked s.items.items s.takers.items };
 }
 
-// Whether it is the left side of an otherwise, which passes publications on.
+// Whether what a step enters is the left side of an otherwise, which passes publications on.
 fn is_try(entered: Frame) -> bool
     ensures { result ≡ tries entered }
 {
@@ -41,7 +41,7 @@ fn is_try(entered: Frame) -> bool
     }
 }
 
-// Whether it is the right side of this cell.
+// Whether what a step enters is the right side of this cell.
 fn is_right_side_of(entered: Frame, cell: u64) -> bool
     ensures { result ≡ aids cell entered }
 {
@@ -150,7 +150,7 @@ impl Steps {
         push_within(&mut self.items, step);
     }
 
-    /// Removes the last step, of which there has to be one. Its room is kept.
+    /// Removes the last step, of which there has to be one. The caller sees to it that nothing is in it any more. Its room is kept.
     #[inline(always)]
     pub fn drop_last(&mut self)
         requires { 1 ≤ length self.old.items }
@@ -184,7 +184,7 @@ impl Steps {
         ensures { result ≡ stands_inside cell self.now.items from }
     {
         let mut at = from;
-        // How many steps may still follow: each has a lower number than the one inside it.
+        // How many steps may still follow: each has a lower number than the one inside it. It only shows the prover that the loop ends.
         let mut left = from;
         while left > 0 {
             let last = match self.at(at) {

@@ -26,6 +26,7 @@ pub struct Tokens {
     free: usize,
     // How many slots hold a token.
     count: usize,
+    // Which slots hold a parked token, and which tokens are noted with each cell.
     parking: Parking,
     // The slots of the tokens in each group. They are hints.
     chains: Chains,
@@ -58,7 +59,7 @@ impl Model for Tokens {
 // No slot has this number.
 const NO_SLOT: usize = usize::MAX;
 
-// What a free slot holds: the serial 0, and in `step` the next slot of the list of free ones.
+// What a free slot holds: the serial 0, and in `step` the next slot of the list of free ones, `free`. Its standing is never read.
 fn nobody(free: usize) -> Token
     ensures { result.serial ≡ 0 }
 {
@@ -69,7 +70,7 @@ fn nobody(free: usize) -> Token
     }
 }
 
-// Writes into a slot that is there.
+// Writes into a slot that is there; else nothing changes.
 #[inline(always)]
 fn put(slots: &mut Vec<Token>, slot: usize, token: Token)
     ensures items { slots.new.items ≡ slice_set slots.old.items slot token }
@@ -81,7 +82,7 @@ fn put(slots: &mut Vec<Token>, slot: usize, token: Token)
     }
 }
 
-// Takes the slot that became free last, if it is free. None where there is none.
+// Takes the slot that became free last from the list of free ones, and gives it.
 #[inline(always)]
 fn free_slot(slots: &Vec<Token>, free: &mut usize) -> Option<usize>
     ensures { IfSome result (λ slot. (free : Its) × (slice_get slots.now.items slot ≡ Some free) × (free.serial ≡ 0)) }
@@ -92,6 +93,7 @@ fn free_slot(slots: &Vec<Token>, free: &mut usize) -> Option<usize>
             *free = token.step;
             Some(slot)
         }
+        // There is no free slot (`NO_SLOT`), or the list is wrong; nothing changes.
         _ => None,
     }
 }
@@ -129,7 +131,7 @@ fn wake(slots: &Vec<Token>, parking: &mut Parking, cell: u64)
     }
 }
 
-// Notes a token with each of these cells.
+// Notes a token with each of these cells. The error is refused memory: then some of the notes may be there.
 fn note_all(
     parking: &mut Parking,
     slot: usize,
@@ -200,7 +202,7 @@ impl Tokens {
         self.slots[slot]
     }
 
-    /// The token with this serial, which isn't 0, if it is in this slot.
+    /// The token with this serial, which isn't 0, if it is in this slot; None if it isn't there any more.
     #[inline(always)]
     pub fn get(&self, slot: usize, serial: u64) -> Option<Token>
         requires { 1 ≤ serial }
@@ -213,7 +215,7 @@ impl Tokens {
         }
     }
 
-    /// The token in this slot, if there is one.
+    /// The token in this slot; None if the slot is free or isn't there.
     #[inline(always)]
     pub fn held(&self, slot: usize) -> Option<Token>
         ensures held { IfSome result (λ t. IsHeld self.now.items slot t) }
@@ -261,7 +263,7 @@ impl Tokens {
         }
     }
 
-    /// Replaces the token in this slot, which has to hold one, by another one, of this group. The new token isn't known to wait.
+    /// Replaces the token in this slot, which has to hold one, by another one, which is in this group. The new token isn't known to wait.
     #[inline(always)]
     pub fn replace(&mut self, slot: usize, token: Token, group: u32)
         requires held { (t : Its) × IsHeld self.old.items slot t }
@@ -301,6 +303,7 @@ impl Tokens {
     pub fn all_wait(&self) -> bool
         ensures { result ≡ true → (k : ℕ) (t : Its) → IsHeld self.now.items k t → is_set self.now.parked.flags k ≡ true }
     {
+        // Only slots with a token have a set flag: if there are as many flags as tokens, each token has one.
         self.parking.len() == self.count
     }
 
@@ -311,6 +314,7 @@ impl Tokens {
         ensures items { self.new.items ≡ self.old.items }
         ensures parked { StayWith slot serial cells.now.items self.old self.new }
     {
+        // The flag is set last, when all notes stand: a token whose flag is set must be noted with each cell that can end its wait.
         self.parking.reach(slot)?;
         note_all(&mut self.parking, slot, serial, cells)?;
         self.parking.set(slot);
