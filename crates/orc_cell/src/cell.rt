@@ -11,6 +11,7 @@ use std::sync::Arc;
 /// A cell that many threads may name. It is bound to a value at most once.
 #[derive(Drop)]
 pub struct Cell<T: Drop> {
+    // The kit's cell, which all names of this one share.
     shared: Arc<OnceBox<T>, Global>,
 }
 
@@ -37,14 +38,15 @@ impl<T: Drop> Cell<T> {
         Note { sight }
     }
 
-    /// Binds the cell, if no other call has bound it; else it gives the box back. It takes no memory.
+    /// Binds the cell, if no other call has bound it; else it gives the box back, and the cell stays as it is. It takes no memory.
     pub fn bind(&self, value: Box<T>) -> Result<(), Box<T>>
         ensures { MatchResult result (λ _. ⊤) (λ back. back.value ≡ value.value) }
     {
         self.shared.set(value)
     }
 
-    /// Binds the cell, if no other call has bound it; else it gives the box back. Either way the note has then read the cell's value. A note that
+    /// Binds the cell, if no other call has bound it; else it gives the box back. Either way the note, which has to be of this cell, has then read
+    /// the cell's value. A note that
     /// had read a value before always gets its box back, since the cell was bound by then. It takes no memory.
     pub fn bind_and_note(&self, value: Box<T>, note: &mut Note<T>) -> Result<(), Box<T>>
         requires { subject note.old ≡ identity self.now }
@@ -55,7 +57,7 @@ impl<T: Drop> Cell<T> {
         self.shared.set_as(value, &mut note.sight)
     }
 
-    /// What the cell is bound to; None where it is not bound yet.
+    /// What the cell is bound to; None where it is not bound yet. The note, which has to be of this cell, has then read the value, too.
     pub fn read<'a>(&'a self, note: &mut Note<T>) -> Option<&'a T>
         requires { subject note.old ≡ identity self.now }
         ensures subject { subject note.new ≡ subject note.old }

@@ -6,7 +6,7 @@ ghost use Rattle.orc_cell.specs.Words.{subject, known};
 
 use once_cell::race::Note as Sight;
 
-/// What one reader knows of one cell.
+/// What one reader knows of one cell: that it has read nothing, or which value it has read.
 #[derive(Drop)]
 pub struct Note<T: Drop> {
     pub(crate) sight: Sight<T>,

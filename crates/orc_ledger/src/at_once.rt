@@ -29,7 +29,7 @@ use orc_rules::entry::Entry;
 use orc_rules::value::{Answer, Args, Found};
 use orc_tables::{Call, Standing, Token};
 
-// The answer that the table gives with delay 0; None if it gives it later or never.
+// The answer that the table gives with delay 0, in the same unit of time as the call; None if it gives one later or never.
 fn answer_at_once(found: Found) -> Option<Answer>
     ensures { IfSome result (λ answer. found ≡ After answer 0) }
 {
@@ -39,7 +39,8 @@ fn answer_at_once(found: Found) -> Option<Answer>
     }
 }
 
-// Writes a call, which is counted, and its answer. Where memory is refused nothing changes.
+// Writes a call and its answer, and counts the call. `token` is the caller's mark, `call` the call's number, `answer` the entry of the return. Where
+// memory is refused nothing changes.
 #[inline(always)]
 fn write_answered<P: Run>(
     journal: &mut Log<P>,
@@ -131,7 +132,7 @@ impl<P: Run> Ledger<P> {
         Ok(None)
     }
 
-    /// Makes the call at which this token is, of this site with these arguments, as `call_through` does.
+    /// Makes the call at which this token is, of this site with these arguments, as `call_through` does: it is answered at once, or pends.
     #[inline(always)]
     pub(crate) fn answer_through(
         &mut self,
@@ -150,6 +151,7 @@ impl<P: Run> Ledger<P> {
     {
         self.within(0, 0, 0)?;
         let call = self.next_call(inputs, token, site, args);
+        // An answer at once takes two entries, the call's and its own. If the limit has room for one alone, the call pends.
         let answer = match answer_at_once(call.found) {
             Some(answer) if self.limit - self.entries >= 2 => answer,
             _ => {
@@ -165,6 +167,7 @@ impl<P: Run> Ledger<P> {
         }
         let group = self.steps.group_at(token.step);
         match answer {
+            // The slot is used again and the group keeps its size, so nothing more is reserved.
             Answer::Value(value) => {
                 let mark = self.next_mark;
                 write_answered(

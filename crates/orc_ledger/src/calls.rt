@@ -49,7 +49,7 @@ impl<P: Run> Ledger<P> {
         }
     }
 
-    // A call is answered with a value. The error is refused memory.
+    // A call is answered with a value. Gives the slot of the token on it. The error is refused memory, and then nothing changes.
     fn give(&mut self, call: Call, value: Value) -> Result<usize, LedgerFault>
         requires pends { IsIn call self.old.calls }
         requires due { DueNow call.made_at call.found (Gives value) self.old.now }
@@ -58,6 +58,8 @@ impl<P: Run> Ledger<P> {
         ensures others { OnOk result (KeepsAll self.old.slots self.new.slots) }
         ensures refused { OnErr result (self.new ≡ self.old) }
     {
+        // `within` isn't asked: tokens and calls are limited together, and the token comes for the call. For the same reason no group changes its
+        // size.
         self.tokens.reserve()?;
         let mark = self.next_mark;
         write(&mut self.journal, &Entry::Return(call.number, mark, value))?;
@@ -76,7 +78,7 @@ impl<P: Run> Ledger<P> {
         Ok(slot)
     }
 
-    // A call halts. The error is refused memory.
+    // A call halts. The error is refused memory, and then nothing changes.
     fn give_up(&mut self, call: Call) -> Result<(), LedgerFault>
         requires pends { IsIn call self.old.calls }
         requires due { DueNow call.made_at call.found Halt self.old.now }

@@ -31,11 +31,12 @@ fn reserve_scopes(scopes: &mut Vec<StoredScope>, count: usize) -> Result<(), Led
     }
 }
 
-// Adds scopes where there is room.
+// Adds scopes where there is room, in their order.
 fn extend_within(scopes: &mut Vec<StoredScope>, more: &[StoredScope])
     requires { vec_len scopes.old + length more.now ≤ vec_capacity scopes.old }
     ensures { scopes.new.items ≡ scopes.old.items ++ more.now }
 {
+    // A definition without parameters adds none.
     if more.is_empty() {
         return;
     }
@@ -71,12 +72,14 @@ impl<P: Run> Ledger<P> {
         ensures why { IfErr result (λ fault. IsRefused self.old 0 0 0 fault) }
     {
         self.within(0, 0, 0)?;
+        // There is no such definition.
         let Some(body) = inputs.graph.body(definition as usize) else {
             return Ok(false);
         };
         let params = inputs.graph.params(definition as usize);
         let operands = inputs.graph.operands(list as usize);
         let fitted = parameter_scopes(&self.scopes, &self.cells, params, operands, scope, added)?;
+        // Not as many operands as parameters, or one that isn't bound.
         let Some(newest) = fitted else {
             return Ok(false);
         };

@@ -16,7 +16,7 @@ use orc_log::Run;
 use orc_tables::{Call, Group, Side, Token};
 
 impl<P: Run> Ledger<P> {
-    /// The open group with this number.
+    /// The open group with this number; None if no open group has it (the program's own, 0, isn't one).
     pub fn group_with(&self, number: u32) -> Option<Group>
         ensures { MatchOption result ((g : Its) → IsIn g self.now.groups → g.number ≡ number → ⊥) (λ g. IsIn g self.now.groups × (g.number ≡ number)) }
     {
@@ -30,7 +30,7 @@ impl<P: Run> Ledger<P> {
         self.steps.group_at(group.outer)
     }
 
-    // Whether the otherwise with this number has published. Its left side is this group.
+    // Whether the otherwise with this number, whose left side is this group, has published: its right side never runs then.
     fn was_left(&self, group: u32, number: u64) -> bool
         ensures { result ≡ has_left self.now.steps number }
     {
@@ -76,14 +76,14 @@ impl<P: Run> Ledger<P> {
         }
     }
 
-    /// The group in which a call pends.
+    /// The number of the group in which a call pends; 0 is the program's own.
     pub fn group_of_call(&self, call: &Call) -> u32
         ensures { result ≡ group_at self.now.steps call.now.step }
     {
         self.steps.group_at(call.step)
     }
 
-    /// The group in which a token stands.
+    /// The number of the group in which a token stands; 0 is the program's own.
     pub fn group_of_token(&self, token: &Token) -> u32
         ensures { result ≡ group_at self.now.steps token.now.step }
     {

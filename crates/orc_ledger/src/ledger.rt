@@ -34,12 +34,13 @@ use std::marker::{Model, PhantomData};
 pub struct Ledger<P: Run> {
     // The most entries that the journal is to have, cancels not counted.
     pub(crate) limit: usize,
+    // Its entries, held or only counted.
     pub(crate) journal: Log<P>,
-    // How many it has, cancels not counted: at most `limit`.
+    // How many entries the journal has, cancels not counted: at most `limit`.
     pub(crate) entries: usize,
-    // The number of the next mark. Marks can't overflow: an entry adds two at most, and `MOST_ENTRIES` is small.
+    // The next mark, from 2: mark 1 is the first token's. Marks can't overflow: an entry adds two at most, and `MOST_ENTRIES` is small.
     pub(crate) next_mark: u64,
-    // In logical units, from 0.
+    // The time, in logical units, from 0.
     pub(crate) time: u64,
     pub(crate) tokens: Tokens,
     pub(crate) calls: Pending,
@@ -112,8 +113,8 @@ pub(crate) fn write<P: Run>(journal: &mut Log<P>, entry: &Entry) -> Result<(), L
     }
 }
 
-// Writes an entry that publishes nothing, then asks the claim, and removes the entry if the claim is lost. Memory if memory is refused, Unclaimed if
-// the claim is lost; the journal is then as it was.
+// Writes an entry that publishes nothing (`truncate` removes no other), then asks the claim, and removes the entry if the claim is lost. Memory if
+// memory is refused, Unclaimed if the claim is lost; the journal is then as it was.
 #[inline(always)]
 pub(crate) fn write_claimed<P: Run, C: Claim>(
     journal: &mut Log<P>,
@@ -293,20 +294,21 @@ impl<P: Run> Ledger<P> {
         self.tokens.len()
     }
 
-    /// The token with this serial, which isn't 0, if it is in this slot.
+    /// The token with this serial, which isn't 0, if it is in this slot; None if it isn't there any more.
     #[inline(always)]
     pub fn token(&self, slot: usize, serial: u64) -> Option<Token>
         requires { 1 ≤ serial }
         ensures held { IfSome result (λ t. IsHeld self.now.slots slot t × (t.serial ≡ serial) × IsIn t self.now.tokens) }
         ensures gone { IfNone result ((t : Its) → IsHeld self.now.slots slot t → t.serial ≡ serial → ⊥) }
     {
+        // The match gives what it gets: it only splits the proof into two cases. So in `held`.
         match self.tokens.get(slot, serial) {
             Some(token) => Some(token),
             None => None,
         }
     }
 
-    /// The token in this slot, if there is one.
+    /// The token in this slot; None if the slot is free or isn't there.
     #[inline(always)]
     pub fn held(&self, slot: usize) -> Option<Token>
         ensures held { IfSome result (λ t. IsHeld self.now.slots slot t × IsIn t self.now.tokens) }
@@ -334,8 +336,8 @@ impl<P: Run> Ledger<P> {
         self.journal.len()
     }
 
-    /// Whether the limits allow one more entry, with this many more `tokens` and `groups` (0 or 1 each) and a token inside `depth` left sides of a
-    /// `>x>` (0 where none is entered). Full where there would be more than `MOST_TOKENS`, `MOST_GROUPS` or `MOST_FRAMES`, else Limit where the
+    /// Asks whether the limits allow one more entry, with this many more `tokens` and `groups` (0 or 1 each) and a token inside `depth` left sides of
+    /// a `>x>` (0 where none is entered). Full where there would be more than `MOST_TOKENS`, `MOST_GROUPS` or `MOST_FRAMES`, else Limit where the
     /// journal has as many entries as its limit.
     #[inline(always)]
     pub fn within(&self, tokens: usize, groups: usize, depth: u32) -> Result<(), LedgerFault>

@@ -1,8 +1,8 @@
 //! The entries of a token that stands at a node: an end, a void token, a fork, the left side of a `>x>` and of an otherwise, a pruning.
 //!
 //! Each function first asks the limits (`within`: Full or Limit) and reserves memory (Memory), and then writes its entry: once that is written,
-//! nothing refuses it any more. So what is refused has changed nothing. Each takes the token that is in the slot, and the scope and the nodes of its
-//! term.
+//! nothing refuses it any more. So what is refused has changed nothing. Each takes the token that is in the slot, and the scope of its term; `left`
+//! and `right` are the nodes of the term's two sides, and `name` is the number of its variable.
 //!
 //! Of the clauses `held` says that the token is in the slot, `at` or `form` what it is on, `done` what becomes of the records, `others` which tokens
 //! stay in their slots, `refused` that a refused call changes nothing, and `why` its cause.
@@ -96,6 +96,7 @@ impl<P: Run> Ledger<P> {
         )?;
         self.entries += 1;
         self.next_mark = mark + 2;
+        // One token of the group becomes two.
         self.groups.join(group);
         self.tokens.replace(
             slot,
@@ -205,6 +206,7 @@ impl<P: Run> Ledger<P> {
             step,
             parent,
         );
+        // Its first member is the token on the left side.
         self.groups.join(number);
         self.steps.push(Step {
             entered: Frame::OtherwiseLeft(token.serial),
@@ -248,6 +250,7 @@ impl<P: Run> Ledger<P> {
         ensures why { IfErr result (λ fault. IsBarred (claim.new ≡ claim.old) (C.lost claim.old claim.new) (IsRefused self.old 1 1 0) fault) }
     {
         self.within(1, 1, 0)?;
+        // A scope keeps the number of the one that it extends in 32 bits. A longer number counts as refused memory.
         let outer = outer_number(scope)?;
         self.tokens.reserve()?;
         reserve(&mut self.scopes)?;
@@ -256,6 +259,7 @@ impl<P: Run> Ledger<P> {
         self.groups.reserve()?;
         let parent = self.steps.group_at(token.step);
         let mark = self.next_mark;
+        // The number of the new cell: they count from 1, since item 0 of `cells` is no cell.
         let cell = self.cells.len() as u64;
         write_claimed(
             &mut self.journal,
@@ -264,12 +268,13 @@ impl<P: Run> Ledger<P> {
         )?;
         self.entries += 1;
         self.next_mark = mark + 2;
+        // The numbers of the scope and of the step that are added below.
         let inner = self.scopes.len() + 1;
         let step = self.steps.len() + 1;
         let number = self
             .groups
             .open(Side::Right(cell), token.step, step, parent);
-        // The parent keeps one token, on the left side, and gets the group.
+        // The parent keeps one token, on the left side, and gets the group, whose first member is the token on the right side.
         self.groups.join(parent);
         self.groups.join(number);
         push_within(

@@ -1,5 +1,5 @@
 //! Moves of tokens: a token takes its action. Each `move_..` makes the entry that one kind of node, or of taker, asks for, and says as [`Moved`]
-//! what has become of the token.
+//! what has become of the token. A fault is that of the entry, and then nothing has changed.
 //!
 //! Of the clauses `held` says that the token is in the slot, `at` or `form` what it is on, `done` what becomes of the records, `others` which tokens
 //! stay in their slots, `refused` that a refused call changes nothing, and `why` its cause. `asked` says that a claim was got if the move needs one:
@@ -48,7 +48,7 @@ impl<P: Run> Ledger<P> {
         self.steps.group_at(step)
     }
 
-    /// What takes a value that the token publishes: a `>x>`, a cell, or nothing.
+    /// What takes a value that the token publishes: a `>x>`, a cell, or nothing, and then the program publishes it.
     #[inline(always)]
     pub fn taker_of(&self, token: Token) -> Taker
         requires { (slot : ℕ) × IsHeld self.now.slots slot token }
@@ -67,7 +67,7 @@ impl<P: Run> Ledger<P> {
         meaning(&self.scopes, &self.cells, operand, scope)
     }
 
-    // Whether each operand of a call has a value.
+    // Whether each operand of a call has a value. The contract promises it of `true` alone.
     #[inline(always)]
     pub(crate) fn have_values(&self, operands: &[Operand], scope: usize) -> bool
         ensures { result ≡ true → scan false Nothing (closed (its_env (code P.listing) self.now scope) operands.now) ≡ Action.Call }
@@ -75,7 +75,7 @@ impl<P: Run> Ledger<P> {
         are_values(&self.scopes, &self.cells, operands, scope)
     }
 
-    // Puts the values of a call's operands into `args`, and says whether each operand has one.
+    // Writes the values of a call's operands over `args`, and says whether each operand has one. If not, `args` has some of them.
     #[inline(always)]
     pub(crate) fn take_values(&self, operands: &[Operand], scope: usize, args: &mut Args) -> bool
         requires few { length operands.now ≤ MOST_ARGUMENTS }
@@ -92,6 +92,7 @@ impl<P: Run> Ledger<P> {
         site_call_action(&self.scopes, &self.cells, operands, scope, false, None)
     }
 
+    // `stop`: the token goes.
     #[inline(always)]
     fn move_end(&mut self, slot: usize, token: Token) -> Result<Moved, LedgerFault>
         requires held { IsHeld self.old.slots slot token }
@@ -106,6 +107,7 @@ impl<P: Run> Ledger<P> {
         Ok(Moved::Gone(group))
     }
 
+    // A void variable, or a call of a site with a void argument: the token goes.
     fn move_void(&mut self, slot: usize, token: Token) -> Result<Moved, LedgerFault>
         requires held { IsHeld self.old.slots slot token }
         requires void { IsVoid (standing (code P.listing) (its_env (code P.listing) self.old) token.standing) }
@@ -119,6 +121,7 @@ impl<P: Run> Ledger<P> {
         Ok(Moved::Gone(group))
     }
 
+    // `f | g`, whose sides are the nodes `left` and `right`.
     #[inline(always)]
     fn move_fork(
         &mut self,
@@ -139,6 +142,7 @@ impl<P: Run> Ledger<P> {
         Ok(Moved::Forked(right_slot))
     }
 
+    // `f >x> g`: `left` is the node of f, `name` the number of x, `right` the node of g.
     fn move_feed(
         &mut self,
         slot: usize,
@@ -159,6 +163,7 @@ impl<P: Run> Ledger<P> {
         Ok(Moved::On)
     }
 
+    // `f ; g`, whose sides are the nodes `left` and `right`. It asks the claim, since it opens a side.
     fn move_other<C: Claim>(
         &mut self,
         slot: usize,
@@ -180,6 +185,7 @@ impl<P: Run> Ledger<P> {
         Ok(Moved::On)
     }
 
+    // `f <x< g`: `left` is the node of f, `name` the number of x, `right` the node of g. It asks the claim, since it opens a side.
     fn move_prune<C: Claim>(
         &mut self,
         slot: usize,
@@ -202,6 +208,7 @@ impl<P: Run> Ledger<P> {
         Ok(Moved::Forked(right_slot))
     }
 
+    // A call of a definition, with the operands of list `list`. It waits where it can't be made; no checked program has such a call.
     #[inline(always)]
     fn move_def(
         &mut self,
@@ -233,6 +240,7 @@ impl<P: Run> Ledger<P> {
         }
     }
 
+    // Nothing around the token takes its value: the program publishes it.
     #[inline(always)]
     fn move_publish(
         &mut self,
@@ -253,6 +261,7 @@ impl<P: Run> Ledger<P> {
         Ok(Moved::Gone(group))
     }
 
+    // A `>x>` takes the token's value: `name` is the number of x, `right` the node of its right side, `scope` its scope, `outer` the step around it.
     #[inline(always)]
     fn move_send(
         &mut self,
@@ -279,6 +288,7 @@ impl<P: Run> Ledger<P> {
         Ok(Moved::Sent(group))
     }
 
+    // The right side of this cell publishes the token's value; `outer` is the step around the pruning. It asks the claim.
     fn move_bind<C: Claim>(
         &mut self,
         slot: usize,
@@ -304,7 +314,7 @@ impl<P: Run> Ledger<P> {
         Ok(Moved::Bound(cell, group))
     }
 
-    // A token on a value publishes it.
+    // A token whose term is this value publishes it to what takes it: the program, a `>x>` or a cell.
     #[inline(always)]
     pub(crate) fn move_value<C: Claim>(
         &mut self,
@@ -333,7 +343,7 @@ impl<P: Run> Ledger<P> {
         }
     }
 
-    // A variable: what stands for it is published, awaited or void.
+    // A variable, by what stands for it: a value is published, an unbound cell awaited, and with void the token goes.
     fn move_name<C: Claim>(
         &mut self,
         slot: usize,
@@ -355,6 +365,7 @@ impl<P: Run> Ledger<P> {
             Some(Bound::Is(value)) => self.move_value(slot, token, value, claim, cancelled),
             Some(Bound::Void) => self.move_void(slot, token),
             Some(Bound::Cell(_)) => Ok(Moved::Waits),
+            // A name that isn't bound; no checked program has one.
             None => Ok(Moved::Waits),
         }
     }
@@ -382,13 +393,16 @@ impl<P: Run> Ledger<P> {
             return Ok(Moved::Calls);
         }
         match self.scan(operands, scope) {
+            // It doesn't happen, but `have_values` promises nothing of `false`.
             Action::Call => Ok(Moved::Calls),
             Action::Void => self.move_void(slot, token),
+            // `scan` gives no action but these two and `Wait`.
             _ => Ok(Moved::Waits),
         }
     }
 
-    // Moves a token by the node at which it is.
+    // Moves a token by the node at which it is, which is `node`, in this scope. `added` is used by a call of a definition alone, `cancelled` by a
+    // bind, and `claim` where a bind is made or a side opened.
     #[inline(always)]
     pub(crate) fn move_at<C: Claim>(
         &mut self,
@@ -428,7 +442,8 @@ impl<P: Run> Ledger<P> {
 
     /// Moves this token by its action, as `what` gives it: the kind of entry follows from the token's node and from what takes its value. A call of
     /// a site is not made, and a token that waits stays as it is. If a cell is bound or a side opened, the claim is asked last. Any other move
-    /// leaves the claim untouched, and so does a refusal before it is asked. `added` and `cancelled` are lent: if a cell is bound, `cancelled` then
+    /// leaves the claim untouched, and so does a refusal before it is asked. Full, Limit or Memory if the entry is refused, Unclaimed if the claim is
+    /// lost; the records are as before then. `added` and `cancelled` are lent: what they held may be lost, and if a cell is bound, `cancelled` then
     /// holds the numbers of the calls that are cancelled, in rising order.
     pub fn advance_by<C: Claim>(
         &mut self,

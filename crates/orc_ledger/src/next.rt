@@ -19,7 +19,7 @@ use orc_log::Run;
 use orc_tables::Token;
 
 impl<P: Run> Ledger<P> {
-    // Whether a slot holds a token that doesn't wait.
+    // Whether a slot, of which this is the content, holds a token that doesn't wait. In a free slot the serial is 0.
     fn can_move(&self, inputs: &Inputs<'_, P>, slot: &Token) -> bool
         ensures held { result ≡ true → 1 ≤ slot.now.serial }
         ensures moves { result ≡ true → is_wait (what_of (code P.listing) (definitions P.listing) self.now slot.now) ≡ false }
@@ -79,6 +79,7 @@ impl<P: Run> Ledger<P> {
     pub fn empty_group(&self) -> Option<u32>
         ensures { MatchOption result (empty_groups (numbers_of self.now) self.now ≡ 0) (λ number. (members (numbers_of self.now) self.now number ≡ 0) × ((g : Its) × IsGroup self.now number g)) }
     {
+        // The table counts these groups, so that the search is made only where it finds one.
         if self.groups.empty() == 0 {
             return None;
         }
@@ -98,7 +99,7 @@ impl<P: Run> Ledger<P> {
         self.is_empty(0) || self.empty_group().is_some()
     }
 
-    // What comes next, as an equation. `next` also promises that the rules agree.
+    // What comes next, which its contract says as an equation. `next` also promises that the rules agree.
     fn find_next(&mut self, inputs: &Inputs<'_, P>) -> Next
         ensures is { spoken result ≡ next_of (code P.listing) (definitions P.listing) (numbers_of self.old) self.old }
         ensures same { self.new ≡ self.old }
@@ -112,6 +113,7 @@ impl<P: Run> Ledger<P> {
                 if self.time < time {
                     Next::Ticks(time)
                 } else {
+                    // A call is due now.
                     Next::Work
                 }
             }

@@ -25,7 +25,7 @@ use orc_tables::{Standing, Token};
 
 impl<P: Run> Ledger<P> {
     // Sends the value on which a token stands to the `>x>` that takes it. False, and nothing changes, where something else takes it or the entry is
-    // refused.
+    // refused: whoever moves the token next makes that move, or meets the refusal again and reports it.
     #[inline(always)]
     fn send_on(&mut self, slot: usize, token: Token, value: Value) -> bool
         requires held { IsHeld self.old.slots slot token }
@@ -46,7 +46,8 @@ impl<P: Run> Ledger<P> {
         }
     }
 
-    // A token at a call of a site makes it, if the operands are values, and goes on with the answer. `On` where nothing has changed.
+    // A token at a call of a site, with the operands of list `list`, makes it if the operands have values, and goes on with an answer that comes at
+    // once. `On` where nothing has changed: an operand has no value, or the call is refused.
     #[inline(always)]
     fn call_on(
         &mut self,
@@ -88,7 +89,7 @@ impl<P: Run> Ledger<P> {
         Passed::On
     }
 
-    // Removes the last step, at which no token, call or group is left. So a loop doesn't add a step in each round.
+    // Removes the last step, at which no token, call or group is left. So a program that repeats itself doesn't add a step in each round.
     #[inline(always)]
     fn shed(&mut self)
         requires { IsVacant self.old }
@@ -121,6 +122,7 @@ impl<P: Run> Ledger<P> {
     {
         let mark = self.next_mark;
         self.feed(slot, token, scope, left, name, right)?;
+        // Anything but a call of a site is left to the token's next move.
         let Node::Site(site, list) = inputs.graph.node(left as usize) else {
             return Ok(Passed::On);
         };
@@ -139,6 +141,7 @@ impl<P: Run> Ledger<P> {
                 self.shed();
                 Ok(Passed::Halted(group))
             }
+            // `On`, `Pends` or `Answered`: a token or a call is still in the left side, so the step stays.
             inside => Ok(inside),
         }
     }

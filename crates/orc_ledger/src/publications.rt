@@ -33,7 +33,8 @@ use orc_rules::value::Value;
 use orc_tables::{Standing, Token};
 
 impl<P: Run> Ledger<P> {
-    /// A publication of the program: nothing around the token takes the value. The token ends, and the otherwises around it have published.
+    /// A publication of the program: nothing around the token takes the value. The token ends, and the otherwises around it have published: their
+    /// right sides never run. Full, Limit or Memory where the entry is refused; nothing has changed then.
     #[inline(always)]
     pub fn publish(&mut self, slot: usize, token: Token, value: Value) -> Result<(), LedgerFault>
         requires held { IsHeld self.old.slots slot token }
@@ -56,7 +57,7 @@ impl<P: Run> Ledger<P> {
 
     /// A `>x>` takes the value that the token publishes: a token on a copy of its right side takes the slot, and the otherwises between have
     /// published. `name`, `right` and `scope` are the name, the right side's node and the scope of that `>x>`, `outer` is the step around it
-    /// ([`Taker::SeqLeft`]).
+    /// ([`Taker::SeqLeft`]). Full, Limit or Memory where the entry is refused; nothing has changed then.
     #[inline(always)]
     pub fn send(
         &mut self,
@@ -80,8 +81,10 @@ impl<P: Run> Ledger<P> {
         ensures why { IfErr result (λ fault. IsRefused self.old 0 0 0 fault) }
     {
         self.within(0, 0, 0)?;
+        // The new scope extends that of the `>x>`, whose number it keeps in 32 bits. A longer number counts as refused memory.
         let extended = outer_number(scope)?;
         reserve(&mut self.scopes)?;
+        // The groups that the token leaves and joins.
         let left = self.steps.group_at(token.step);
         let joined = self.steps.group_at(outer);
         let mark = self.next_mark;

@@ -29,7 +29,7 @@ use orc_rules::entry::Entry;
 use orc_rules::value::Args;
 use orc_tables::{Call, Standing, Token};
 
-// Writes a call and counts it. Where memory is refused nothing changes.
+// Writes a call and counts it. `token` is the caller's mark, `call` the call's number. Where memory is refused nothing changes.
 fn write_call<P: Run>(
     journal: &mut Log<P>,
     counts: &mut Counts,
@@ -59,7 +59,8 @@ fn write_call<P: Run>(
 }
 
 impl<P: Run> Ledger<P> {
-    // The site that a token calls. Its arguments are put into `args`. The token's action is a call, so no `unreachable!` is met.
+    // The number of the site that a token calls. The arguments are written over `args`. The token's action is `Call`, as the clause asks: so it is at
+    // a node, that node is a call of a site, and all operands have values. No `unreachable!` is met.
     #[inline(always)]
     pub(crate) fn ask(&self, inputs: &Inputs<'_, P>, token: Token, args: &mut Args) -> u32
         requires calls { what_of (code P.listing) (definitions P.listing) self.now token ≡ Action.Call }
@@ -99,7 +100,8 @@ impl<P: Run> Ledger<P> {
         }
     }
 
-    // Makes this call, the token's next one: it pends in the token's place, and the slot is free. If memory is refused, nothing changes.
+    // Makes this call, which `next_call` gave: it pends in the token's place, and the slot is free. The limits were asked before. The only fault is
+    // `Memory`, and then nothing changes.
     pub(crate) fn pend(
         &mut self,
         inputs: &Inputs<'_, P>,
@@ -132,6 +134,7 @@ impl<P: Run> Ledger<P> {
             args,
         )?;
         self.entries += 1;
+        // The call is a member of the token's group in its place: no group changes its size.
         self.tokens.remove(slot);
         let group = self.steps.group_at(call.step);
         self.calls.add(call, group);
@@ -171,6 +174,7 @@ impl<P: Run> Ledger<P> {
         let Some(call) = self.calls.get(number) else {
             return None;
         };
+        // A run that doesn't keep its journal has no entry to read.
         let Some(entry) = self.journal.get(call.row) else {
             return None;
         };
@@ -186,7 +190,7 @@ impl<P: Run> Ledger<P> {
         })
     }
 
-    /// The record of the call that pends with this number, if one does.
+    /// The record of the call that pends with this number; None if none does.
     pub fn pending(&self, number: u64) -> Option<Call>
         ensures { MatchOption result (weight (has_number number) self.now.calls ≡ 0) (Pends self.now number) }
     {

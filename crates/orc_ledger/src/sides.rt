@@ -39,7 +39,7 @@ use orc_tables::{
     take_out,
 };
 
-// Writes what a cell has become.
+// Writes what a cell has become: a value, or void if it is lost. If there is no such cell, nothing changes.
 fn settle(cells: &mut Vec<Bound>, cell: u64, bound: Bound)
     ensures { cells.new.items ≡ slice_set cells.old.items cell bound }
 {
@@ -48,8 +48,8 @@ fn settle(cells: &mut Vec<Bound>, cell: u64, bound: Bound)
     }
 }
 
-// Writes a bind and the cancels of these calls, then asks the claim, and removes these entries if the claim is lost. Memory if memory is refused,
-// Unclaimed if the claim is lost; the journal is then as it was.
+// Writes a bind and, behind it, the cancels of these calls, then asks the claim, and removes these entries if the claim is lost. Memory if memory is
+// refused, Unclaimed if the claim is lost; the journal is then as it was.
 fn write_bind<P: Run, C: Claim>(
     journal: &mut Log<P>,
     token: u64,
@@ -84,7 +84,8 @@ impl<P: Run> Ledger<P> {
     }
 
     /// Binds a cell to the value that the token publishes in its right side: all that is inside that side goes, and the calls that pended there are
-    /// cancelled. `cancelled` has their numbers then, in rising order; what it held is lost. The claim is asked last; Unclaimed where it is lost.
+    /// cancelled. `cancelled` has their numbers then, in rising order; what it held is lost. The claim is asked last. Full, Limit or Memory if the
+    /// entries are refused, Unclaimed if the claim is lost; no record has changed then.
     pub fn bind<C: Claim>(
         &mut self,
         slot: usize,
@@ -127,6 +128,7 @@ impl<P: Run> Ledger<P> {
             claim,
         )?;
         self.entries += 1;
+        // What is inside goes, the token itself and the side's own group too. Nothing of this asks for memory.
         leave_tokens(
             &mut self.tokens,
             &mut self.groups,
@@ -155,7 +157,7 @@ impl<P: Run> Ledger<P> {
         Ok(())
     }
     /// The right side of a cell has halted without a publication: its group has no members. The group goes and the cell becomes void; no other record
-    /// goes.
+    /// goes. Full, Limit or Memory if the entry is refused; nothing has changed then.
     pub fn lost(&mut self, group: Group, cell: u64) -> Result<(), LedgerFault>
         requires there { IsIn group self.old.groups }
         requires side { group.side ≡ Right cell }
@@ -187,7 +189,8 @@ impl<P: Run> Ledger<P> {
         take_out(&mut self.groups, &self.steps, group);
     }
     /// The left side of an otherwise has halted without a publication: its group has no members. The group goes, and a token starts the right side,
-    /// at this `node` and `scope`. Gives the token's slot.
+    /// at this `node` and `scope`. `number` is the otherwise's. Gives the token's slot. Full, Limit or Memory if the entry is refused; nothing has
+    /// changed then.
     pub fn right(
         &mut self,
         group: Group,

@@ -58,12 +58,13 @@ pub struct SubRun<P: Run> {
     definition: u32,
     args: Args,
     journal: Log<P>,
-    // Whether it is known to have published nothing.
+    // Whether its run is known to have published nothing.
     is_silent: bool,
+    // By its own numbers: its next mark, how many calls of sites it has made, how many cells it has opened.
     next_mark: u64,
     calls: u64,
     cells: usize,
-    // The value on which a token is left, if one is.
+    // The value on which a token is left, with the token's mark, if one is left.
     left: Option<Yield>,
     program: PhantomData<P>,
 }
@@ -99,7 +100,7 @@ impl<P: Run> Drop for SubRun<P> {
 }
 
 impl<P: Run> SubRun<P> {
-    /// How many entries it has.
+    /// How many entries it has. None is a cancel.
     pub fn len(&self) -> usize
         ensures { result ≡ length self.now.entries }
     {
@@ -139,7 +140,7 @@ fn are_same(values: &[Value], others: &[Value]) -> bool
     }
 }
 
-// Makes room for `count` more cells.
+// Makes room for `count` more cells. The only fault is `Memory`. The cells stay either way.
 fn reserve_cells(cells: &mut Vec<Bound>, count: usize) -> Result<(), LedgerFault>
     ensures items { cells.new.items ≡ cells.old.items }
     ensures room { IfOk result (λ _. vec_len cells.new + count ≤ vec_capacity cells.new) }
@@ -180,7 +181,8 @@ fn comer_of(numbering: Numbering, token: Token, left: Option<Yield>) -> Option<T
     }
 }
 
-// Puts `comer` into the slot of the token. Without a `comer` it removes the token, from its group, too.
+// Puts `comer`, the token that a merged part leaves, into the slot of the token at the part's call; both are in `group`. Without a `comer` it removes
+// the token, from its group, too.
 fn exchange(
     tokens: &mut Tokens,
     groups: &mut Groups,
@@ -266,6 +268,7 @@ impl<P: Run> Ledger<P> {
                 mark: token.serial,
                 value,
             }),
+            // Something inside the run takes what the token publishes, or the token isn't on a value.
             _ => None,
         }
     }
@@ -279,6 +282,7 @@ impl<P: Run> Ledger<P> {
         ensures { (result.definition ≡ task.definition) × (result.args ≡ task.args) }
     {
         let next_mark = self.next_mark;
+        // Calls are numbered from 1, and item 0 of `cells` is no cell.
         let calls = self.calls.next_number() - 1;
         let cells = self.cells.len() - 1;
         let SubRunTask {
@@ -360,6 +364,8 @@ impl<P: Run> Ledger<P> {
         };
         let comer = comer_of(numbering, token, part.left);
         let group = self.steps.group_at(token.step);
+        // What can be refused comes first, and `append` changes nothing if it is: from there on nothing can fail. A token comes for a token at most,
+        // so Full isn't asked.
         reserve_cells(&mut self.cells, part.cells)?;
         self.journal
             .append(&part.journal, numbering, &mut self.calls, part.calls)?;

@@ -16,8 +16,8 @@ use orc_rules::value::{Answer, Found};
 use orc_tables::Call;
 
 impl<P: Run> Ledger<P> {
-    /// The least number over this one of a pending call that is due now. None where no such call is. No record changes: `&mut` is for the notes of
-    /// due times, of which it drops those whose calls are gone.
+    /// The least number over this one (0 for all calls) of a pending call that is due now. None where no such call is. No record changes: `&mut` is
+    /// for the notes of due times, of which it drops those whose calls are gone.
     pub fn due_beyond(&mut self, number: u64) -> Option<u64>
         ensures due { MatchOption result ((k : ℕ) → IsDueBeyond self.old.calls number self.old.now k → ⊥) (IsLeastBeyond self.old.calls number self.old.now) }
         ensures same { self.new ≡ self.old }
@@ -36,6 +36,7 @@ impl<P: Run> Ledger<P> {
         let Some(number) = self.due_beyond(0) else {
             return None;
         };
+        // `due_beyond` gives the number of a call that pends.
         let Some(call) = self.pending(number) else {
             unreachable!()
         };

@@ -18,7 +18,8 @@ use orc_rules::param::Operand;
 use orc_tables::{Standing, Token};
 
 impl<P: Run> Ledger<P> {
-    // Writes the unbound cells among operands, in a scope of the ledger, over `listed`, in their order.
+    // Writes the unbound cells among operands, in a scope of the ledger, over `listed`, in their order. The only fault is `Memory`, and what is
+    // listed is then not known.
     fn list_awaited(
         &self,
         operands: &[Operand],
@@ -53,6 +54,7 @@ impl<P: Run> Ledger<P> {
                 _ => {}
             }
         }
+        // A token on a value, or at any other node, waits for no cell.
         listed.clear();
         Ok(())
     }
@@ -74,6 +76,7 @@ impl<P: Run> Ledger<P> {
         self.awaited(inputs, &token, listed)?;
         match self.what(inputs, &token) {
             Action::Wait(_) => Ok(self.tokens.park(slot, token.serial, listed)?),
+            // It can move.
             _ => Ok(()),
         }
     }

@@ -18,20 +18,20 @@ pub enum Moved {
     Gone(u32),
     /// This cell is bound, and all inside its right side is gone. The group around the pruning has this number, and may have no member any more.
     Bound(u64, u32),
-    /// It is at a call of a site with values, which is made by another function (`call`): nothing has changed.
+    /// It is at a call of a site whose arguments have values. The caller makes the call by another function (`call`): nothing has changed.
     Calls,
-    /// It waits for a cell, or for nothing that ever comes: nothing has changed.
+    /// It waits for a cell, or for what never comes (no checked program has such a token): nothing has changed.
     Waits,
 }
 
 /// What became of a call of a site.
 #[derive(Clone, Copy)]
 pub enum Called {
-    /// It pends, with this number.
+    /// It pends, with this number, and the token that made it is gone.
     Pends(u64),
     /// It was answered at once with this value: a token on it stands in the slot of the one that made it.
     Answered(Value),
-    /// It halted at once, in this group, which may have no member any more.
+    /// It halted at once, and the token that made it is gone, out of this group, which may have no member any more.
     Halted(u32),
 }
 
@@ -46,9 +46,9 @@ pub enum Passed {
     Bound(u64, u32),
     Calls,
     Waits,
-    /// The call pends, with this number.
+    /// The call pends, with this number, and the slot is free.
     Pends(u64),
-    /// The call was answered at once: a token on the answer stands in the slot.
+    /// The call was answered at once: a token on the answer stands in the slot, still inside the left side.
     Answered,
     /// The call halted at once, in this group, which may have no member any more.
     Halted(u32),
@@ -74,8 +74,8 @@ impl Moved {
     }
 }
 
-/// What a call asks: its site, its arguments, when it was made, and which call it is of this site with these arguments, from 1; 1 where no script
-/// answers the site.
+/// What a call asks: the number of its site, its arguments, when it was made (in logical time), and which call it is of this site with these
+/// arguments, from 1; 1 where no script answers the site.
 #[derive(Drop)]
 pub struct Request {
     pub site: u32,

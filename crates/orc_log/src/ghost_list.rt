@@ -12,6 +12,7 @@ use std::marker::{Model, PhantomData, Send, Sync};
 /// A list of items that contracts can mention and that no code can read.
 #[derive(Drop)]
 pub struct GhostList<T> {
+    // Names the items' type alone.
     of: PhantomData<T>,
     pub ghost items: { List T } by { coded_list T.code },
 }
@@ -26,7 +27,7 @@ unsafe impl<T> Send for GhostList<T> {}
 
 unsafe impl<T> Sync for GhostList<T> {}
 
-/// A ghost list of these items, which the caller's proof picks.
+/// A ghost list of these items, which the caller's proof picks. Nothing runs.
 pub fn ghost_list_of<T>() -> GhostList<T>
     ghost items: { List T }
     ensures { result.items ≡ items }

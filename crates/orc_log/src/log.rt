@@ -29,6 +29,7 @@ const MOST: usize = 1 << 62;
 /// The journal of a run. Where the run keeps it, it holds all entries; else none.
 #[derive(Drop)]
 pub struct Log<P: Run> {
+    // For the list that `into_published` makes of a journal that is held.
     alloc: Global,
     // Whether entries are held (`P.keeps`).
     keeps: bool,
@@ -39,8 +40,9 @@ pub struct Log<P: Run> {
     passed: usize,
     // The values that those publish, in order.
     published: Vec<Value>,
-    // Whether all of those are known to be local.
+    // Whether all entries that aren't held are known to be local. True while there are none.
     is_local: bool,
+    // Names the run, for contracts alone.
     program: PhantomData<P>,
 }
 
@@ -126,7 +128,7 @@ fn past_with_part<P: Run>(
     ghost_list_of::<Entry>()
 }
 
-// Whether `more` entries may still be held: at most `MOST` in all.
+// Whether `more` entries may still be held: at most `MOST` in all. Where not, callers answer as if memory were refused.
 #[inline(always)]
 fn has_room(held: &Journal, more: usize) -> bool
     ensures { result ≡ true → length held.now.entries + more ≤ 2 ^ 62 }
@@ -134,7 +136,7 @@ fn has_room(held: &Journal, more: usize) -> bool
     more <= MOST && held.len() <= MOST - more
 }
 
-// Adds `more` to a count, if it stays within `MOST`. The error leaves the count as it was.
+// Adds `more` to a count, if it stays within `MOST`. Else the error is as if memory were refused, and the count stays.
 #[inline(always)]
 fn count_more(count: &mut usize, more: usize) -> Result<(), AllocError>
     requires { count.old ≤ 2 ^ 62 }
@@ -172,12 +174,13 @@ fn add_published(values: &mut Vec<Value>, entry: &Entry) -> Result<(), AllocErro
             Ok(()) => Ok(()),
             Err(_) => Err(AllocError),
         },
+        // No other entry publishes: a `send` or a `bind` passes a value on inside the program.
         _ => Ok(()),
     }
 }
 
-// Appends a part's entries under the numbers that they have in this run, and skips the numbers of its calls of sites, of which there are `made`. If
-// memory is refused, nothing changes.
+// Appends a part's entries under the numbers that they have in this run, and has `calls` skip the numbers of the part's calls of sites, of which
+// there are `made`. If memory is refused, nothing changes.
 fn append_held(
     held: &mut Journal,
     part: &Journal,
@@ -206,7 +209,7 @@ fn append_held(
 }
 
 impl<P: Run> Log<P> {
-    /// A log without entries. Those that are added are held if the run `keeps` its journal, else only counted.
+    /// A log without entries. Those that are added are held if the run `keeps` its journal, else only counted. Its version is the one with cancels.
     pub fn new(alloc: Global, keeps: bool) -> Log<P>
         requires { keeps ≡ P.keeps }
         ensures { result ≡ record { version = Version.Two; entries = [] } }
@@ -246,6 +249,7 @@ impl<P: Run> Log<P> {
         if self.passed >= MOST {
             return Err(AllocError);
         }
+        // The only step that can fail here comes first.
         add_published(&mut self.published, entry)?;
         self.past = past_with_entry(&self.past, entry);
         self.passed += 1;
@@ -256,7 +260,8 @@ impl<P: Run> Log<P> {
         Ok(())
     }
 
-    /// Adds a `call` as `push` does, without an `Entry`: the arguments, `MOST_ARGUMENTS` at most, are copied once.
+    /// Adds a `call` as `push` does, without an `Entry`: the arguments, `MOST_ARGUMENTS` at most, are copied once. `token` is the caller's mark,
+    /// `call` the call's number.
     #[inline(always)]
     pub fn push_call(
         &mut self,
@@ -286,7 +291,8 @@ impl<P: Run> Log<P> {
         Ok(())
     }
 
-    /// Adds a `bind` and, behind it, the cancels of these calls in their order. The error is refused memory, and then nothing changes.
+    /// Adds a `bind` and, behind it, the cancels of the calls with these numbers, in their order. The error is refused memory, and then nothing
+    /// changes.
     pub fn push_bind(
         &mut self,
         token: u64,
@@ -297,6 +303,7 @@ impl<P: Run> Log<P> {
         ensures added { OnOk result (self.new ≡ log_with self.old (Bind token cell value ∷ map Cancel cancelled.now)) }
         ensures refused { OnErr result (self.new ≡ self.old) }
     {
+        // The bind and its cancels.
         let more = cancelled.len().saturating_add(1);
         if self.keeps {
             if !has_room(&self.held, more) {
@@ -342,8 +349,8 @@ impl<P: Run> Log<P> {
         self.published.is_empty() && self.held.is_silent()
     }
 
-    /// Appends the entries of a part under the numbers that they have in this run, and skips the numbers of its calls of sites: there are `made` of
-    /// them, and none pends. The error is refused memory, and then nothing changes.
+    /// Appends the entries of a part under the numbers that they have in this run, and has `calls` skip the numbers of the part's calls of sites:
+    /// there are `made` of them, and none pends. The error is refused memory, and then nothing changes.
     pub fn append(
         &mut self,
         part: &Log<P>,
@@ -380,6 +387,7 @@ impl<P: Run> Log<P> {
         ensures made { OnOk result (calls.new.made ≡ calls.old.made + made) }
         ensures refused { OnErr result ((self.new ≡ self.old) × (calls.new.made ≡ calls.old.made)) }
     {
+        // Count, values and numbers in turn. If one is refused, those before it are put back.
         let passed = self.passed;
         count_more(&mut self.passed, part.passed)?;
         let known = self.published.len();
@@ -403,7 +411,7 @@ impl<P: Run> Log<P> {
         Ok(())
     }
 
-    /// The entry at a place, from 0. None past the end, and everywhere if the run doesn't keep its journal.
+    /// The entry at a place, from 0, where cancels count. None past the end, and everywhere if the run doesn't keep its journal.
     pub fn get(&self, at: usize) -> Option<Entry>
         ensures held { IfSome result (λ entry. slice_get self.now.entries at ≡ Some entry) }
         ensures none { IfNone result (P.keeps ≡ true → length self.now.entries ≤ at) }

@@ -9,11 +9,13 @@ pub trait Run {
     ghost use Rattle.orc_rules.specs.Sites.{Site};
     ghost use Rattle.std.specs.Prelude.{ℕ, Bool, List};
 
+    // The program: its nodes, the lists of operands, the definitions and the node of the main term.
     ghost listing: { Listing };
 
+    // The table that answers calls.
     ghost sites: { List Site };
 
-    // The most entries that the journal is to have, the cancels left out.
+    // The most entries that the journal is to have, cancels not counted.
     ghost limit: { ℕ };
 
     // Whether all of the journal is held to the end.

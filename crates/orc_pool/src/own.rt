@@ -11,6 +11,7 @@ pub(crate) type Deque<T> = Worker<T, Global, View<T>, OneHistory>;
 /// The end of a queue that its worker owns.
 #[derive(Drop)]
 pub struct Own<T: Drop> {
+    // The kit's deque, at the end where the last task stands.
     pub(crate) worker: Deque<T>,
     // Its port is the owner's; and it pops what was pushed last (1 is the flavor of `lifo_as`).
     ghost owns: { (worker_view worker).owns ≡ true },

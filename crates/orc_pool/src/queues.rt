@@ -8,10 +8,10 @@ use crate::own::{Deque, Own};
 use crate::theft::{Theft, Thief};
 use std::alloc::{AllocError, Global};
 
-/// The slots that a queue begins with.
+/// The slots that a queue begins with: so many tasks fit before it has to grow, which takes memory. The contracts that say 64 mean these.
 const SLOTS: usize = 64;
 
-/// One queue: the owner's end, until its worker takes that, and the stealer, of which each thief gets a copy.
+/// One queue: the owner's end, until its worker takes that (then None), and the stealer, of which each thief gets a copy.
 #[derive(Drop)]
 pub struct Lane<T: Drop> {
     pub(crate) own: Option<Own<T>>,
@@ -36,6 +36,7 @@ impl<T: Drop> Lane<T> {
 /// Queues, one for each of a number of workers.
 #[derive(Drop)]
 pub struct Queues<T: Drop> {
+    // By the number of the worker, from 0.
     pub(crate) lanes: Vec<Lane<T>>,
 }
 

@@ -8,7 +8,8 @@ use std::alloc::Global;
 
 pub(crate) type Thief<T> = Stealer<T, Global, View<T>, OneHistory>;
 
-/// How often a theft that met another call is tried again, so that the loop has a bound. Each time another theft or pop has had success.
+/// How often a theft that met another call is tried again. The number is so great that the bound only shows the prover that the loop ends: each time
+/// another theft or pop has had success.
 const TRIES: u32 = 1_048_576;
 
 /// The right to steal from a queue.
@@ -42,6 +43,7 @@ impl<T: Drop> Theft<T> {
             match self.stealer.steal_as::<Thefts>(&mut self.pass) {
                 Steal::Success(task) => return Some(task),
                 Steal::Empty => return None,
+                // Another call was quicker: the next try.
                 Steal::Retry => {}
             }
         }

@@ -36,7 +36,7 @@ impl<T: Drop> WorkerQueue<T> {
         ensures own { self.new.own ≡ self.old.own }
         ensures theft { MatchOption result (stolen_views self.new ≡ stolen_views self.old) (λ task. IsStolen self.old task self.new) }
     {
-        // Never so: there is a right to steal from each queue. The type doesn't say so.
+        // It doesn't happen: there is a right to steal from each queue, though the type doesn't say it.
         if self.at >= self.thefts.len() {
             return None;
         }
@@ -58,6 +58,7 @@ impl<T: Drop> WorkerQueue<T> {
         // Each worker begins with the queue behind its own, so that not all steal from the same one.
         let count = self.thefts.len();
         for step in 1..count {
+            // `at` is below `count`, so `at % count` is `at`: the remainder only shows the prover that the sum doesn't overflow.
             if let Some(task) = self.thefts[(self.at % count + step) % count].steal() {
                 return Some(task);
             }
@@ -66,7 +67,7 @@ impl<T: Drop> WorkerQueue<T> {
     }
 }
 
-/// A worker queue for each of so many workers, all empty, with room for 64 tasks each. The error is refused memory.
+/// A worker queue for each of `count` workers, all empty, with room for 64 tasks each before it has to grow. The error is refused memory.
 pub fn worker_queues<T: Drop>(
     alloc: Global,
     count: usize,
@@ -86,7 +87,7 @@ pub fn worker_queues<T: Drop>(
     Ok(worker_queues)
 }
 
-// The right to steal from each of the queues, in order.
+// The right to steal from each of the queues, of which there are `count`, in order. The error is refused memory.
 fn thefts_of<T: Drop>(
     alloc: Global,
     queues: &Queues<T>,
@@ -97,6 +98,7 @@ fn thefts_of<T: Drop>(
 {
     let mut thefts = Vec::with_capacity(alloc, count)?;
     for from in 0..count {
+        // There are `count` queues.
         let Some(theft) = queues.theft(from)? else {
             unreachable!();
         };

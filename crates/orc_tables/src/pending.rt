@@ -283,6 +283,7 @@ impl Pending {
     pub fn next_number(&self) -> u64
         ensures { result ≡ self.now.made + 1 }
     {
+        // A slice has fewer than 2^63 items, so one more fits.
         let places = self.places.as_slice();
         places.len() as u64 + 1
     }

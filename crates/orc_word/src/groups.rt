@@ -1,4 +1,5 @@
-//! The words of groups, and the calls on them. A word is a 64-bit atomic: the number of passes that name the group in bits 0 to 31, then two bits.
+//! The words of groups, and the calls on them. A word is a 64-bit atomic: the number of passes that name the group in bits 0 to 31, then two bits. An
+//! exchange answers the word as it was before. A group is named by the number of its word, from 0.
 //!
 //! The type after `::<` of an exchange (`Open`, `Enter`, ..) is for the prover alone: it says what the exchange tells the pass's *seat*, by which the
 //! table knows the pass.
@@ -32,6 +33,7 @@ const KILLED: u64 = 8589934592;
 /// The words of groups, which all threads share.
 #[derive(Drop)]
 pub struct Groups<J: Naming> {
+    // The words, under the rule `Counts`.
     pub(crate) table: Table<(), View, Plan, Counts, Global>,
     // Names the table in the type; it takes no memory.
     pub(crate) of: PhantomData<J>,
@@ -63,7 +65,8 @@ impl<J: Naming> Groups<J> {
         let shared = &self.table.shared;
         let word = group as usize;
         let found = shared.load::<Peek>(&mut seat, word);
-        // The new word counts one pass and has no bits: it replaces the one that was read, bits of the last group included.
+        // The new word, 1, counts one pass and has no bits: it replaces the one that was read, bits of the last group included. The exchange gives
+        // the word that it met: only if that is the one that was read has it replaced it. No pass names the group.
         let is_left = found % COUNT == 0;
         if is_left && shared.compare_exchange::<Open>(&mut seat, word, found, 1) == found {
             Ok(Pass {
@@ -93,7 +96,7 @@ impl<J: Naming> Groups<J> {
             mut seat,
             of,
         } = idle;
-        // `with` names a group, as the clause *names* asks; the other arm never runs. It is the same in `leave`, `mark` and `look`.
+        // `with` names a group, as the clause *names* asks; the other arm never runs. Nor do those of `leave`, `mark` and `look`.
         let Some(group) = with.group else {
             return Pass {
                 group: none,
@@ -134,6 +137,7 @@ impl<J: Naming> Groups<J> {
         };
         let shared = &self.table.shared;
         let found = shared.fetch_sub::<Leave>(&mut seat, group as usize, 1);
+        // The word as it was counted this pass alone.
         let is_last = found % COUNT == 1;
         let last = if is_last {
             Some(Last {
@@ -151,7 +155,8 @@ impl<J: Naming> Groups<J> {
         Left { pass, last }
     }
 
-    /// Sets a bit of the pass's group, and says whether it was clear: the pass has won it then. A pass that has seen the bit set is answered `false`.
+    /// Sets a bit of the pass's group, and says whether it was clear: the pass has won it then. False if it was set already, as it is to a pass that
+    /// has seen it set.
     pub fn mark(&self, pass: &mut Pass<J>, bit: Bit) -> bool
         requires { IsSome (group_of pass.old) }
         ensures group { group_of pass.new ≡ group_of pass.old }
@@ -168,10 +173,12 @@ impl<J: Naming> Groups<J> {
         match bit {
             Bit::Published => {
                 let found = shared.fetch_or::<MarkPublished>(&mut pass.seat, word, PUBLISHED);
+                // Bit 32 of the word as it was.
                 found / PUBLISHED % 2 == 0
             }
             Bit::Killed => {
                 let found = shared.fetch_or::<MarkKilled>(&mut pass.seat, word, KILLED);
+                // Bit 33 of the word as it was.
                 found / KILLED % 2 == 0
             }
         }

@@ -9,11 +9,12 @@ use std::marker::PhantomData;
 #[derive(Drop)]
 pub struct Last<J: Naming> {
     pub(crate) group: u32,
+    // Names the table in the type; it takes no memory.
     pub(crate) of: PhantomData<J>,
 }
 
 impl<J: Naming> Last<J> {
-    /// The group that was left.
+    /// The number of the group that was left.
     pub fn group(&self) -> u32
         ensures { result ≡ self.now.group }
     {
@@ -21,7 +22,7 @@ impl<J: Naming> Last<J> {
     }
 }
 
-/// What a leave gives: the pass, which is idle, and `last`, if it was the last one that named its group.
+/// What a leave gives: the pass, which is idle, and `last`, if it was the last one that named its group; None if other passes name it still.
 #[derive(Drop)]
 pub struct Left<J: Naming> {
     pub pass: Pass<J>,

@@ -9,9 +9,11 @@ use std::marker::{Model, PhantomData};
 /// A pass: it is idle, or names a group, whose word counts it then. It can't be copied. To a contract it is its view ([`View`]).
 #[derive(Drop)]
 pub struct Pass<J: Naming> {
+    // The group that it names; None while it is idle.
     pub(crate) group: Option<u32>,
     // The pass's seat (`view.rt`): by it the table's rule knows the pass, with what it has seen and done.
     pub(crate) seat: Seat<(), View>,
+    // Names the table in the type; it takes no memory.
     pub(crate) of: PhantomData<J>,
 }
 

@@ -14,8 +14,11 @@ use std::marker::{Model, PhantomData};
 /// Passes that are still to be taken. To a contract it is their number.
 #[derive(Drop)]
 pub struct Supply<J: Naming> {
+    // How many idle passes can still be taken out.
     pub(crate) passes: u32,
+    // The supply's seat (`view.rt`), by which the table's rule knows it. To take passes out splits it, and to give one back joins two.
     pub(crate) seat: Seat<(), View>,
+    // Names the table in the type; it takes no memory.
     pub(crate) of: PhantomData<J>,
 }
 
@@ -55,7 +58,8 @@ impl<J: Naming> Supply<J> {
             return None;
         }
         let shared = groups.shared();
-        // A split knows nothing but its seat's view. So the number is put into the view first, by an exchange that changes no word.
+        // A split knows nothing but its seat's view. So the number is put into the view first, by an exchange on some word, here 0. It changes no
+        // word: if it finds `aside`, it puts `aside` back.
         let aside = passes as u64;
         shared.compare_exchange::<SetAside>(&mut self.seat, 0, aside, aside);
         let seat = shared.split_seat::<PartWith>(&mut self.seat);
@@ -67,7 +71,7 @@ impl<J: Naming> Supply<J> {
         })
     }
 
-    /// Takes an idle pass back.
+    /// Takes an idle pass back, so that it can be taken out again.
     pub fn give(&mut self, groups: &Groups<J>, pass: Pass<J>)
         requires { group_of pass ≡ None }
         ensures { self.new ≡ self.old + 1 }
@@ -79,7 +83,7 @@ impl<J: Naming> Supply<J> {
         } = pass;
         let shared = groups.shared();
         shared.join_seat::<GiveBack>(&mut self.seat, seat);
-        // The load shows that the supply has fewer than 2^31 passes, so that one more can be counted.
+        // The load, of any word, shows the prover that the supply has fewer than 2^31 passes, so that one more can be counted.
         shared.load::<Bound>(&mut self.seat, 0);
         self.passes += 1;
     }

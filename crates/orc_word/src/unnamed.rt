@@ -15,6 +15,7 @@ use std::marker::PhantomData;
 /// Words that have no name yet, and the supply of all their passes.
 #[derive(Drop)]
 pub struct Unnamed {
+    // The words; the seat of the supply that has all passes; and how many these are.
     table: Table<(), View, Plan, Counts, Global>,
     seat: Seat<(), View>,
     passes: u32,
@@ -23,7 +24,8 @@ pub struct Unnamed {
 }
 
 impl Unnamed {
-    /// The words of `groups` groups (1 to 65,536), all 0, and a supply of `passes` passes (fewer than 2^31). Its error is refused memory.
+    /// The words of `groups` groups (1 to 65,536), all 0, and a supply of `passes` passes (fewer than 2^31, so that a word's count never reaches its
+    /// bits). Its error is refused memory.
     pub fn new(alloc: Global, groups: u32, passes: u32) -> Result<Unnamed, AllocError>
         requires groups { (0 < groups) × (groups ≤ 65536) }
         requires passes { passes < 2 ^ 31 }

@@ -34,7 +34,7 @@ pub struct View {
     pub deeds: LinkedList<Deed>,
 }
 
-/// How many words and passes were made.
+/// How many words (one for each group) and passes were made.
 #[derive(Clone, Copy)]
 pub struct Plan {
     pub groups: u32,
