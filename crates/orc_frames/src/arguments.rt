@@ -30,6 +30,7 @@ pub fn take_values(
     args.clear();
     for operand in operands {
         match meaning(scopes, cells, *operand, scope) {
+            // There is room: a call has `MOST_ARGUMENTS` operands at most, as `few` asks.
             Some(Bound::Is(value)) => args.push(value),
             Some(Bound::Cell(_)) => return false,
             Some(Bound::Void) => return false,

@@ -2,6 +2,9 @@
 //!
 //! Of the clauses `held` says that the token is in the slot, `at` or `form` what it is on, `done` what becomes of the records, `others` which tokens
 //! stay in their slots, `refused` that a refused call changes nothing, and `why` its cause.
+//!
+//! `within(t, g, d)` asks whether the limits allow an entry that brings t tokens and g groups more, and a token inside d left sides of a `>x>` (0
+//! where it enters none). `IsRefused` has the same three numbers.
 
 ghost use Rattle.std.specs.Prelude.{◌≡◌, ◌++◌, ◌∷◌, [], map, slice_index_or, IfOk, IfErr, IfSome, IfNone, OnOk, OnErr};
 ghost use Rattle.orc_rules.specs.Nodes.{code, definitions, param_of};

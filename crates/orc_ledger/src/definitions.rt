@@ -1,4 +1,10 @@
 //! Calls of definitions.
+//!
+//! Of the clauses `held` says that the token is in the slot, `at` what it is on, `done` what becomes of the records, `undone` why the call isn't
+//! made, `others` which tokens stay in their slots, `refused` that a refused call changes nothing, and `why` its cause.
+//!
+//! `within(t, g, d)` asks whether the limits allow an entry that brings t tokens and g groups more, and a token inside d left sides of a `>x>` (0
+//! where it enters none). `IsRefused` has the same three numbers.
 
 ghost use Rattle.std.specs.Prelude.{◌≡◌, ◌+◌, ◌≤◌, ◌++◌, [], ℕ, true, false, length, map, vec_len, vec_capacity, slice_index_or, IfOk, IfErr, OnErr, OnOk};
 ghost use Rattle.orc_rules.specs.Nodes.{code, param_of};

@@ -5,7 +5,7 @@
 //! that cell is the nearest that takes what the token publishes.
 //!
 //! A function that writes an entry first asks `within` whether the limits allow it. The arguments are how many tokens and how many groups the entry
-//! adds, and in how many left sides of a `>x>` it puts a token: 0 here, where none is entered.
+//! adds, and in how many left sides of a `>x>` it puts a token: 0 here, where none is entered. `IsRefused` has the same three numbers.
 
 ghost use Rattle.std.specs.Prelude.{◌≡◌, ◌+◌, ◌-◌, ◌++◌, ◌∷◌, [], ◌<◌, true, length, map, false, IfOk, OnOk, OnErr, IfErr, slice_set};
 ghost use Rattle.orc_rules.specs.Nodes.{code};

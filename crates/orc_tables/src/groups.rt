@@ -1,7 +1,7 @@
 //! The open groups, each found by its number, and how many members each group has.
 //!
 //! In contracts `weight w items` is the sum of w over the items: an equation for every w says which items there are, in any order. `is_this i n` is 1
-//! if both numbers are the same, else 0.
+//! if both numbers are the same, else 0. `size_of sizes i` is how many members number i has. `LeadTo` says that `places` leads to each group.
 
 ghost use Rattle.std.specs.Prelude.{◌≡◌, [], ◌∷◌, ◌++◌, ◌+◌, ◌-◌, ◌^◌, ◌≤◌, ◌<◌, ℕ, Some, cond, length, nat_eq, IfNone, IfOk, OnOk, OnErr, MatchOption, slice_get, slice_set, vec_len, vec_capacity};
 ghost use Rattle.orc_rules.specs.Timed.{IsIn};

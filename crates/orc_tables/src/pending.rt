@@ -2,7 +2,8 @@
 //! calls, from 0.
 //!
 //! In contracts `weight w items` is the sum of w over the items: an equation for every w says which items there are, in any order. `but p w` leaves
-//! out those that pass p.
+//! out those that pass p. `made` is how many calls were made. `ArePlaced` says that `places` leads to each call, `HaveNotes` that each is noted with
+//! its due time, if it has one.
 
 ghost use Rattle.std.specs.Prelude.{◌≡◌, ◌+◌, ◌≤◌, ◌<◌, ◌-◌, ◌⊎◌, ◌^◌, [], ℕ, Some, None, true, false, IfSome, IfNone, MatchOption, IfOk, OnOk, OnErr, length, vec_len, slice_get, slice_set};
 ghost use Rattle.orc_rules.specs.Timed.{IsIn};

@@ -2,7 +2,8 @@
 //! cell for which it does.
 //!
 //! In contracts `live` are the tokens of the slots that aren't free, and `weight w items` is the sum of w over the items: an equation for every w
-//! says which items there are, in any order.
+//! says which items there are, in any order. `IsHeld slots k t` says that token t is in slot k. `StayParked` says that each token that is known to
+//! wait was so before, and has kept its notes; `StayBut` excepts the notes of one cell, `StayWith` the token in one slot.
 
 ghost use Rattle.std.specs.Prelude.{◌≡◌, [], ◌∷◌, ◌+◌, ◌≤◌, ◌<◌, ℕ, true, false, Some, None, length, IfSome, IfNone, IfOk, OnOk, slice_get, slice_set, vec_len, vec_capacity};
 ghost use Rattle.orc_rules.specs.Timed.{IsIn};
@@ -247,6 +248,7 @@ impl Tokens {
         ensures added { (w : Its → ℕ) → weight w (live self.new.items) ≡ weight w (live self.old.items) + w token }
         ensures parked { StayParked self.old self.new }
     {
+        // The slot that the token gets if none is free.
         let end = self.slots.len();
         self.count += 1;
         match free_slot(&self.slots, &mut self.free) {
