@@ -1,4 +1,5 @@
-//! Cells, which are bound once.
+//! Cells, which are bound once. In contracts `identity` says which cell it is, `subject` of which cell a note is, and `known` what a note has read.
+//! `Knows` and `HasRead` say that a value is known from now on, and that what was known before is the same.
 
 ghost use Rattle.std.specs.Prelude.{◌≡◌, None, Some, IfOk, MatchResult, MatchOption, ⊤};
 ghost use Rattle.orc_cell.specs.Words.{identity, subject, known, Knows, HasRead};

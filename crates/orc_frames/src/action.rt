@@ -2,7 +2,9 @@
 //!
 //! In contracts a path is what is around a token, the innermost first: `feeding` is the left side of a `>x>`, `aiding` the right side of a cell,
 //! `trying` the left side of an otherwise, and `whole` nothing. `seen left` leaves out the otherwises that have published, which take nothing.
-//! `what_by` defines what a token does next, and `scan` what one at a call of a site does.
+//! `what_by` defines what a token does next, `taken` what one on a value does, `of_param` what one at a variable or a value does, and `scan` what one
+//! at a call of a site does. A clause for each `code`, `env` and `left` holds whatever the nodes and the scopes mean and whichever otherwises have
+//! published.
 //!
 //! `from` is the number of a token's innermost step, from which a search goes outwards; 0 is the program as a whole.
 

@@ -4,7 +4,8 @@
 //! Of the clauses `held` says that the token is in the slot, `at` or `form` what it is on, `done` what becomes of the records, `others` which tokens
 //! stay in their slots, `refused` that a refused call changes nothing, and `why` its cause. `asked` says that a claim was got if the move needs one:
 //! `HasAsked` takes what is true of a claim that wasn't asked and of one that was got, `IsBarredAt` the first and that of one that was lost. The ks
-//! in `Moves` are the calls that a bind cancels: for other moves any list will do.
+//! in `Moves` are the calls that a bind cancels: for other moves any list will do. `takes` says what takes the value, `way` and `side` that this is
+//! around the token, and `there` and `fits` that the scope and the step that go with it are there.
 
 ghost use Rattle.std.specs.Prelude.{◌≡◌, ◌≤◌, ℕ, List, [], map, length, true, false, Some, None as Nothing, slice_index_or, IfOk, IfErr, IfSome, IfNone, OnOk, OnErr};
 ghost use Rattle.orc_rules.specs.declared.param.Param.TheVariants.{Name, Is};

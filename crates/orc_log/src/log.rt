@@ -1,6 +1,7 @@
 //! The journal of a run, which holds all of its entries or none. Of entries that aren't held it knows how many they are, what they publish, and
 //! whether they are *local*: nothing outside the run affects them (no tick, no cancel, no call that a script answers). Contracts alone can name these
-//! entries, by a ghost list, the *past*. A *part* is the log of a sub-run: of a call of a definition that was run by itself.
+//! entries, by a ghost list, the *past*. A *part* is the log of a sub-run: of a call of a definition that was run by itself. `log_with c es` is the
+//! log c with the entries es behind its own.
 
 ghost use Rattle.std.specs.Prelude.{◌≡◌, ◌≢◌, ◌+◌, ◌≤◌, ◌^◌, ◌++◌, ◌∷◌, [], ℕ, List, true, false, length, map, take, drop, IfOk, IfSome, IfNone, OnOk, OnErr};
 ghost use Rattle.std.specs.List.{slice_get};

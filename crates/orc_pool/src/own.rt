@@ -1,4 +1,7 @@
 //! The end of a queue that its worker owns. It pushes and pops at this end; thieves take from the other one.
+//!
+//! In contracts `own_view` is what the owner knows of the queue's history, `pushed` is how many tasks were pushed and not popped again (those that
+//! were stolen among them), and `slots` for how many there is room. The clause `rule` says how the history goes on.
 ghost use Rattle.std.specs.Prelude.{◌≡◌, true};
 ghost use Rattle.crossbeam_deque.specs.Handles.{worker_view, worker_flavor};
 
@@ -31,7 +34,8 @@ impl<T: Drop> Own<T> {
         Own { worker }
     }
 
-    /// Pushes a task. Gives it back, and changes nothing, where the queue could not grow: so only where its slots are used up.
+    /// Pushes a task. Gives it back, and changes nothing, where the queue could not grow: so only where as many tasks were pushed and not popped
+    /// again as there are slots. Tasks that were stolen count, too.
     pub fn push(&mut self, task: T) -> Result<(), T>
         ensures rule { MatchResult result (λ _. IsPush (own_view self.old) (task ∷ []) (own_view self.new)) (λ back. (back ≡ task) × (own_view self.new ≡ own_view self.old)) }
         ensures counted { MatchResult result (λ _. pushed self.new ≡ pushed self.old + 1) (λ _. (slots self.old ≤ pushed self.old) × (pushed self.new ≡ pushed self.old)) }

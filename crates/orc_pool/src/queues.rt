@@ -1,4 +1,5 @@
-//! The queues of all workers, before each takes its own end and its rights to steal.
+//! The queues of all workers, before each takes its own end and its rights to steal. In contracts `names` are the queues, in order, and `free` says
+//! of each whether its end was not taken yet.
 ghost use Rattle.std.specs.Prelude.{◌≡◌, ◌≤◌, true, []};
 ghost use Rattle.std.specs.Option.{ForSome};
 ghost use Rattle.crossbeam_deque.specs.Handles.{worker_view, worker_deque, worker_capacity, worker_index, stealer_deque};
@@ -16,6 +17,7 @@ const SLOTS: usize = 64;
 pub struct Lane<T: Drop> {
     pub(crate) own: Option<Own<T>>,
     pub(crate) thief: Thief<T>,
+    // Both ends are of one deque, on which nothing was done yet, with 64 slots at least.
     ghost paired: { ForSome own (λ o. (worker_deque o.worker ≡ stealer_deque thief) × (worker_view o.worker ≡ view_of true [] []) × (64 ≤ worker_capacity o.worker) × (worker_index o.worker ≡ 0)) },
 }
 

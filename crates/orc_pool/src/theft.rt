@@ -1,4 +1,4 @@
-//! The right to steal from a queue.
+//! The right to steal from a queue. In contracts `theft_view` is what the thief knows of the queue's history.
 ghost use Rattle.std.specs.Prelude.{◌≡◌, false};
 ghost use Rattle.crossbeam_deque.specs.Handles.{view, IsPassOf, stealer_deque};
 

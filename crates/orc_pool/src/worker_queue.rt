@@ -1,5 +1,9 @@
 //! A worker's side of the queues: the end of its own one, and the rights to steal from all of them. It has one to steal from its own too, since only
 //! a theft takes what was pushed first.
+//!
+//! In contracts `own_view` is what the worker knows of its own queue's history, `stolen_views` what it knows of each queue as a thief, `pushed` is
+//! how many tasks were pushed to its own queue and not popped again (those that were stolen among them), and `slots` for how many there is room. The
+//! clause `rule` says how a history goes on.
 ghost use Rattle.std.specs.Prelude.{◌≡◌, ◌≤◌, ◌+◌, [], ◌∷◌, length, map, IfOk, MatchResult, MatchOption};
 ghost use Rattle.orc_pool.specs.History.{IsPush, WasEmpty};
 ghost use Rattle.orc_pool.specs.Words.{own_view, names, pushed, slots, theft_name};
@@ -21,7 +25,8 @@ pub struct WorkerQueue<T: Drop> {
 }
 
 impl<T: Drop> WorkerQueue<T> {
-    /// Pushes a task to its own queue. Gives it back, and changes nothing, where the queue could not grow: so only where its slots are used up.
+    /// Pushes a task to its own queue. Gives it back, and changes nothing, where the queue could not grow: so only where as many tasks were pushed
+    /// and not popped again as there are slots. Tasks that were stolen count, too.
     pub fn push(&mut self, task: T) -> Result<(), T>
         ensures rule { MatchResult result (λ _. IsPush (own_view self.old.own) (task ∷ []) (own_view self.new.own)) (λ back. (back ≡ task) × (own_view self.new.own ≡ own_view self.old.own)) }
         ensures counted { MatchResult result (λ _. pushed self.new.own ≡ pushed self.old.own + 1) (λ _. (slots self.old.own ≤ pushed self.old.own) × (pushed self.new.own ≡ pushed self.old.own)) }
@@ -40,6 +45,7 @@ impl<T: Drop> WorkerQueue<T> {
         if self.at >= self.thefts.len() {
             return None;
         }
+        // From its own queue: only a theft takes what was pushed first.
         if let Some(task) = self.thefts[self.at].steal() {
             return Some(task);
         }

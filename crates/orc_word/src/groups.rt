@@ -3,6 +3,9 @@
 //!
 //! The type after `::<` of an exchange (`Open`, `Enter`, ..) is for the prover alone: it says what the exchange tells the pass's *seat*, by which the
 //! table knows the pass.
+//!
+//! In contracts `group_of` is the group that a pass names, `seen_of` are the bits that it has seen set, `won_of` those that it has won, and
+//! `deeds_of` what it has done that nothing undoes. `Opens`, `Comes` and `Marks` say which deed a call adds.
 ghost use Rattle.std.specs.Prelude.{◌≡◌, true, false, ℕ, List, [], ◌∷◌, ◌++◌, ◌<◌, Some, None, IsSome, MatchResult, MatchOption, cond};
 ghost use Rattle.orc_word.specs.declared.view.View.{View};
 ghost use Rattle.orc_word.specs.declared.view.Stance.TheVariants.{Names};
