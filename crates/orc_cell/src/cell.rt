@@ -47,8 +47,7 @@ impl<T: Drop> Cell<T> {
     }
 
     /// Binds the cell, if no other call has bound it; else it gives the box back. Either way the note, which has to be of this cell, has then read
-    /// the cell's value. A note that
-    /// had read a value before always gets its box back, since the cell was bound by then. It takes no memory.
+    /// the cell's value. A note that had read a value before always gets its box back, since the cell was bound by then. It takes no memory.
     pub fn bind_and_note(&self, value: Box<T>, note: &mut Note<T>) -> Result<(), Box<T>>
         requires { subject note.old ≡ identity self.now }
         ensures subject { subject note.new ≡ subject note.old }
@@ -58,7 +57,7 @@ impl<T: Drop> Cell<T> {
         self.shared.set_as(value, &mut note.sight)
     }
 
-    /// What the cell is bound to; None where it is not bound yet. The note, which has to be of this cell, has then read the value, too.
+    /// What the cell is bound to; None where it is not bound yet. The note has to be of this cell. If there is a value, the note has then read it.
     pub fn read<'a>(&'a self, note: &mut Note<T>) -> Option<&'a T>
         requires { subject note.old ≡ identity self.now }
         ensures subject { subject note.new ≡ subject note.old }

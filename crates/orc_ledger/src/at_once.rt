@@ -32,7 +32,7 @@ use orc_rules::entry::Entry;
 use orc_rules::value::{Answer, Args, Found};
 use orc_tables::{Call, Standing, Token};
 
-// The answer that the table gives with delay 0, in the same unit of time as the call; None if it gives one later or never.
+// The answer that the table gives with delay 0, at the time of the call itself; None if it gives one later or never.
 fn answer_at_once(found: Found) -> Option<Answer>
     ensures { IfSome result (λ answer. found ≡ After answer 0) }
 {

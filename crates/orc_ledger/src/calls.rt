@@ -58,8 +58,7 @@ impl<P: Run> Ledger<P> {
         ensures others { OnOk result (KeepsAll self.old.slots self.new.slots) }
         ensures refused { OnErr result (self.new ≡ self.old) }
     {
-        // `within` isn't asked: tokens and calls are limited together, and the token comes for the call. For the same reason no group changes its
-        // size.
+        // `within` isn't asked: tokens and calls are limited together, and the token comes for the call. Nor does a group change its size.
         self.tokens.reserve()?;
         let mark = self.next_mark;
         write(&mut self.journal, &Entry::Return(call.number, mark, value))?;

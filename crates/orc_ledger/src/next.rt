@@ -30,6 +30,7 @@ impl<P: Run> Ledger<P> {
         }
         match self.what(inputs, slot) {
             Action::Wait(_) => false,
+            // Every other action writes an entry.
             _ => true,
         }
     }

@@ -65,8 +65,7 @@ impl<P: Run> Ledger<P> {
             return false;
         }
         let mut inner = *token;
-        // The bound only makes the loop end, and any large number would do: if first parts nest deeper, the answer is false, whatever the term can
-        // do.
+        // The bound only makes the loop end; any large number would do. If first parts nest deeper, the answer is false, whatever the term can do.
         for _inwards in 0..MOST_FRAMES {
             match self.first_part(inputs, inner) {
                 Some(part) => inner = part,

@@ -135,6 +135,7 @@ fn are_same(values: &[Value], others: &[Value]) -> bool
         [] => others.is_empty(),
         [value, values @ ..] => match others {
             [other, others @ ..] if *value == *other => are_same(values, others),
+            // There is no other value to compare, or it differs.
             _ => false,
         },
     }

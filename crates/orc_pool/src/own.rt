@@ -9,6 +9,7 @@ use crate::history::{OneHistory, Pops, Pushes, View};
 use crossbeam_deque::Worker;
 use std::alloc::Global;
 
+// The owner's end of one of the kit's deques, whose history follows the rule `OneHistory`.
 pub(crate) type Deque<T> = Worker<T, Global, View<T>, OneHistory>;
 
 /// The end of a queue that its worker owns.

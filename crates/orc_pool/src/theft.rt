@@ -6,6 +6,7 @@ use crate::history::{OneHistory, Thefts, View};
 use crossbeam_deque::{Pass, Steal, Stealer};
 use std::alloc::Global;
 
+// The end of one of the kit's deques from which others steal; its history follows the rule `OneHistory`.
 pub(crate) type Thief<T> = Stealer<T, Global, View<T>, OneHistory>;
 
 /// How often a theft that met another call is tried again. The number is so great that the bound only shows the prover that the loop ends: each time

@@ -68,8 +68,8 @@ impl<J: Naming> Groups<J> {
         let shared = &self.table.shared;
         let word = group as usize;
         let found = shared.load::<Peek>(&mut seat, word);
-        // The new word, 1, counts one pass and has no bits: it replaces the one that was read, bits of the last group included. The exchange gives
-        // the word that it met: only if that is the one that was read has it replaced it. No pass names the group.
+        // `is_left`: the word counts no pass. Only then the exchange is tried: it puts 1, which counts one pass and has no bits, in place of the word
+        // that was read, bits of the last group included. It has done so if it meets, and so gives, the word that was read.
         let is_left = found % COUNT == 0;
         if is_left && shared.compare_exchange::<Open>(&mut seat, word, found, 1) == found {
             Ok(Pass {
