@@ -6,7 +6,8 @@
 //! at a call of a site does. A clause for each `code`, `env` and `left` holds whatever the nodes and the scopes mean and whichever otherwises have
 //! published.
 //!
-//! `from` is the number of a token's innermost step, from which a search goes outwards; 0 is the program as a whole.
+//! `from` is the number of a token's innermost step, from which a search goes outwards; 0 is the program as a whole. `scopes` and `cells` are those
+//! of the run: scope n is the n-th item of `scopes` (scope 0 has no names), and `cells` says by number what a cell has become (item 0 is no cell).
 
 ghost use Rattle.std.specs.Prelude.{◌≡◌, ℕ, Bool, true, false, None as Nothing};
 ghost use Rattle.orc_rules.specs.Term.{Term};
@@ -42,11 +43,11 @@ pub enum Action {
     Def,
     /// Its variable, or an argument of its call of a site, is void: it ends.
     Void,
-    /// Nothing around it takes its value: the program publishes it.
+    /// Nothing around the token takes its value: the program publishes that.
     Publish(Value),
-    /// A `>x>` takes its value.
+    /// A `>x>` takes the token's value.
     Send(Value),
-    /// This cell is bound to its value.
+    /// This cell is bound to the token's value.
     Bind(u64, Value),
     /// It calls a site, and all arguments have values.
     Call,

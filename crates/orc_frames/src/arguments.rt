@@ -1,4 +1,7 @@
 //! The values of a call's arguments.
+//!
+//! `scopes` and `cells` are those of the run: scope n is the n-th item of `scopes` (scope 0 has no names), and `cells` says by number what a cell has
+//! become (item 0 is no cell).
 
 ghost use Rattle.std.specs.Prelude.{◌≡◌, ◌≤◌, List, Some, length, true, false};
 ghost use Rattle.orc_rules.specs.Term.{values_of};

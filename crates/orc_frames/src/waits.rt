@@ -1,4 +1,7 @@
 //! The cells for which a call waits.
+//!
+//! `scopes` and `cells` are those of the run: scope n is the n-th item of `scopes` (scope 0 has no names), and `cells` says by number what a cell has
+//! become (item 0 is no cell).
 
 ghost use Rattle.std.specs.Prelude.{◌≡◌, OnOk};
 ghost use Rattle.orc_env.specs.Names.{AreOrdered};

@@ -316,7 +316,7 @@ impl Tokens {
         ensures items { self.new.items ≡ self.old.items }
         ensures parked { StayWith slot serial cells.now.items self.old self.new }
     {
-        // The flag is set last, when all notes stand: a token whose flag is set must be noted with each cell that can end its wait.
+        // The flag is set last, when the token is noted with each of its cells: a token whose flag is set and that lacks a note would miss its cell.
         self.parking.reach(slot)?;
         note_all(&mut self.parking, slot, serial, cells)?;
         self.parking.set(slot);
