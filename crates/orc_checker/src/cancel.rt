@@ -1,4 +1,4 @@
-//! The entry `cancel`.
+//! The entry `cancel`: a call that a bind has dropped is cancelled.
 
 ghost use Rattle.std.specs.Prelude.{◌≡◌, IfOk, IfErr, OnErr};
 ghost use Rattle.orc_rules.specs.Nodes.{code};
@@ -12,7 +12,8 @@ use orc_rules::entry::RuleFault;
 use orc_rules::program::Program;
 
 impl Marked {
-    /// `cancel K`. The error is Cancel: the cancel of `k` isn't the next one that is due. The contract alone needs `program`.
+    /// `cancel K`: the cancel of call `k` is no longer due. The error is Cancel: it isn't the next one that is due. The contract alone needs
+    /// `program`.
     pub(crate) fn cancel(&mut self, program: &Program, k: u64) -> Result<(), RuleFault>
         ensures done { IfOk result (λ _. Enters (code program.now) (entry.Cancel k) self.old self.new) }
         ensures refused { OnErr result (self.new ≡ self.old) }

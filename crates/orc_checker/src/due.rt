@@ -12,6 +12,7 @@ use std::marker::Model;
 /// Nodes with due times, in units of logical time, the earliest first. A node may stay that waits no more.
 #[derive(Drop)]
 pub(crate) struct Due {
+    /// The due time first and then the node, so that the set has them by their times.
     nodes: BTreeSet<(u64, u32)>,
 }
 

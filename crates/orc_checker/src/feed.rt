@@ -64,6 +64,7 @@ impl Marked {
         ensures reason { IfErr result (λ r. (t : Table) → IsRightlyRefused program.now t (entry.Send s a v) self.old r) }
     {
         let bearer = self.bearer(program, s, v)?;
+        // A token's node is a part of the term, so the walk finds what takes its publication.
         let Some(taker) = way_up(&self.nodes, bearer.at as usize) else {
             return Err(RuleFault::Form);
         };
@@ -87,6 +88,7 @@ impl Marked {
                 parent: bearer.parent,
             },
         );
+        // Each otherwise between the token and the `>x>` loses its right side.
         rise(&mut self.nodes, bearer.at);
         let scope = Scope {
             name: x,
@@ -94,6 +96,7 @@ impl Marked {
             outer,
         };
         push_within(&mut self.scopes, StoredScope::new(scope));
+        // `graft` gives the `|` this number, and the copy of the right side the next one.
         let both = self.nodes.next_number();
         graft(
             &mut self.nodes,

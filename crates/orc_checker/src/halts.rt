@@ -12,6 +12,7 @@ use std::marker::Model;
 /// For each node of a program whether its term has halted.
 #[derive(Drop)]
 pub struct Halts {
+    /// For each node whether its term has halted.
     pub(crate) flags: Vec<bool>,
     /// A flag for each node, which `stillness` overwrites: so its questions need no memory of their own.
     pub(crate) active: Vec<bool>,
@@ -33,6 +34,7 @@ fn flag_of(flags: &Vec<bool>, node: TermNode) -> bool
         TermNode::Stop => true,
         TermNode::Par(f, g) => flag_at(flags, f) && flag_at(flags, g),
         TermNode::Seq(f, _, _) => flag_at(flags, f),
+        // An operand, a call, a `<x<` and a `;` have a step of their own still to make, or wait for it.
         _ => false,
     }
 }

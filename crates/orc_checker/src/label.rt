@@ -36,6 +36,7 @@ fn cells_around(alloc: Global, nodes: &Nodes, from: u32) -> Result<Vec<u64>, All
 {
     let mut cells = Vec::new(alloc);
     let mut place = from;
+    // Each step goes to the node above. The bound shows that the loop ends.
     for _steps in 0..nodes.len() {
         if place == 0 {
             cells.reverse();
@@ -46,7 +47,7 @@ fn cells_around(alloc: Global, nodes: &Nodes, from: u32) -> Result<Vec<u64>, All
         push_cell(&mut cells, above, place)?;
         place = parent;
     }
-    // Node 0 is less than `nodes.len()` nodes away.
+    // Not reached: the way up to node 0 has fewer steps than there are nodes.
     Err(AllocError)
 }
 

@@ -1,5 +1,6 @@
 //! The nodes that entries name, found by tables that have the node on which each mark, cell or call was put. That node may have become another one
-//! since, so each function here asks whether it still has the name.
+//! since, so each function here asks whether it still has the name, and gives None if it hasn't. Number 0 names nothing: its place in a table has
+//! node 0, which has no name.
 
 ghost use Rattle.std.specs.Prelude.{◌≡◌, slice_get};
 ghost use Rattle.orc_checker.specs.Index.{node_by, pruning_with, otherwise_with, tip_with, waits_with};
@@ -7,7 +8,7 @@ ghost use Rattle.orc_checker.specs.Index.{node_by, pruning_with, otherwise_with,
 use orc_term::arena::{Double, Kind, Node, Single, Tip};
 use orc_term::nodes::Nodes;
 
-/// The node that a table of places gives for a number, with its place.
+/// The node that a table of places gives for a number, with its place. None if the table has no such number.
 pub(crate) fn node_by(nodes: &Nodes, places: &Vec<u32>, number: u64) -> Option<(u32, Node)>
     ensures { result ≡ node_by nodes.now.items (slice_get places.now.items number) }
 {
@@ -20,7 +21,7 @@ pub(crate) fn node_by(nodes: &Nodes, places: &Vec<u32>, number: u64) -> Option<(
     }
 }
 
-/// What token `s` stands on, if this is the token's node.
+/// The tip of the node, if token `s` is on it.
 pub(crate) fn tip_with(kind: Kind, s: u64) -> Option<Tip>
     ensures { result ≡ tip_with kind s }
 {

@@ -33,6 +33,7 @@ use std::marker::Model;
 
 /// A marked term, with what its journal has used up so far: the checker's state at one place of a journal.
 pub struct Marked {
+    /// The term. Nodes that were dropped keep their numbers.
     pub(crate) nodes: Nodes,
     /// Scope n is the n-th record; scope 0 has no names.
     pub(crate) scopes: Vec<StoredScope>,
@@ -46,6 +47,7 @@ pub struct Marked {
     pub(crate) flags: Vec<bool>,
     /// The node on which each cell's pruning was opened; there is no cell 0.
     pub(crate) prunings: Vec<u32>,
+    /// The time, the calls made, and the cancels due.
     pub(crate) rest: Rest,
     /// The sides that may have halted, so that what asks for them looks at none of the others.
     pub(crate) candidates: Candidates,
@@ -96,7 +98,7 @@ pub(crate) struct Spot {
     pub scope: u32,
 }
 
-/// Where a token stands: its node in the marked term with the one above it, and what it stands on.
+/// Where a token stands: its node in the marked term with the one above it, and the node's tip, which says what the token stands on.
 #[derive(Clone, Copy)]
 pub(crate) struct Holder {
     pub at: u32,
@@ -114,7 +116,7 @@ pub(crate) fn token_node(mark: u64, node: u32, spot: Spot) -> Node
     }
 }
 
-/// The error is Number: `b` isn't the mark after `a`.
+/// Tests the second new mark of an entry: it has to be the one after the first, `a`. The error is Number: `b` is another number.
 pub(crate) fn expect_after(a: u64, b: u64) -> Result<(), RuleFault>
     ensures next { IfOk result (λ _. b ≡ suc a) }
     ensures refused { IfErr result (λ r. (r ≡ reason.Number) × (b ≡ suc a → ⊥)) }
@@ -127,7 +129,7 @@ pub(crate) fn expect_after(a: u64, b: u64) -> Result<(), RuleFault>
     }
 }
 
-/// The value that an operand is in a scope. None if it is void, or a cell that isn't bound.
+/// The value that an operand is in a scope. None if it is void, a cell that isn't bound, or a name that the scope doesn't have.
 #[inline(always)]
 fn value_of(
     scopes: &[StoredScope],
@@ -150,6 +152,7 @@ impl Marked {
     pub fn new(alloc: Global, program: &Program, cancels: bool) -> Result<Self, AllocError>
         ensures { IfOk result (λ m. Begins program.now cancels m (begin (source program.now))) }
     {
+        // Each list gets room for all that is added below, so that nothing fails once the first node is there.
         let mut nodes = Nodes::new(alloc)?;
         let mut marks = Vec::with_capacity(alloc, 2)?;
         let mut cells = Vec::with_capacity(alloc, 1)?;
@@ -157,6 +160,7 @@ impl Marked {
         let mut prunings = Vec::with_capacity(alloc, 1)?;
         let halts = Halts::new(alloc, program)?;
         let root = program.source();
+        // A token keeps the program's node in 32 bits.
         fits(root)?;
         let halted = halts.at(root);
         // Node 0 is above the term, whose root is node 1, so that every node of the term has a parent.
@@ -168,6 +172,7 @@ impl Marked {
             kind: Kind::Leaf(Tip::Token(1, root as u32, 0)),
             parent: 0,
         });
+        // Mark 1 is on node 1, and node 0 has halted exactly if node 1 has.
         // Marks and cells count from 1, so that what is at 0 in a list stands for none.
         push_within(&mut marks, 0);
         push_within(&mut marks, 1);
@@ -250,7 +255,7 @@ impl Marked {
         }
     }
 
-    /// Where token `s` stands. None if there is no such token.
+    /// Where token `s` stands. None if there is no such token: no node was given this mark, or its node has become another one.
     fn token(&self, s: u64) -> Option<Holder>
         ensures there { IfSome result (λ t. at self.now.nodes t.parent t.at (AtLeaf t.tip)) }
         ensures carries { IfSome result (λ t. Carries s t.tip) }
@@ -272,6 +277,7 @@ impl Marked {
         ensures carries { IfOk result (λ t. Carries s t.tip) }
         ensures refused { IfErr result (Lacks self.now (NoToken self.now.nodes s)) }
     {
+        // While a cancel is due no other entry is allowed, and Cancel is the first reason.
         if self.rest.has_cancels() {
             return Err(RuleFault::Cancel);
         }
@@ -293,6 +299,7 @@ impl Marked {
                 node,
                 scope,
             }),
+            // The tip is `Bears`: a holder has no other.
             _ => Err(RuleFault::Form),
         }
     }
@@ -315,7 +322,7 @@ impl Marked {
         }
     }
 
-    /// The value on which a token stands. None where it stands on anything else.
+    /// The value on which a token with this tip stands. None where it stands on anything else, and for a tip without a token.
     #[inline(always)]
     pub(crate) fn value_under(&self, program: &Program, tip: Tip) -> Option<Value>
         ensures lives { IfSome result (λ v. living_kind (AtLeaf tip) ≡ 1) }
@@ -339,6 +346,7 @@ impl Marked {
         ensures next { IfOk result (λ _. a ≡ length self.now.marks) }
         ensures refused { IfErr result (λ r. (r ≡ reason.Number) × (a ≡ length self.now.marks → ⊥)) }
     {
+        // `marks` has an item for mark 0 too, so its length is the next mark.
         if a == self.marks.len() as u64 {
             Ok(())
         } else {

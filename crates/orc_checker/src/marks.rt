@@ -58,6 +58,7 @@ impl Marked {
         reserve_numbered(&mut self.nodes, &mut self.flags, &mut self.marks, f, g).map_err(
             |_| RuleFault::Memory,
         )?;
+        // The new nodes are n, for the token on f, and n + 1, for that on g.
         let n = self.nodes.next_number();
         self.nodes.write_node(
             spot.at as usize,
@@ -91,6 +92,7 @@ impl Marked {
         reserve_numbered(&mut self.nodes, &mut self.flags, &mut self.marks, f, g).map_err(
             |_| RuleFault::Memory,
         )?;
+        // The new node is that of the token on f. A copy of g gets a node with each publication of f (`send`).
         let n = self.nodes.next_number();
         self.nodes.write_node(
             spot.at as usize,
@@ -123,6 +125,7 @@ impl Marked {
         reserve_numbered(&mut self.nodes, &mut self.flags, &mut self.marks, f, g).map_err(
             |_| RuleFault::Memory,
         )?;
+        // The new node is that of the token on f. g gets one when the right side starts (`right`).
         let n = self.nodes.next_number();
         self.nodes.write_node(
             spot.at as usize,

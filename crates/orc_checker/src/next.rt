@@ -51,7 +51,8 @@ pub enum Next {
     Wait,
 }
 
-// Adds the values of operands, which are `MOST_ARGUMENTS` at most; false where one of them has no value.
+// Adds the values of the operands to `args`, `MOST_ARGUMENTS` at most; it recurses once an operand. False where one of them has no value: the
+// arguments are of no use then.
 fn push_values(
     scopes: &[StoredScope],
     cells: &[Bound],
@@ -98,7 +99,8 @@ fn call_from(
     }
 }
 
-// What a token can do on a node of the program. None on a value, and on a call without a definition, which no checked program has.
+// What a token can do on a node of the program. None on a value, whose publication is `publication`'s matter, and on a call without a definition,
+// which no checked program has.
 fn move_from(
     program: &Program,
     scopes: &[StoredScope],
@@ -131,6 +133,7 @@ fn move_from(
     }
 }
 
+// The operand at place `i` of a call, from 0. None if the call has no more than `i` operands.
 fn nth_of(operands: &[Operand], i: usize) -> Option<Operand>
     ensures { IfSome result (λ o. slice_get operands.now i ≡ Some o) }
 {
@@ -140,7 +143,8 @@ fn nth_of(operands: &[Operand], i: usize) -> Option<Operand>
     }
 }
 
-// The operand of a node at a position: of a variable or a value at 0, of a call of a site at each.
+// The operand of a node at a position: of a variable or a value at 0, of a call of a site at each, counted from 0. None at any other position and for
+// any other node.
 fn operand_at(program: &Program, node: usize, position: usize) -> Option<Operand>
     ensures { IfSome result (IsOperandAt (code program.now node) position) }
 {
@@ -178,7 +182,7 @@ impl Marked {
         }
     }
 
-    // What a token on a value can do, by what takes its publication. None if its node is no part of the term.
+    // What a token at node `at` of the marked term, on this value, can do, by what takes its publication. None if the node is no part of the term.
     fn publication(&self, at: usize, value: Value) -> Option<Next>
         ensures { IfSome result (IsPublished self.now.nodes at value) }
     {

@@ -1,4 +1,5 @@
-//! The numbers that new entries must give out next, and the time.
+//! The numbers that new entries must give out next, and the time. The lists of marks and of cells have an item for number 0, which names nothing, so
+//! their lengths are the next numbers.
 
 ghost use Rattle.std.specs.Prelude.{◌≡◌, ◌+◌, length, slice_get};
 ghost use Rattle.orc_rules.specs.Journal.{Place};

@@ -66,6 +66,7 @@ impl Marked {
         ensures there { IfOk result (λ o. at self.now.nodes o.parent o.at (AtOne (IsEntered s o.node o.scope) o.left)) }
         ensures refused { IfErr result (Lacks self.now (NoOtherwise self.now.nodes s)) }
     {
+        // While a cancel is due no other entry is allowed, and Cancel is the first reason.
         if self.rest.has_cancels() {
             return Err(RuleFault::Cancel);
         }
@@ -94,6 +95,7 @@ impl Marked {
             },
         );
         drop_nodes(&mut self.nodes, &side);
+        // The otherwise hadn't halted. Its right side may have from the start, as a `stop` has.
         let halted = self.halts.at(otherwise.node as usize);
         settle(
             &self.nodes,

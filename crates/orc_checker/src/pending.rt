@@ -28,7 +28,8 @@ fn due_of(calls: &Vec<Kept>, call: u64) -> Option<u64>
     }
 }
 
-/// Whether a node waits for a call that is due at that time.
+/// Whether node `i` of the marked term waits for a call that is due at that time. False for a node without a call, or whose call is due at another
+/// time or never.
 fn waits_until(nodes: &Nodes, calls: &Vec<Kept>, i: usize, time: u64) -> bool
     ensures { Decides result (IsDueAt nodes.now.items calls.now.items i time) }
 {

@@ -41,6 +41,7 @@ pub(crate) fn reserve_scope(scopes: &mut Vec<StoredScope>) -> Result<(), AllocEr
     ensures room { IfOk result (λ _. vec_len scopes.new < vec_capacity scopes.new) }
     ensures number { IfOk result (λ _. vec_len scopes.new + 1 < 2 ^ 32) }
 {
+    // Scope 0 has no record, so the new scope's number is one more than there are records.
     fits(scopes.len() + 1)?;
     scopes.try_reserve(1)
 }
@@ -71,7 +72,7 @@ pub(crate) fn scope_count(scopes: &Vec<StoredScope>) -> u32
     scopes.len() as u32
 }
 
-/// A cell becomes a value or void.
+/// Writes what has become of cell `c`: a value or void. At another number than a cell's nothing changes.
 fn bind_cell(cells: &mut Vec<Bound>, c: u64, bound: Bound)
     ensures { cells.new.items ≡ slice_set cells.old.items c bound }
 {
@@ -86,6 +87,7 @@ impl Marked {
         ensures next { IfOk result (λ _. c ≡ length self.now.cells) }
         ensures refused { IfErr result (λ r. (r ≡ reason.Number) × (c ≡ length self.now.cells → ⊥)) }
     {
+        // `cells` has an item for cell 0 too, which is none, so its length is the next cell.
         if c == self.cells.len() as u64 {
             Ok(())
         } else {
@@ -120,6 +122,7 @@ impl Marked {
         reserve_numbered(&mut self.nodes, &mut self.flags, &mut self.marks, f, g).map_err(
             |_| RuleFault::Memory,
         )?;
+        // The new nodes are n, for the token on f, and n + 1, for that on g.
         let n = self.nodes.next_number();
         push_within(
             &mut self.scopes,
@@ -133,7 +136,7 @@ impl Marked {
             scope: scope_count(&self.scopes),
             ..spot
         };
-        // Until it is bound or lost it stands for itself.
+        // Until the cell is bound or lost its item is its own number.
         push_within(&mut self.cells, Bound::Cell(c));
         self.nodes.write_node(
             spot.at as usize,
@@ -163,7 +166,7 @@ impl Marked {
         Ok(())
     }
 
-    /// Whether `c` is a cell that isn't bound. The error is Mark: it isn't.
+    /// Tests that cell `c` is neither bound nor lost. The error is Mark: it is, or there is no such cell.
     fn unbound(&self, c: u64) -> Result<(), RuleFault>
         ensures open { IfOk result (λ _. slice_get self.now.cells c ≡ Some (IsCell c)) }
         ensures refused { IfErr result (λ r. (r ≡ reason.Mark) × (slice_get self.now.cells c ≡ Some (IsCell c) → ⊥)) }
@@ -207,6 +210,7 @@ impl Marked {
     {
         let bearer = self.bearer(program, s, v)?;
         self.unbound(c)?;
+        // A token's node is a part of the term, so the walk finds what takes its publication.
         let Some(taker) = way_up(&self.nodes, bearer.at as usize) else {
             return Err(RuleFault::Form);
         };
@@ -231,6 +235,7 @@ impl Marked {
             },
         );
         drop_nodes(&mut self.nodes, &side);
+        // With its token the right side hadn't halted, nor had the pruning. From now on the pruning has halted if its left side has.
         let halted = flag_at(&self.flags, left as usize);
         settle(
             &self.nodes,
@@ -244,7 +249,7 @@ impl Marked {
         Ok(())
     }
 
-    /// Where the pruning of a cell stands. None if there is no such pruning any more.
+    /// Where the pruning of cell `c` stands. None if the term has no such pruning, or none any more.
     pub(crate) fn find_pruning(&self, c: u64) -> Option<Pruning>
         ensures there { IfSome result (λ o. at self.now.nodes o.parent o.at (AtTwo (IsSide c) o.left o.right)) }
         ensures missing { IfNone result (NoPruning self.now.nodes c) }
@@ -265,6 +270,7 @@ impl Marked {
         ensures there { IfOk result (λ o. at self.now.nodes o.parent o.at (AtTwo (IsSide c) o.left o.right)) }
         ensures refused { IfErr result (Lacks self.now (NoPruning self.now.nodes c)) }
     {
+        // While a cancel is due no other entry is allowed, and Cancel is the first reason.
         if self.rest.has_cancels() {
             return Err(RuleFault::Cancel);
         }

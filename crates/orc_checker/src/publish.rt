@@ -23,6 +23,7 @@ impl Marked {
         ensures reason { IfErr result (λ r. (t : Table) → IsRightlyRefused program.now t (entry.Publish s v) self.old r) }
     {
         let bearer = self.bearer(program, s, v)?;
+        // A token's node is a part of the term, so the walk finds what takes its publication.
         let Some(taker) = way_up(&self.nodes, bearer.at as usize) else {
             return Err(RuleFault::Form);
         };
@@ -36,6 +37,7 @@ impl Marked {
                 parent: bearer.parent,
             },
         );
+        // Each otherwise on the way to the top loses its right side.
         rise(&mut self.nodes, bearer.at);
         settle(
             &self.nodes,

@@ -38,6 +38,7 @@ impl Marked {
             Some(Bound::Cell(cell)) => Param::Cell(cell),
             Some(Bound::Void) => Param::Void,
             None => match operand {
+                // Not reached: a value means itself in each scope.
                 Operand::Is(value) => Param::Is(value),
                 Operand::Name(name) => Param::Name(name),
             },

@@ -34,7 +34,7 @@ pub struct Rest {
     pub(crate) calls: Vec<Kept>,
     /// How often each call of a site that a script answers was made: the n-th one gets the script's n-th answer.
     pub(crate) counts: Counts,
-    /// In units of logical time.
+    /// The time now, in units of logical time.
     pub(crate) time: u64,
     /// The calls whose cancel is due, the least last, since that is the next one.
     pub(crate) to_cancel: Vec<u64>,
@@ -112,6 +112,7 @@ impl Rest {
         ensures refused { OnErr result (self.new ≡ self.old) }
         ensures why { IfErr result (λ r. r ≡ reason.Memory) }
     {
+        // The room comes first, so that no call is counted that can't be added.
         self.calls.try_reserve(1).map_err(|_| RuleFault::Memory)?;
         count(&mut self.counts, answers, site, args)?;
         push_within(&mut self.calls, Kept::new(called));
@@ -173,6 +174,7 @@ impl Rest {
     {
         match self.to_cancel.last() {
             Some(next) if *next == k => {}
+            // Another cancel is next, or none is due.
             _ => return Err(RuleFault::Cancel),
         }
         let _cancelled = self.to_cancel.pop();

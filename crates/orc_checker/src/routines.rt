@@ -33,7 +33,7 @@ pub(crate) fn definition(program: &Program, number: u32) -> Option<&Definition>
     }
 }
 
-/// Adds a scope. The error is Memory.
+/// Adds a scope. The error is Memory; the list is unchanged then.
 fn push_scope(scopes: &mut Vec<StoredScope>, scope: Scope) -> Result<(), RuleFault>
     ensures items { OnOk result (scopes.new.items ≡ scopes.old.items ++ scope ∷ []) }
     ensures why { IfErr result (λ r. r ≡ reason.Memory) }
@@ -59,7 +59,7 @@ fn extend_scopes(scopes: &mut Vec<StoredScope>, added: &Vec<StoredScope>) -> Res
     }
 }
 
-/// A scope's number in the bits in which the next scope keeps it. The error is Memory: it has more.
+/// A scope's number in the 32 bits in which the next scope keeps it. The error is Memory: the number needs more bits.
 fn number_of(scope: usize) -> Result<u32, RuleFault>
     ensures number { IfOk result (λ outer. outer ≡ scope) }
     ensures why { IfErr result (λ r. r ≡ reason.Memory) }
@@ -86,6 +86,7 @@ fn parameter_scopes(
     let mut added = Vec::new(alloc);
     // Scope 0 has no names: a body sees its parameters alone.
     let mut outer = 0;
+    // How many parameters have no scope yet: the first ones.
     let mut left = params.len();
     while left > 0 {
         left -= 1;
@@ -98,6 +99,7 @@ fn parameter_scopes(
             outer,
         };
         push_scope(&mut added, inner)?;
+        // Scope n is the n-th record of `scopes` with `added` behind them.
         outer = number_of(scopes.len() + added.len())?;
     }
     Ok((added, outer))
@@ -128,8 +130,10 @@ impl Marked {
             operands,
             spot.scope as usize,
         )?;
+        // The token keeps the body in 32 bits.
         fits(called.body).map_err(|_| RuleFault::Memory)?;
         self.marks.try_reserve(1).map_err(|_| RuleFault::Memory)?;
+        // The last step that can fail: it changes nothing then.
         extend_scopes(&mut self.scopes, &added)?;
         self.nodes.write_node(
             spot.at as usize,

@@ -46,6 +46,7 @@ impl Marked {
         // A law that the prover is shown; nothing runs.
         program_is_source();
         let pending = self.find_call(call)?;
+        // Otherwise the table says never.
         let Found::After(answer, _) = pending.called.found else {
             return None;
         };

@@ -26,7 +26,7 @@ use orc_term::arena::{Kind, Node, Tip};
 use orc_term::flags::settle;
 use orc_term::room::{push_within, reserve};
 
-/// A call that pends: its node, the one above it, and what is known of it.
+/// A call that pends: its node in the marked term, the one above it, and what is kept of the call.
 #[derive(Clone, Copy)]
 pub(crate) struct Pending {
     pub at: u32,
@@ -75,6 +75,7 @@ impl Marked {
         // If the next line is refused the note stays, and does no harm: `next_due` drops notes of nodes that don't wait.
         self.due.note(due_time(called.found, called.at), spot.at)?;
         self.rest.add(called, answers, site, args)?;
+        // No flag changes: neither the token on the call nor the call that pends has halted.
         self.nodes.write_node(
             spot.at as usize,
             Node {
@@ -90,6 +91,7 @@ impl Marked {
         ensures next { IfOk result (λ _. k ≡ suc (length self.now.rest.calls)) }
         ensures refused { IfErr result (λ r. (r ≡ reason.Number) × (k ≡ suc (length self.now.rest.calls) → ⊥)) }
     {
+        // Calls count from 1, so call k is the next one after k - 1 calls.
         if k != 0 && k - 1 == self.rest.calls_made() as u64 {
             Ok(())
         } else {
@@ -97,7 +99,7 @@ impl Marked {
         }
     }
 
-    /// Where call `k` pends. None if it doesn't.
+    /// Where call `k` pends. None if there was no such call, or it has returned or been dropped with a side.
     pub(crate) fn find_call(&self, k: u64) -> Option<Pending>
         ensures there { IfSome result (λ w. at self.now.nodes w.parent w.at (AtLeaf (Waits k))) }
         ensures call { IfSome result (λ w. IsCall self.now.rest k w.called) }
@@ -122,6 +124,7 @@ impl Marked {
         ensures call { IfOk result (λ w. IsCall self.now.rest k w.called) }
         ensures refused { IfErr result (Lacks self.now (NoCall self.now.nodes k)) }
     {
+        // While a cancel is due no other entry is allowed, and Cancel is the first reason.
         if self.rest.has_cancels() {
             return Err(RuleFault::Cancel);
         }
@@ -147,6 +150,7 @@ impl Marked {
         self.expect_mark(a)?;
         is_due_now(pending.called, Answer::Value(v), self.rest.time())?;
         reserve(&mut self.nodes, &mut self.flags, &mut self.marks).map_err(|_| RuleFault::Memory)?;
+        // No flag changes: neither the call that pends nor a token on a value has halted.
         self.nodes.wake(
             pending.at,
             Node {

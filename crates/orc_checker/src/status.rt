@@ -17,6 +17,7 @@ impl Marked {
     pub fn has_halted(&self) -> bool
         ensures { (x : Context) (l : Listing) (p : Place) → Spells x (code l) self.now p → result ≡ has_halted (erase p.marked) }
     {
+        // Node 0, above the whole term, has halted exactly if the term has.
         flag_at(&self.flags, 0)
     }
 

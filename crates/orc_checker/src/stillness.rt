@@ -1,4 +1,4 @@
-//! Which tokens of a marked term can move.
+//! Which tokens of a marked term can move: use a rule of Orc. Moves of marks (`end`, `fork`, `seq`, `other`) use none.
 //!
 //! A token may stand on a node of the program in whose parts a rule can be used, though they have no tokens of their own yet: `(1 | f()) >x> g` can
 //! move since `1` can. So a question about a node goes down to its parts. It doesn't recur: a part has a lower number than the node, so a loop from
@@ -36,7 +36,7 @@ fn is_ready(scopes: &[StoredScope], cells: &[Bound], operand: Operand, scope: us
     }
 }
 
-/// Whether all operands are values in a scope.
+/// Whether all operands are values in a scope. It recurses once an operand, `MOST_ARGUMENTS` times at most.
 fn are_values(scopes: &[StoredScope], cells: &[Bound], operands: &[Operand], scope: usize) -> bool
     ensures { AreOrdered scopes.now → result ≡ is_some (values_of (params_in cells.now scopes.now scope operands.now)) }
 {
@@ -78,6 +78,7 @@ fn wakes(
         TermNode::Site(_, list) => is_callable(scopes, cells, program.operands(list), scope),
         TermNode::Call(number, _) => match definition(program, number) {
             Some(_) => true,
+            // No checked program calls a definition that it doesn't have.
             None => false,
         },
         TermNode::Par(f, g) => {
@@ -115,7 +116,7 @@ fn can_term_move(
     ensures moves { AreHalts (code program.now) halts.now.items → AreOrdered scopes.now → result ≡ term_moves (definitions program.now) (code program.now) cells.now scopes.now scope node }
     ensures len { length active.new.items ≡ length active.old.items }
 {
-    // Most tokens that can't move wait on these, whose parts needn't be looked at.
+    // An operand and a call of a site have no parts, so the answer needs no flags. Most tokens that can't move stand on one of these.
     match program.node(node) {
         TermNode::Operand(operand) => return is_ready(scopes, cells, operand, scope),
         TermNode::Site(_, list) => {
@@ -125,13 +126,14 @@ fn can_term_move(
     }
     // A law that the prover is shown; nothing runs.
     program_is_source();
+    // Takes back the flags of an earlier question.
     for i in 0..node {
         write_flag(active, i, false);
     }
     if wakes(program, halts, scopes, cells, active, node, scope) {
         return true;
     }
-    // Parts have lower numbers, so each has its flag before the loop gets to it.
+    // `above` goes down: the nodes from it on have been looked at. Parts have lower numbers, so each has its flag before the loop gets to it.
     let mut above = node;
     while above > 0 {
         above -= 1;
@@ -167,6 +169,7 @@ fn can_token_move(
             node as usize,
             scope as usize,
         ),
+        // The value can be published.
         Kind::Leaf(Tip::Bears(_, _)) => true,
         _ => false,
     }

@@ -28,6 +28,7 @@ impl Marked {
         let Some(due) = self.rest.next_due(&self.nodes, &mut self.due) else {
             return Err(RuleFault::Time);
         };
+        // A call that is due now returns before the time goes on.
         if due != t || due <= self.rest.time() {
             return Err(RuleFault::Time);
         }

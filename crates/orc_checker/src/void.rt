@@ -32,7 +32,7 @@ fn is_void(scopes: &[StoredScope], cells: &[Bound], operand: Operand, scope: usi
     }
 }
 
-/// Whether one of the operands is void in a scope.
+/// Whether one of the operands is void in a scope. It recurses once an operand, `MOST_ARGUMENTS` times at most.
 pub(crate) fn has_void(
     scopes: &[StoredScope],
     cells: &[Bound],
