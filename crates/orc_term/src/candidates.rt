@@ -16,6 +16,7 @@ use std::marker::Model;
 pub struct Candidates {
     /// In the order in which they were added.
     places: VecDeque<u32>,
+    /// Whether memory for a place was refused. Then all nodes are candidates, whatever `places` has.
     all: bool,
 }
 
@@ -63,7 +64,7 @@ fn has_ended(nodes: &Nodes, flags: &Vec<bool>, place: usize) -> bool
     is_set(flags, place) && is_side_at(nodes, place)
 }
 
-/// A side that has halted, looked for at all places.
+/// The least node that is a side and has halted, looked for among all nodes. None if there is none.
 fn any_ended(nodes: &Nodes, flags: &Vec<bool>) -> Option<usize>
     ensures { HasEnded nodes.now.items flags.now.items result }
 {

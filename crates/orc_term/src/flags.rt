@@ -1,4 +1,5 @@
-//! Flags of the nodes that have halted, by their numbers. A flag that is set stays set.
+//! Flags of the nodes that have halted, by their numbers. A flag that is set stays set. Node 0, above the whole term, has a flag too, and is its own
+//! parent.
 
 ghost use Rattle.std.specs.Prelude.{◌≡◌, vec_len, [], ◌<◌, ◌≤◌, ◌∷◌, ◌++◌, ℕ, ◌&&◌, ◌⊎◌, true, false, List, Bool, length, slice_set, vec_capacity, IfSome, IfNone, slice_index_or};
 ghost use Rattle.orc_term.specs.Settling.{flag, inner_flag, HaltsNext, EndsAt, Settles};
@@ -37,9 +38,11 @@ fn inner_halts(flags: &Vec<bool>, kind: Kind) -> bool
     ensures { result ≡ inner_flag flags.now.items kind }
 {
     match kind {
+        // A leaf has no part by which it could halt.
         Kind::Leaf(_) => false,
         // Once its left side has halted, its right side starts in its place.
         Kind::One(Single::Entered(_, _, _), _) => false,
+        // A `>x>` halts with its left side, and a node that means just its part with that.
         Kind::One(_, part) => flag_at(flags, part as usize),
         Kind::Two(_, left, right) => {
             flag_at(flags, left as usize) && flag_at(flags, right as usize)
@@ -54,7 +57,7 @@ pub fn both(left: bool, right: bool) -> bool
     left && right
 }
 
-/// The node above, if its flag isn't set yet and it has halted by the flags of its parts.
+/// The node above, if its flag isn't set yet and it has halted by the flags of its parts. None if nothing above halts by this.
 fn halts_next(nodes: &Nodes, flags: &Vec<bool>, place: u32) -> Option<u32>
     ensures next { IfSome result (λ p. HaltsNext nodes.now.items flags.now.items place p) }
     ensures last { IfNone result (EndsAt nodes.now.items flags.now.items place) }
@@ -118,6 +121,7 @@ pub fn settle(
     if halted {
         set_flag(nodes, flags, candidates, from);
         let mut place = from;
+        // Each turn sets a flag that wasn't set, so the loop ends.
         while let Some(above) = halts_next(nodes, flags, place) {
             set_flag(nodes, flags, candidates, above);
             place = above;

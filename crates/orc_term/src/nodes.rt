@@ -23,7 +23,7 @@ pub struct Nodes {
     /// The numbers of all *restless* nodes, those with a token, which can move now or later, and of some without. The question whether a token can
     /// move looks at these alone, so that its cost doesn't grow with what has ended or waits for a call.
     restless: Vec<u32>,
-    /// They bound how deep the nodes nest.
+    /// Numbers that grow downwards. They bound how deep the nodes nest (`ranks.rt`).
     ranks: Ranks,
 }
 
@@ -78,6 +78,7 @@ fn lets_through(kind: Kind, part: u32) -> bool
         Kind::Two(Double::Both, _, _) => true,
         // What the right side publishes is bound to the cell.
         Kind::Two(Double::Side(_), left, _) => left == part,
+        // A `>x>` takes what its part publishes, an otherwise loses its right side by it, and a node without parts has none that publishes.
         _ => false,
     }
 }
@@ -97,6 +98,7 @@ fn keep_restless(items: &Vec<Slot>, list: &mut Vec<u32>)
     ensures { AreListed items.now.items list.old.items → AreListed items.now.items list.new.items }
 {
     let mut next = 0;
+    // Not a `for`: the list shrinks, and its last number comes to the place of one that is taken out.
     while next < list.len() {
         if is_restless(item(items, list[next] as usize).kind) {
             next += 1;
@@ -118,13 +120,14 @@ fn reserve_listed(items: &Vec<Slot>, list: &mut Vec<u32>) -> Result<(), AllocErr
     keep_restless(items, list);
     let len = list.len();
     if len < list.capacity() / 2 {
-        // So at least two of the room are left.
+        // Less than half of the room is taken, so two more fit.
         return Ok(());
     }
+    // The room doubles; a short list gets the two that are asked for.
     list.try_reserve(len.max(2))
 }
 
-// The hint of that number, the number itself where there is none.
+// The hint of node `i`; `i` itself where there is no such node.
 fn hint_at(hints: &Vec<u32>, i: usize) -> usize
     ensures { result ≡ slice_index_or hints.now.items i i }
 {
@@ -134,7 +137,7 @@ fn hint_at(hints: &Vec<u32>, i: usize) -> usize
     }
 }
 
-// The hint of that number as it is stored, in 32 bits; the number itself where there is none.
+// `hint_at` in the 32 bits in which a hint is stored.
 fn stored_hint(hints: &Vec<u32>, i: u32) -> u32
     ensures { result ≡ slice_index_or hints.now.items i i }
 {
@@ -144,7 +147,7 @@ fn stored_hint(hints: &Vec<u32>, i: u32) -> u32
     }
 }
 
-// Writes a hint that is there.
+// Writes the hint of node `i`. Where there is no such node nothing changes.
 fn set_hint(hints: &mut Vec<u32>, i: u32, hint: u32)
     ensures items { hints.new.items ≡ slice_set hints.old.items i hint }
     ensures len { vec_len hints.new ≡ vec_len hints.old }
@@ -171,6 +174,7 @@ fn relinked(kind: Kind, from: u32, to: u32) -> Kind
     ensures { result ≡ relink kind from to }
 {
     match kind {
+        // Not reached: a leaf has no part.
         Kind::Leaf(_) => kind,
         Kind::One(single, _) => Kind::One(single, to),
         Kind::Two(double, left, right) => {
@@ -184,7 +188,7 @@ fn relinked(kind: Kind, from: u32, to: u32) -> Kind
 }
 
 impl Nodes {
-    /// No nodes, with room for two. The error is refused memory.
+    /// No nodes, with room for two: a marked term begins with node 0 and its root. The error is refused memory.
     pub fn new(alloc: Global) -> Result<Nodes, AllocError>
         ensures items { IfOk result (λ n. n.items ≡ []) }
         ensures room { IfOk result (λ n. 2 ≤ n.room) }
@@ -245,7 +249,7 @@ impl Nodes {
         &self.items
     }
 
-    /// The node of that number.
+    /// The node of that number. None if there is no such node.
     #[inline(always)]
     pub fn get(&self, i: usize) -> Option<Node>
         ensures { result ≡ slice_get self.now.items i }
@@ -344,7 +348,8 @@ impl Nodes {
         push_within(&mut self.restless, number);
     }
 
-    /// Replaces a node. The new one has the same parent, lets through all that the old one let through, and has a token only if that had one.
+    /// Replaces a node. The new one has the same parent, lets through all that the old one let through, and has a token only if that had one: so the
+    /// hints and the list of restless nodes stay right.
     #[inline(always)]
     pub fn write_node(&mut self, i: usize, node: Node)
         requires { CanBecome self.old.items i node }
@@ -368,8 +373,8 @@ impl Nodes {
         push_within(&mut self.restless, i);
     }
 
-    /// Puts the `|` of number `both`, whose left part is node `i`, in the place of node `i`, and node `i` with all that is below it under the `|`. No
-    /// hint changes, since a `|` lets everything through.
+    /// Puts the `|` of number `both`, whose left part is node `i` and whose parent is that of node `i`, in the place of node `i`, and node `i` with
+    /// all that is below it under the `|`. No hint changes, since a `|` lets everything through.
     #[inline(always)]
     pub fn lift(&mut self, i: u32, both: u32)
         requires { IsBeside self.old.items i both }

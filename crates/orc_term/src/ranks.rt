@@ -27,7 +27,7 @@ pub struct Ranks {
 // How many numbers are left free above a node that comes below another, so that the first `|` that a send puts there costs nothing.
 const FREE: u32 = 1;
 
-// The most `|` above a node that are counted: no checked term has more levels.
+// The most `|` above a node that are counted: `MOST_LEVELS`, since no checked term has more levels.
 const LONGEST_QUEUE: u32 = 10_000;
 
 // How much greater a new node's rank is than that of the node above it. The only new node with two parts is the `|` of a send, which takes the free
@@ -41,6 +41,7 @@ fn step_below(kind: Kind) -> u32
     }
 }
 
+// The rank of node `i`; 0 where there is no such node.
 #[inline(always)]
 fn rank_at(numbers: &Vec<u32>, i: usize) -> u32
     ensures { result ≡ rank numbers.now.items i }
@@ -51,6 +52,7 @@ fn rank_at(numbers: &Vec<u32>, i: usize) -> u32
     }
 }
 
+// Writes the rank of node `i`. Where there is no such node nothing changes.
 fn set_rank(numbers: &mut Vec<u32>, i: usize, rank: u32)
     ensures { numbers.new.items ≡ slice_set numbers.old.items i rank }
 {
@@ -217,6 +219,7 @@ impl Ranks {
                 self.most = self.most.max(rank);
                 self.are_kept = true;
             }
+            // Ranks aren't kept from now on.
             Err(_) => {}
         }
     }
@@ -288,6 +291,7 @@ impl Ranks {
         if part == above {
             return false;
         }
+        // The part's rank has to be greater than this one.
         let low = rank_at(&self.numbers, above);
         if low < rank_at(&self.numbers, part) {
             return true;
@@ -356,9 +360,11 @@ impl Ranks {
         let mut late = Vec::new(*self.numbers.allocator());
         match push_all(&mut self.numbers, &mut late, items.len()) {
             Ok(()) => {
+                // No gap: node 0 is no part, and each step is 1.
                 let gap = Gap { below: 0, step: 1 };
                 self.are_kept = self.settle(items, late, gap);
             }
+            // Ranks aren't kept from now on.
             Err(_) => {}
         }
     }

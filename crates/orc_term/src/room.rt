@@ -42,7 +42,8 @@ pub fn fits(number: usize) -> Result<(), AllocError>
     Ok(())
 }
 
-/// Reserves what `reserve` does, for nodes that name the two numbers. The error is refused memory, or a number of over 32 bits.
+/// Reserves what `reserve` does, for an entry whose new nodes keep `first` and `second`, numbers of nodes of the program. The error is refused
+/// memory, or a number of over 32 bits.
 pub fn reserve_numbered(
     nodes: &mut Nodes,
     flags: &mut Vec<bool>,

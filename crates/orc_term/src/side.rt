@@ -81,6 +81,7 @@ pub fn drop_nodes(nodes: &mut Nodes, found: &Vec<u32>)
 {
     for next in 0..found.len() {
         let place = found[next] as usize;
+        // The parent stays: hints may lead past a node that is gone.
         let parent = nodes.node_at(place).parent;
         nodes.write_node(
             place,

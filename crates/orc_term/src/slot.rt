@@ -6,8 +6,8 @@ use crate::arena::{Double, Kind, Node, Single, Tip};
 use orc_rules::value::Value;
 use std::marker::Model;
 
-// A node in one enum, so that no kind takes more than 24 bytes: first the parent, then the fields that `arena` gives the kind. `Number`, `Truth` and
-// `Signal` are `Tip::Bears` with such a value.
+// A node in one enum, so that no kind takes more than 24 bytes: first the parent, then the fields that `arena` gives the kind, and last the numbers
+// of the parts. `Number`, `Truth` and `Signal` are `Tip::Bears` with such a value.
 #[derive(Clone, Copy)]
 enum Flat {
     Gone(u32),

@@ -56,7 +56,7 @@ pub fn way_up(nodes: &Nodes, from: usize) -> Option<Taker>
     ensures there { IfSome result (TakesThere nodes.now.items) }
 {
     let mut place = from;
-    // Each step goes up at least one node, so that no term needs more.
+    // Each step goes up at least one node, so a walk that starts in the term has returned before the loop ends.
     for _steps in 0..nodes.len() {
         place = nodes.hint(place);
         if place == 0 {
@@ -82,7 +82,9 @@ pub fn rise(nodes: &mut Nodes, from: u32)
     ensures len { length nodes.new.items ≡ length nodes.old.items }
 {
     let mut place = from;
+    // The steps are those of `way_up`, and so is their bound.
     for _steps in 0..nodes.len() {
+        // Up to this node nothing takes the publication or is changed by it.
         let top = nodes.hint(place as usize);
         if top == 0 {
             return;
@@ -92,6 +94,7 @@ pub fn rise(nodes: &mut Nodes, from: u32)
         match taker_here(above.kind, top, parent) {
             Some(_) => return,
             None => {
+                // Nothing takes it here: the node above lets it through, or is an otherwise.
                 nodes.write_node(parent as usize, passed(above));
                 nodes.shorten(place);
                 place = parent;
