@@ -22,7 +22,7 @@ use std::marker::Model;
 /// How many entries are kept: an explanation shows no more.
 const KEPT: usize = 4;
 
-/// The first entries that are allowed, four at most, and how many there are.
+/// The first entries that are allowed, `KEPT` at most, and how many there are with those that aren't kept.
 #[derive(Drop)]
 pub struct Allowed {
     first: Vec<Entry>,
@@ -38,7 +38,8 @@ impl Model for Allowed {
     ghost view = { λ a. a.first.items };
 }
 
-// Those entries that the rules take here, tested one by one as the checker does. The error is refused memory.
+// Those of `entries` that the rules allow at this place. The caller gives allowed ones only, but its contract rests on this test alone. The error is
+// refused memory.
 fn taken(
     alloc: Global,
     marked: &mut Marked,
@@ -94,6 +95,7 @@ fn is_free(marked: &Marked, program: &Program, kind: Kind) -> bool {
             TermNode::Site(_, list) => {
                 is_callable(marked, program.operands(list), scope as usize)
             }
+            // On any other node the token can go on alone: by `end`, `def`, `fork`, `seq`, `open` or `other`.
             _ => true,
         },
         _ => false,
@@ -183,6 +185,7 @@ impl Allowed {
                 Some((answer, time)) if time == marked.now() => {
                     self.add(return_entry(marked, call, answer))?;
                 }
+                // It doesn't pend, or isn't due now.
                 _ => {}
             }
         }
@@ -201,7 +204,7 @@ impl Allowed {
         Ok(())
     }
 
-    /// The first of them, four at most.
+    /// The first entries that are allowed, `KEPT` at most.
     pub fn entries(&self) -> &[Entry]
         ensures { result.now ≡ self.now }
     {

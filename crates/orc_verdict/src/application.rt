@@ -89,6 +89,7 @@ pub fn apply(
 {
     meets_and_leads();
     if stays_shallow(heights, marked, entry) {
+        // The `match` passes the result on, and gives the proof its two cases.
         return match apply_at_any_depth(alloc, marked, program, answers, entry) {
             Ok(label) => Ok(label),
             Err(why) => Err(why),
@@ -98,6 +99,7 @@ pub fn apply(
         // Memory for the copy is refused, but the entry may be refused for another reason first.
         return Err(reason_or_memory(marked, program, answers, entry));
     };
+    // If the copy refuses the entry, or becomes too deep, `marked` stays as it was.
     let label = apply_at_any_depth(alloc, &mut tried, program, answers, entry)?;
     match depth_of(alloc, heights, &tried) {
         Ok(levels) => {

@@ -20,7 +20,7 @@ use orc_term::arena::{Kind, Single, Tip};
 use orc_term::slot::Slot;
 use std::alloc::{AllocError, Global};
 
-// A node's kind, gone where there is none.
+// The kind of node `i`; that of a node which is gone where there is no such node.
 fn kind_of(nodes: &[Slot], i: usize) -> Kind
     ensures { result ≡ kind_at nodes.now i }
 {
@@ -66,7 +66,8 @@ fn sum(a: usize, b: usize) -> Result<usize, AllocError>
     }
 }
 
-// Adds the parts of a node to the list of those to look at, with the levels above them. The error is refused memory.
+// Adds the parts of a node to `left`, the list of the nodes that are left to look at. Each is added with `above`, the levels above it. The error is
+// refused memory.
 fn push_parts(left: &mut Vec<(usize, usize)>, kind: Kind, above: usize) -> Result<(), AllocError>
     ensures { OnOk result (left.new.items ≡ left.old.items ++ with_levels above (parts_of kind)) }
 {
@@ -90,6 +91,7 @@ pub fn depth_of(alloc: Global, heights: &Heights, marked: &Marked) -> Result<usi
     // What is left to look at, each node with the levels above it.
     let mut left = Vec::new(alloc);
     left.push((0, 0))?;
+    // Each turn looks at one node of the term, and the turn after the last finds nothing left.
     for _step in 0..=nodes.len() {
         let Some((node, above)) = left.pop() else {
             return Ok(deepest);
@@ -99,7 +101,7 @@ pub fn depth_of(alloc: Global, heights: &Heights, marked: &Marked) -> Result<usi
         deepest = deepest.max(sum(above, own_levels(heights, kind))?);
         push_parts(&mut left, kind, above)?;
     }
-    // The loop has returned before, since each node is in the term at most once.
+    // Not reached: each node is in the term at most once.
     Err(AllocError)
 }
 
@@ -115,7 +117,7 @@ pub(crate) fn most_depth(marked: &Marked, most: usize) -> Option<usize>
     }
 }
 
-// That bound, if a checked term may have as many levels.
+// The bound of `most_depth`, if a checked term may have as many levels. None if it is over `MOST_LEVELS` or isn't known.
 fn most_allowed(marked: &Marked, most: usize) -> Option<usize>
     ensures { IfSome result (λ d. IsAllowed marked.now most d) }
 {

@@ -32,6 +32,7 @@ fn name_of(kind: Kind) -> Option<Name>
         Kind::Leaf(Tip::Waits(k)) => Some(Name::Call(k)),
         Kind::One(Single::Entered(s, _, _), _) => Some(Name::Mark(s as u64)),
         Kind::Two(Double::Side(c), _, _) => Some(Name::Cell(c)),
+        // `>x>`, `|`, a node that means just its part, and a leaf without a token and a call.
         _ => None,
     }
 }
@@ -85,7 +86,7 @@ fn part_at(nodes: &[Slot], name: Name, at: usize) -> Option<Part>
     }
 }
 
-/// The first node that has the name. None if none has it.
+/// The first node that has the name. None if none has it. It looks at each node of the marked term.
 pub(crate) fn find(marked: &Marked, name: Name) -> Option<Part>
     ensures has { IfSome result (λ f. Has marked.now.nodes name f) }
     ensures none { IfNone result (HasNone marked.now.nodes name) }

@@ -27,7 +27,7 @@ impl Model for Heights {
     ghost invariant = { λ h. AreAtMost h.levels.items h.most };
 }
 
-// The levels of that node, 1 where there is none.
+// The levels of the term of node `i` of the program; 1 where there is no such node.
 fn level_at(levels: &Vec<usize>, i: usize) -> usize
     ensures { result ≡ height levels.now.items i }
 {
@@ -56,6 +56,7 @@ fn level_of(levels: &Vec<usize>, node: TermNode) -> usize
         TermNode::Seq(f, _, g) => one_more(level_at(levels, f), level_at(levels, g)),
         TermNode::Prune(f, _, g) => one_more(level_at(levels, f), level_at(levels, g)),
         TermNode::Other(f, g) => one_more(level_at(levels, f), level_at(levels, g)),
+        // `stop`, an operand or a call: a term without parts.
         _ => 1,
     }
 }

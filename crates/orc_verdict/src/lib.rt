@@ -1,8 +1,11 @@
 //! The verdict on a whole journal; why an entry is refused, exactly, and how deep a marked term nests.
 //!
 //! `orc_checker` applies an entry quickly and refuses it for one of its reasons, not always the first. This crate finds the first one when it has to,
-//! by a look at all nodes. A *place* is the marked term with its numbers, its calls and the time, after the first entries of a journal.
-//! A question that takes `&mut Marked` shortens indexes of the term, and leaves the term itself as it is.
+//! by a look at all nodes. A *place* is the marked term with its numbers, its calls and the time, after the first entries of a journal. A question
+//! that takes `&mut Marked` shortens indexes of the term, and leaves the term itself as it is.
+//!
+//! In entries s, a, b are marks, c is a cell, k a call, v a value, t a time, as in docs/orc.md, *Journals*. `most` is a bound for the levels of each
+//! of the program's terms.
 #![tactic(auto)]
 
 mod allowed;

@@ -77,7 +77,7 @@ pub fn check_lines<R: Read + Drop>(
         Ok(lines) => lines,
         Err(fault) => return Err(TextFault::from(fault)),
     };
-    // Memory is refused before the first entry.
+    // The journal's fault where memory is refused before its first entry.
     let none = CheckFault {
         at: 0,
         why: RuleFault::Memory,

@@ -10,11 +10,13 @@ use orc_rules::entry::Entry;
 /// The numbers that an entry gives to what it makes, in the order of its line. Each is None if the entry makes no such thing.
 #[derive(Clone, Copy, Debug, PartialEq, Eq)]
 pub struct Numbers {
+    /// The cell that an `open` makes.
     pub cell: Option<u64>,
+    /// The call that a `call` makes.
     pub call: Option<u64>,
-    /// The mark of a new token.
+    /// The mark of a new token: of the left one where there are two.
     pub mark: Option<u64>,
-    /// The mark of a second new token.
+    /// The mark of the right one of two new tokens.
     pub second: Option<u64>,
 }
 

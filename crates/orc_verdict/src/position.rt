@@ -1,4 +1,4 @@
-//! What a token stands on, and which entries fit it.
+//! What a token stands on, and which entries fit it. A function that recurses here does so once an argument, `MOST_ARGUMENTS` times at most.
 
 ghost use Rattle.std.specs.Prelude.{◌≡◌, List, Option, Some, None, map, is_some, slice_get};
 ghost use Rattle.orc_rules.specs.Nodes.{code, definitions, param_of};
@@ -39,7 +39,7 @@ pub(crate) enum Standing {
     Other,
 }
 
-/// Whether the operands are these values in a scope.
+/// Whether the operands are these values in a scope, as many and in this order.
 fn are_these(marked: &Marked, operands: &[Operand], args: &[Value], scope: usize) -> bool
     ensures { AreOrdered marked.now.scopes → result ≡ these (map (close_param (env_of marked.now.cells marked.now.scopes scope)) (map param_of operands.now)) args.now }
 {
@@ -228,7 +228,8 @@ fn on_call(site: u32, standing: Standing) -> bool
     }
 }
 
-/// Whether an entry of a token fits what the token stands on and what takes its publications.
+/// Whether an entry of a token fits what the token stands on and what takes its publications; `taker` is None where the token's node is no part of
+/// the term. True of an entry that names no token.
 pub(crate) fn fits_standing(entry: &Entry, standing: Standing, taker: Option<Taker>) -> bool
     ensures { result ≡ fits_as entry.now standing taker }
 {
@@ -244,6 +245,7 @@ pub(crate) fn fits_standing(entry: &Entry, standing: Standing, taker: Option<Tak
         Entry::Call(_, _, site, _) => on_call(*site, standing),
         Entry::Bind(_, c, v) => on_value(*v, standing) && goes_to(*c, taker),
         Entry::Publish(_, v) => on_value(*v, standing) && goes_out(taker),
+        // `return`, `lost`, `right`, `tick` and `cancel` name no token.
         _ => true,
     }
 }

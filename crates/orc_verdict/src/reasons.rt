@@ -24,11 +24,17 @@ use orc_term::arena::Kind;
 /// What an entry has to find in the term, by its number: a token by its mark, a pending call, a cell, or an otherwise by its mark.
 #[derive(Clone, Copy)]
 enum Asked {
+    /// Any entry of a token except `bind`.
     Token(u64),
+    /// A return.
     Call(u64),
+    /// `lost`.
     Cell(u64),
+    /// `bind`: its token, and the cell that it binds.
     TokenAndCell(u64, u64),
+    /// `right`.
     Otherwise(u64),
+    /// A tick or a cancel.
     Nothing,
 }
 
@@ -58,7 +64,7 @@ fn asks_for(entry: &Entry) -> Asked
     }
 }
 
-/// Whether token `s` is there.
+/// Whether token `s` is there. A mark is that of a token, whose node has no parts, or the number of an otherwise, whose node has one.
 fn has_token(marked: &Marked, s: u64) -> bool
     ensures { Says marked.now result (λ x p. HasToken p s) }
 {
@@ -68,7 +74,7 @@ fn has_token(marked: &Marked, s: u64) -> bool
     }
 }
 
-/// Whether otherwise `s` is there.
+/// Whether otherwise `s` is there; false where a token has the mark.
 fn has_otherwise(marked: &Marked, s: u64) -> bool
     ensures { Says marked.now result (λ x p. HasOther p s) }
 {
@@ -138,7 +144,7 @@ fn are_both(first: bool, second: bool) -> bool
     first && second
 }
 
-/// Whether what the entry names is there.
+/// Whether what the entry names is there: its token, call, cell or otherwise.
 fn is_there(marked: &Marked, program: &Program, answers: &Answers, entry: &Entry) -> bool
     ensures { Tests program.now answers.now entry.now marked.now reason.Mark result }
 {
@@ -166,6 +172,7 @@ fn fits(marked: &Marked, program: &Program, answers: &Answers, entry: &Entry) ->
             let standing = standing_of(marked, program, args_named(entry), part.kind);
             fits_standing(entry, standing, marked.taker(part.at))
         }
+        // No such token, for which `is_there` has refused the entry before.
         None => false,
     }
 }
@@ -196,7 +203,7 @@ fn are_next(entry: &Entry, mark: u64, call: u64, cell: u64) -> bool
     }
 }
 
-/// Whether the new numbers are the next ones.
+/// Whether the new numbers of the entry are the next ones. True of an entry without new numbers.
 fn is_counted(marked: &Marked, program: &Program, answers: &Answers, entry: &Entry) -> bool
     ensures { Tests program.now answers.now entry.now marked.now reason.Number result }
 {
@@ -219,7 +226,7 @@ fn answer_named(entry: &Entry) -> Option<(u64, Answer)>
     }
 }
 
-/// Whether a return has the table's answer.
+/// Whether a return has the table's answer. True of any other entry.
 fn is_answered(marked: &Marked, program: &Program, answers: &Answers, entry: &Entry) -> bool
     ensures { Tests program.now answers.now entry.now marked.now reason.Answer result }
 {
@@ -240,7 +247,7 @@ fn tick_named(entry: &Entry) -> Option<u64>
     }
 }
 
-/// Whether a return stands at its due time, and a tick is allowed.
+/// Whether a return stands at its due time, or a tick is allowed. True of any other entry.
 fn is_on_time(marked: &mut Marked, program: &Program, answers: &Answers, entry: &Entry) -> bool
     ensures time { Tests program.now answers.now entry.now marked.old reason.Time result }
     ensures same { marked.new ≡ marked.old }
@@ -255,7 +262,7 @@ fn is_on_time(marked: &mut Marked, program: &Program, answers: &Answers, entry: 
     }
 }
 
-/// Whether the right side of a pruning has halted, by its node.
+/// Whether the right part of a node of this kind has halted, which is the right side of a pruning. False for a node without two parts.
 fn right_has_halted(marked: &Marked, kind: Kind) -> bool
     ensures { result ≡ right_flag marked.now.flags kind }
 {
@@ -265,7 +272,7 @@ fn right_has_halted(marked: &Marked, kind: Kind) -> bool
     }
 }
 
-/// Whether the left side of an otherwise has halted, by its node.
+/// Whether the part of a node of this kind has halted, which is the left side of an otherwise. False for a node with no part or two.
 fn left_has_halted(marked: &Marked, kind: Kind) -> bool
     ensures { result ≡ left_flag marked.now.flags kind }
 {
@@ -275,7 +282,7 @@ fn left_has_halted(marked: &Marked, kind: Kind) -> bool
     }
 }
 
-/// Whether the right side of cell `c` has halted.
+/// Whether the right side of the pruning of cell `c` has halted; false where there is no such pruning.
 fn right_is_over(marked: &Marked, c: u64) -> bool
     ensures { Says marked.now result (λ x p. IsRightOver p c) }
 {
@@ -285,7 +292,7 @@ fn right_is_over(marked: &Marked, c: u64) -> bool
     }
 }
 
-/// Whether the left side of otherwise `s` has halted.
+/// Whether the left side of otherwise `s` has halted; false where there is no such otherwise.
 fn left_is_over(marked: &Marked, s: u64) -> bool
     ensures { Says marked.now result (λ x p. IsLeftOver p s) }
 {

@@ -11,7 +11,7 @@ use orc_checker::Marked;
 use orc_rules::laws::tests_are_right;
 use orc_rules::program::Program;
 
-/// Whether nothing moves, and `t` is the next due time and later than now.
+/// Whether nothing moves (`moves` is false), and `t` is the next due time and later than `now`; `due` is None where no pending call is ever due.
 fn may_tick(moves: bool, due: Option<u64>, now: u64, t: u64) -> bool
     ensures { Decides result ((moves ≡ false) × (due ≡ Some t) × (now < t)) }
 {
@@ -21,7 +21,7 @@ fn may_tick(moves: bool, due: Option<u64>, now: u64, t: u64) -> bool
     }
 }
 
-/// Whether a tick to `t` is allowed.
+/// Whether a tick to time `t` is allowed. The term stays the same.
 pub(crate) fn can_tick(marked: &mut Marked, program: &Program, t: u64) -> bool
     ensures tick { (x : Context) (p : Place) → x.definitions ≡ definitions program.now → Spells x (code program.now) marked.old p → Decides result (IsTick x (moment p) t) }
     ensures same { marked.new ≡ marked.old }

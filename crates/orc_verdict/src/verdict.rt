@@ -64,7 +64,8 @@ pub(crate) struct Taken {
     pub levels: usize,
 }
 
-/// How many levels an entry adds at most, where no term of the program has more than `most`: a `def` puts a body in, a `send` a `|` on top.
+/// How many levels an entry adds to the marked term at most, where no term of the program has more than `most`: a `def` puts a body in, a `send` a
+/// `|` on top, and any other entry adds none.
 pub(crate) fn deepening(most: usize, entry: &Entry) -> usize
     ensures { result ≡ deepening most entry.now }
 {
@@ -75,7 +76,7 @@ pub(crate) fn deepening(most: usize, entry: &Entry) -> usize
     }
 }
 
-/// The sum of two numbers of levels. None if it is over `MOST_LEVELS`.
+/// The sum of a bound for the levels of a term and of the levels that are added. None if it is over `MOST_LEVELS`.
 pub(crate) fn allowed(levels: usize, more: usize) -> Option<usize>
     ensures { IfSome result (λ n. (n ≡ levels + more) × (n ≤ MOST_LEVELS)) }
 {
@@ -103,6 +104,7 @@ pub(crate) fn take(
     match taken.marked.step(program, answers, entry) {
         Ok(()) => {}
         Err(_) => {
+            // The step gave one of the reasons, and the first one is asked for. An entry without any was refused for memory.
             return match first_reason(&mut taken.marked, program, answers, entry) {
                 Some(why) => Err(why),
                 None => Err(RuleFault::Memory),
@@ -199,6 +201,7 @@ pub fn check_journal(
         });
     };
     let most = heights.most();
+    // The marked term is the program's main term at first.
     let levels = heights.at(program.source());
     let mut taken = Taken { marked, levels };
     for next in 0..journal.len() {
@@ -215,6 +218,7 @@ pub fn check_journal(
     }
     match taken.marked.next_cancel() {
         Some(_) => Err(CheckFault {
+            // One past the last entry.
             at: journal.next_number(),
             why: RuleFault::Cancel,
         }),
