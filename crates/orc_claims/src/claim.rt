@@ -52,8 +52,8 @@ pub struct Condition {
 /// A claim without its conditions. Times are in units of logical time; None is no bound.
 #[derive(Drop)]
 pub enum Plain {
-    /// `exactly 2 E by 30`, `at most 2 E`, `at least 2 E`, `no E`: the least and the greatest number of happenings that meet the event, up to the
-    /// time.
+    /// `exactly 2 E by 30`, `at most 2 E`, `at least 2 E`, `no E`: the least and then the greatest number of happenings that meet the event, up to
+    /// the time that comes last.
     Count(Event, u64, Option<u64>, Option<u64>),
     /// `at most 2 E at once`: the greatest number of calls that meet the event and are pending at one moment.
     AtOnce(Event, u64),

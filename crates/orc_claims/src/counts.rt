@@ -9,7 +9,7 @@ use crate::event_match::Bound;
 use crate::happening::{Happening, Occurrence, Phase};
 use std::alloc::{AllocError, Global};
 
-/// Whether a number or a time is at most this one, where there is one.
+/// Whether a number or a time is at most `most`; true if `most` is None.
 pub(crate) fn up_to(most: Option<u64>, number: u64) -> bool
     ensures { result ≡ up_to most number }
 {
@@ -80,7 +80,8 @@ impl Event {
         Ok(None)
     }
 
-    // How many calls that meet the event are pending after a happening, if `out` of them were pending before it. The error is refused memory.
+    // How many calls that meet the event are pending after a happening, if `out` of them were pending before it. `found` is scratch memory. The error
+    // is refused memory.
     fn out_after(
         &self,
         out: u64,

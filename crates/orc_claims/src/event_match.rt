@@ -61,7 +61,8 @@ fn are_same(one: &[Bound], other: &[Bound]) -> bool
     }
 }
 
-/// Whether these values of variables are among those that are known. If so, what is true of all that are known is true of them.
+/// Whether the list `given` is one of the lists in `known`, with its variables in the same order. The clause: what is true of all lists in `known` is
+/// true of `given` then.
 #[tactic(auto, using(crate::proofs::Known::known_is))]
 pub(crate) fn is_known(known: &[Vec<Bound>], given: &[Bound]) -> bool
     ensures { (p : List BoundOf → Bool) → All (λ k. p k.items ≡ true) known.now → result ≡ true → p given.now ≡ true }
@@ -76,7 +77,7 @@ pub(crate) fn is_known(known: &[Vec<Bound>], given: &[Bound]) -> bool
 
 impl Slot {
     // Whether the value can stand in the slot, where `given` are the values that variables have. A variable without a value gets this one. The error
-    // is refused memory, here and below.
+    // is refused memory; so it is in the functions below.
     fn fit(self, value: Value, given: &mut Vec<Bound>) -> Result<bool, AllocError>
         ensures { IfOk result (λ fits. fit self value given.old.items ≡ cond fits (Some given.new.items) None) }
     {
@@ -127,6 +128,7 @@ impl Wanted {
             (Wanted::Answered(slot), Phase::Answered(value)) => slot.fit(value, given),
             (Wanted::Halted, Phase::Halted) => Ok(true),
             (Wanted::Cancelled, Phase::Cancelled) => Ok(true),
+            // Something else became of the call.
             _ => Ok(false),
         }
     }
@@ -148,6 +150,7 @@ impl Simple {
                 wanted.fit(*phase, given)
             }
             (Simple::Published(slot), Occurrence::Published(value)) => slot.fit(*value, given),
+            // A call isn't a publication.
             _ => Ok(false),
         }
     }

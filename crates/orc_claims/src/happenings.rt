@@ -82,6 +82,7 @@ impl Happenings {
         ensures told { OnOk result (self.new ≡ calls self.old site args.now) }
         ensures refused { OnErr result (self.new ≡ self.old) }
     {
+        // Room for the call comes first: once the happening is added nothing fails.
         self.made.try_reserve(1)?;
         self.happened.push(Happening {
             time: self.time,

@@ -107,6 +107,7 @@ impl Event {
             match rest {
                 [] => return Ok(false),
                 [earlier, more @ ..] => {
+                    // The earlier happening gives the variables their values; this one has to meet the event with the same.
                     if other.meets(earlier, &[], &mut given)?
                         && self.meets(happening, given.as_slice(), &mut found)?
                     {

@@ -28,7 +28,7 @@ pub(crate) fn published(alloc: Global, happenings: &[Happening]) -> Result<Vec<V
     }
 }
 
-/// Whether the values are the wanted ones in this order, and as many, where None is any value.
+/// Whether the values are the wanted ones in this order, and as many. None in `wanted` stands for any value.
 pub(crate) fn are_in_order(wanted: &[Option<Value>], values: &[Value]) -> bool
     ensures { result ≡ matches wanted.now values.now }
 {
@@ -89,6 +89,7 @@ fn each_as_often(first: &[Value], values: &[Value], others: &[Value]) -> bool
 pub(crate) fn are_same_in_any_order(wanted: &[Value], values: &[Value]) -> bool
     ensures { result ≡ are_same_in_any_order wanted.now values.now }
 {
+    // With as many values as are wanted, and each wanted one as often, there is no room for another value.
     wanted.len() == values.len() && each_as_often(wanted, wanted, values)
 }
 

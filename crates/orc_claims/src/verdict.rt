@@ -14,6 +14,7 @@ use std::alloc::{AllocError, Global};
 /// Whether a claim holds of a run.
 #[derive(Clone, Copy, PartialEq, Eq, Debug)]
 pub enum Verdict {
+    /// It holds.
     Holds,
     /// It fails at the happening at this place, from 0.
     FailsAt(usize),
@@ -40,7 +41,7 @@ fn ends_so(halted: bool, quiet: bool, end: State) -> bool
     }
 }
 
-// Whether a greatest number is 0: the claim is that something never happens.
+// Whether a greatest number is 0: the claim is that something never happens. False if there is no greatest number.
 fn is_none_at_all(most: Option<u64>) -> bool
     ensures { result ≡ is_none_at_all most }
 {
@@ -64,6 +65,7 @@ impl Plain {
             Plain::EachThen(event, other, within) => {
                 event.first_unfollowed(alloc, other, *within, happenings)
             }
+            // A claim on the end or on all publications fails at no happening: `is_kept` judges it.
             _ => Ok(None),
         }
     }
@@ -97,6 +99,7 @@ impl Plain {
                 let values = published(alloc, happenings)?;
                 Ok(is_one_of(wanted.as_slice(), values.as_slice()))
             }
+            // The other claims on events fail at a happening or not at all: `place` judges them.
             _ => Ok(true),
         }
     }
@@ -125,19 +128,21 @@ impl Plain {
     fn is_tested(&self, alloc: Global, happenings: &[Happening]) -> Result<bool, AllocError>
         ensures { IfOk result (λ tested. tested ≡ tests_plain self.now happenings.now) }
     {
-        // Scratch memory of `any_meets`.
+        // Scratch memory of `any_meets`, which is asked with no values of variables, from time 0 on.
         let mut found = Vec::new(alloc);
         match self {
             Plain::Count(event, _, most, by) => {
                 if is_none_at_all(*most) {
                     return Ok(true);
                 }
+                // Counted from time 0, `by` is a wait as well as a time.
                 event.any_meets(&[], 0, *by, happenings, &mut found)
             }
             Plain::AtOnce(event, _) | Plain::OnlyAfter(event, _) | Plain::EachThen(event, _, _) => {
                 event.any_meets(&[], 0, None, happenings, &mut found)
             }
             Plain::NoneAfter(_, other) => other.any_meets(&[], 0, None, happenings, &mut found),
+            // A claim on the end or on all publications.
             _ => Ok(true),
         }
     }
@@ -151,14 +156,15 @@ fn come_true(
 ) -> Result<bool, AllocError>
     ensures { IfOk result (λ all. all ≡ come_true conditions.now happenings.now) }
 {
+    // Scratch memory of `any_meets`.
     let mut found = Vec::new(alloc);
-    // Not a `for`: the loop's invariant speaks of the rest of the list.
     let mut rest = conditions;
     loop {
         match rest {
             [] => return Ok(true),
             [condition, more @ ..] => {
                 let event = &condition.event;
+                // The event of a condition may be met at any time and with any values.
                 if event.any_meets(&[], 0, None, happenings, &mut found)? != condition.happens {
                     return Ok(false);
                 }
