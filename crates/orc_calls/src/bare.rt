@@ -6,7 +6,8 @@ ghost use Rattle.orc_calls.specs.Counting.{IsSetAt};
 use std::alloc::{AllocError, Global};
 use std::marker::Model;
 
-/// For each site, by its number, which of its calls without arguments is the next one: 2 after the first such call. 0 stands for a site without one.
+/// For each site, by its number, which of its calls without arguments is the next one: 2 after the first such call. It is 0 for a site of which no
+/// such call was made.
 #[derive(Drop)]
 pub(crate) struct BareCounts {
     next: Vec<u64>,
@@ -56,6 +57,7 @@ impl BareCounts {
         ensures refused { OnErr result (self.new ≡ self.old) }
     {
         let Some(len) = site.checked_add(1) else {
+            // Not reached: a site's number has 32 bits.
             return Err(AllocError);
         };
         if len <= self.next.len() {
@@ -64,7 +66,7 @@ impl BareCounts {
         self.next.resize(len, 0)
     }
 
-    /// The next call of a site is this one. Where memory is refused nothing changes.
+    /// Notes that the next call of a site without arguments is the one of number `next`. The error is refused memory, and then nothing changes.
     pub(crate) fn set(&mut self, site: u32, next: u64) -> Result<(), AllocError>
         ensures set { OnOk result (IsSetAt site next self.old self.new) }
         ensures refused { OnErr result (self.new ≡ self.old) }

@@ -16,10 +16,11 @@ use std::marker::Model;
 /// answers depend on it (`AreCounted`).
 #[derive(Drop)]
 pub struct Counts {
-    // The calls without arguments, for which nothing has to be hashed.
+    // Of the calls without arguments, for which nothing has to be hashed.
     bare: BareCounts,
     // The calls with arguments, by the key of a site with its arguments: which such call is the next one, from 1; the first, if the key isn't there.
     next: HashMap<Vec<u64>, u64, BuildHasherDefault<FoldHasher>>,
+    // Where memory comes from.
     alloc: Global,
 }
 

@@ -12,6 +12,7 @@ use orc_rules::value::Value;
 /// What a name stands for in a scope. The table of cells says with the same type what has become of each cell.
 #[derive(Clone, Copy)]
 pub enum Bound {
+    /// This value.
     Is(Value),
     /// A cell, by its number from 1. That is its place in the table of cells, where place 0 stands for no cell, and a cell that is neither bound nor
     /// lost has its own number.
@@ -20,7 +21,7 @@ pub enum Bound {
     Void,
 }
 
-/// A scope: one name, with its meaning, more than in the scope with the number `outer`. Scope 0 has no names, and scope n is record n - 1 of a list.
+/// A scope: one name, by its number, with its meaning, more than in scope `outer`. Scope 0 has no names, and scope n is record n - 1 of a list.
 #[derive(Clone, Copy)]
 pub struct Scope {
     pub name: u32,
@@ -66,6 +67,7 @@ fn bound_of(scopes: &[StoredScope], cells: &[Bound], name: u32, scope: usize) ->
         // Scope n is record n - 1.
         let inner = match scope_at(scopes, at - 1) {
             Some(inner) => inner,
+            // There is no scope of this number, and so no name in it.
             None => return None,
         };
         if inner.name() == name {

@@ -9,10 +9,12 @@ use crate::numbers::{GraphFault, Range, copied, part, place, put, short};
 use std::alloc::Global;
 use std::marker::Model;
 
-/// A definition: the range of its parameters in `Definitions::names`, and the node of its body.
+/// A definition as it is stored.
 #[derive(Clone, Copy)]
 pub(crate) struct Body {
+    /// Its parameters: a range of `Definitions::names`.
     pub(crate) params: Range,
+    /// The node of its body.
     pub(crate) node: u32,
 }
 
@@ -36,7 +38,7 @@ impl Model for Definitions {
     ghost invariant = { λ d. AreInside (length d.names.items) d.bodies.items };
 }
 
-// The definition with this number, if there is one.
+// The definition with this number, from 0. None if there is no such definition.
 fn body_at(bodies: &Vec<Body>, number: usize) -> Option<Body>
     ensures { result ≡ slice_get bodies.now.items number }
 {
@@ -57,7 +59,8 @@ impl Definitions {
         }
     }
 
-    /// Adds a definition at the end: its parameters and the node of its body. `Memory` where memory is refused or a number takes more than 32 bits.
+    /// Adds a definition at the end: its parameters and the node of its body. `Memory` where memory is refused or a number takes more than 32 bits;
+    /// then there is no new definition, though its parameters may be in `names`.
     pub(crate) fn push(&mut self, params: &[u32], body: usize) -> Result<(), GraphFault>
         ensures { OnOk result (self.new ≡ self.old ++ record { params = params.now; body = body } ∷ []) }
     {
@@ -72,6 +75,7 @@ impl Definitions {
         ensures { IfOk result (λ definitions. definitions ≡ self.now) }
     {
         Ok(Definitions {
+            // No room for more: a copy gets no new definition.
             names: copied(alloc, &self.names, 0)?,
             bodies: copied(alloc, &self.bodies, 0)?,
         })

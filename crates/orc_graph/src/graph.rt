@@ -24,9 +24,11 @@ use std::marker::Model;
 /// A program's terms as nodes of 24 bytes, its lists of operands, its definitions and the node of its main term, all by the same numbers as
 /// in the program. Nothing of it changes once it is built.
 pub struct Graph {
+    // The nodes by their numbers, from 0. Each stands behind its parts.
     nodes: Vec<Node>,
     lists: Lists,
     definitions: Definitions,
+    // The node of the main term.
     root: u32,
 }
 
@@ -74,6 +76,7 @@ fn short_node(node: TermNode) -> Result<Node, GraphFault>
     })
 }
 
+// The nodes of a program, in their order. `Memory` if memory is refused or a number takes more than 32 bits.
 fn short_nodes(alloc: Global, program: &Program) -> Result<Vec<Node>, GraphFault>
     ensures { IfOk result (λ nodes. map term_node nodes.items ≡ program.now.nodes) }
 {
@@ -85,6 +88,7 @@ fn short_nodes(alloc: Global, program: &Program) -> Result<Vec<Node>, GraphFault
     Ok(nodes)
 }
 
+// The lists of operands of a program's calls, in their order. `Memory` as in `short_nodes`.
 fn lists_of(alloc: Global, program: &Program) -> Result<Lists, GraphFault>
     ensures { IfOk result (λ lists. lists ≡ program.now.lists) }
 {
@@ -95,6 +99,7 @@ fn lists_of(alloc: Global, program: &Program) -> Result<Lists, GraphFault>
     Ok(lists)
 }
 
+// The definitions of a program, in their order. `Memory` as in `short_nodes`.
 fn definitions_of(alloc: Global, program: &Program) -> Result<Definitions, GraphFault>
     ensures { IfOk result (λ definitions. definitions ≡ program.now.routines) }
 {
@@ -105,7 +110,7 @@ fn definitions_of(alloc: Global, program: &Program) -> Result<Definitions, Graph
     Ok(definitions)
 }
 
-// Values as operands.
+// Values as the operands of a call.
 fn operands_of(values: &[Value]) -> Operands
     requires { length values.now ≤ MOST_ARGUMENTS }
     ensures { result ≡ map operand_is values.now }
@@ -180,8 +185,10 @@ impl Graph {
         if !self.have_lists() || !self.definitions.have_bodies(len) {
             return Err(GraphFault::Memory);
         }
+        // The call's node and its list come last, so their numbers are how many there are now.
         let root = short(len)?;
         let list = short(self.lists.len())?;
+        // Room for one node more, that of the call.
         let mut nodes = copied(alloc, &self.nodes, 1)?;
         put(&mut nodes, Node::Call(definition, list))?;
         let mut lists = self.lists.copied(alloc)?;
@@ -224,6 +231,7 @@ impl Graph {
         ensures node { term_node result ≡ node_of self.now.nodes id }
         ensures term { code self.now id ≡ unfold_node (code self.now) self.now.lists (term_node result) }
     {
+        // For the prover alone: the clause `term` follows from it.
         self.are_parts_first();
         self.node_or_stop(id)
     }

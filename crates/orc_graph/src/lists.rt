@@ -14,6 +14,7 @@ use std::marker::Model;
 pub(crate) struct Lists {
     // The operands of all lists.
     operands: Vec<Operand>,
+    // Of each list, where it is in `operands`.
     ranges: Vec<Range>,
 }
 
@@ -29,7 +30,7 @@ impl Model for Lists {
     ghost invariant = { λ l. AreWithin (length l.operands.items) l.ranges.items };
 }
 
-// The range of that number.
+// The range of the list with that number. None if there is no such list.
 fn range_at(ranges: &Vec<Range>, number: usize) -> Option<Range>
     ensures { result ≡ slice_get ranges.now.items number }
 {
@@ -50,7 +51,7 @@ impl Lists {
         }
     }
 
-    /// A copy of the lists, with room for one more. The error is refused memory.
+    /// A copy of the lists, with room for one more of `MOST_ARGUMENTS` operands at most. The error is refused memory.
     pub(crate) fn copied(&self, alloc: Global) -> Result<Lists, GraphFault>
         ensures { IfOk result (λ lists. lists ≡ self.now) }
     {
@@ -67,7 +68,8 @@ impl Lists {
         self.ranges.len()
     }
 
-    /// Adds a list at the end. `Memory` where memory is refused or there are more operands than 32 bits count.
+    /// Adds a list at the end. `Memory` where memory is refused or there are more operands than 32 bits count; then there is no new list, though its
+    /// operands may be in `operands`.
     pub(crate) fn push(&mut self, operands: &[Operand]) -> Result<(), GraphFault>
         requires { length operands.now ≤ MOST_ARGUMENTS }
         ensures { OnOk result (self.new ≡ self.old ++ operands.now ∷ []) }

@@ -13,13 +13,15 @@ use std::alloc::{AllocError, Global};
 #[derive(Clone, Copy)]
 struct Link {
     group: u32,
+    // The place before it in the chain, whose member was put in later; `NOWHERE` for the first.
     before: usize,
+    // The place after it in the chain, whose member was put in earlier; `NOWHERE` for the last.
     after: usize,
     // Greater for a place that was put in later: ranks fall along a chain.
     rank: u64,
 }
 
-// No place.
+// No place. A list has no item there, so a link that leads there needs no test of its own: nothing is found and nothing written.
 const NOWHERE: usize = usize::MAX;
 
 // A place in no chain.
@@ -60,12 +62,14 @@ fn set_before(links: &mut Vec<Link>, link: Link, before: usize) {
     }
 }
 
+// Writes the link of a place. Where there is no such place nothing changes.
 fn set_link(links: &mut Vec<Link>, place: usize, link: Link) {
     if let Some(old) = links.get_mut(place) {
         *old = link;
     }
 }
 
+// The link of a place. None where there is no such place.
 #[inline(always)]
 fn find_link(links: &Vec<Link>, place: usize) -> Option<Link>
     ensures { result ≡ slice_get links.now.items place }
@@ -73,6 +77,7 @@ fn find_link(links: &Vec<Link>, place: usize) -> Option<Link>
     links.get(place).copied()
 }
 
+// The link of a place; `ALONE` where there is no such place.
 #[inline(always)]
 fn link_at(links: &Vec<Link>, place: usize) -> Link {
     match find_link(links, place) {
@@ -148,8 +153,10 @@ impl Chains {
         }
         self.take(place);
         let Some(first) = reach_first(&mut self.firsts, group) else {
+            // Group 0 isn't chained; for any other the place stays out of a chain, which costs time alone.
             return;
         };
+        // It never saturates: no run puts in 2^64 members.
         self.rank = self.rank.saturating_add(1);
         let link = Link {
             group,

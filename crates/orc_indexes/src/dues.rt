@@ -7,7 +7,8 @@ use std::alloc::{AllocError, Global};
 use std::collections::BTreeSet;
 use std::marker::Model;
 
-/// Notes of when a call is due (in logical time) with the call's number, the earliest first. A note may outlive its call, so a caller tests each.
+/// Notes of the logical times at which calls are due, the earliest first: each is the time and then the call's number. A note may outlive its call,
+/// so a caller tests each.
 #[derive(Drop)]
 pub struct Dues {
     // The earliest note is kept beside the tree of the others: if one call pends at a time, the tree stays empty and costs nothing.

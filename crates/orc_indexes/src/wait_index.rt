@@ -23,7 +23,7 @@ pub struct Parking {
     flags: Vec<bool>,
     // How many flags are set.
     count: usize,
-    // By the number of the cell.
+    // By the number of the cell: its notes, the latest last.
     notes: Vec<Vec<Note>>,
 }
 
@@ -51,7 +51,7 @@ impl Model for Parking {
     ghost invariant = { λ p. p.count ≡ weight one p.flags.items };
 }
 
-// Whether a flag is set.
+// Whether the flag of a slot is set. False for a slot without a flag.
 #[inline(always)]
 fn is_set(flags: &Vec<bool>, slot: usize) -> bool
     ensures { result ≡ is_set flags.now.items slot }
@@ -62,6 +62,7 @@ fn is_set(flags: &Vec<bool>, slot: usize) -> bool
     }
 }
 
+// Writes the flag of a slot. For a slot without a flag nothing changes.
 #[inline(always)]
 fn write_flag(flags: &mut Vec<bool>, slot: usize, value: bool)
     ensures { flags.new.items ≡ slice_set flags.old.items slot value }
@@ -71,7 +72,7 @@ fn write_flag(flags: &mut Vec<bool>, slot: usize, value: bool)
     }
 }
 
-// Gives each slot up to this one a flag. New flags aren't set. The error is refused memory.
+// Gives each slot up to this one a flag. New flags aren't set. The error is refused memory; some of the slots may have a flag then.
 fn reach_slot(flags: &mut Vec<bool>, slot: usize) -> Result<(), AllocError>
     ensures same { (k : ℕ) → is_set flags.new.items k ≡ is_set flags.old.items k }
     ensures count { weight one flags.new.items ≡ weight one flags.old.items }
@@ -86,7 +87,7 @@ fn reach_slot(flags: &mut Vec<bool>, slot: usize) -> Result<(), AllocError>
     Ok(())
 }
 
-// Gives each cell up to this one a list. New lists are empty. The error is refused memory.
+// Gives each cell up to this one a list. New lists are empty. The error is refused memory; some of the cells may have a list then.
 fn reach_cell(alloc: Global, notes: &mut Vec<Vec<Note>>, cell: usize) -> Result<(), AllocError>
     ensures same { (c : ℕ) → notes_at (map vec_items notes.new.items) c ≡ notes_at (map vec_items notes.old.items) c }
     ensures there { OnOk result (cell < vec_len notes.new) }
@@ -112,7 +113,7 @@ fn write_note(notes: &mut Vec<Vec<Note>>, cell: usize, note: Note) -> Result<(),
     }
 }
 
-// Takes the last note out of a cell's list, if there is one.
+// Takes the last note out of a cell's list. None if the cell has no note or no list.
 fn take_note(notes: &mut Vec<Vec<Note>>, cell: usize) -> Option<Note>
     ensures note { MatchOption result (notes_at (map vec_items notes.old.items) cell ≡ []) (λ n. notes_at (map vec_items notes.old.items) cell ≡ notes_at (map vec_items notes.new.items) cell ++ n ∷ []) }
     ensures others { (c : ℕ) → (c ≡ cell → ⊥) → notes_at (map vec_items notes.new.items) c ≡ notes_at (map vec_items notes.old.items) c }
@@ -150,7 +151,7 @@ impl Parking {
         is_set(&self.flags, slot)
     }
 
-    /// Notes that the token in this slot is not known to wait.
+    /// Notes that the token in this slot is not known to wait. For a slot without a flag nothing changes.
     #[inline(always)]
     pub fn clear(&mut self, slot: usize)
         ensures flags { self.new.flags ≡ slice_set self.old.flags slot false }
@@ -179,7 +180,7 @@ impl Parking {
         write_flag(&mut self.flags, slot, true);
     }
 
-    /// Gives the slots up to this one a flag each. New flags aren't set. The error is refused memory.
+    /// Gives the slots up to this one a flag each. New flags aren't set. The error is refused memory; which flags are set stays as it was.
     pub fn reach(&mut self, slot: usize) -> Result<(), AllocError>
         ensures flags { (k : ℕ) → is_set self.new.flags k ≡ is_set self.old.flags k }
         ensures notes { self.new.notes ≡ self.old.notes }

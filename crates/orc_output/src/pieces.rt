@@ -14,7 +14,7 @@ use orc_rules::entry::Entry;
 use std::alloc::Global;
 use std::io::Write;
 
-/// A piece is written as soon as it has so many bytes.
+/// A piece is written as soon as it has so many bytes: the output is asked seldom, and a piece takes little memory.
 const PIECE: usize = 65_536;
 
 /// Writes the text of a journal of the second version; no more than a piece of it is in memory at one time. The fault is that the output failed or
@@ -40,6 +40,7 @@ pub fn write_journal<W: Write>(
         if !journal.read(at, &mut entry) {
             unreachable!()
         }
+        // An entry has no line if it calls a site that has no name in the table.
         if !has_line(&entry, answers) {
             return Err(WriteFault);
         }

@@ -31,7 +31,7 @@ impl Numbering {
         sum.checked_sub(2)
     }
 
-    /// The number in the enclosing run for the part's own call. None if it doesn't fit 64 bits.
+    /// The number in the enclosing run for the part's own call, both from 1. None if it doesn't fit 64 bits.
     #[inline(always)]
     pub fn call_of(&self, own: u64) -> Option<u64>
         ensures { IfSome result (λ call. call ≡ self.now.calls + own) }
@@ -39,7 +39,7 @@ impl Numbering {
         self.calls.checked_add(own)
     }
 
-    /// The number in the enclosing run for the part's own cell. None if it doesn't fit 64 bits.
+    /// The number in the enclosing run for the part's own cell, both from 1. None if it doesn't fit 64 bits.
     #[inline(always)]
     pub fn cell_of(&self, own: u64) -> Option<u64>
         ensures { IfSome result (λ cell. cell ≡ cell_in self.now own) }
