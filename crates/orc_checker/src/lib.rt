@@ -9,6 +9,8 @@
 //!
 //! An effect writes the nodes (`write_node`, `push_within`), the tables that find a node by a mark, cell or call (`marks`, `prunings`, `calls`), and
 //! the flags, which say which nodes have halted: `push_flag` adds that of a new node, and `settle` sets that of a changed one.
+//!
+//! A `match` that passes an option or a result on as it is names its cases for the proof.
 #![tactic(auto)]
 
 mod cancel;

@@ -68,7 +68,8 @@ fn number_of(scope: usize) -> Result<u32, RuleFault>
 }
 
 /// The scopes of a definition's parameters, to be added behind `scopes`: the last parameter first, each the outer of the next; and the number of the
-/// last one. The errors: Form where the arguments are not as many, or one of them isn't bound in `scope`, and Memory.
+/// innermost, in which the body is: 0 without parameters. The errors: Form where the arguments are not as many, or one of them isn't bound in
+/// `scope`, and Memory.
 fn parameter_scopes(
     alloc: Global,
     scopes: &[StoredScope],

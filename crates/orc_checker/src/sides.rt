@@ -23,7 +23,7 @@ pub enum Side {
     Left(u64),
 }
 
-// The side that node `part` is, by the node above it. None if it is no side.
+// The side that node `part` is; `above` is the kind of the node above it. None if it is no side.
 fn side_of(above: Kind, part: usize) -> Option<Side>
     ensures { result ≡ side_of above part }
 {

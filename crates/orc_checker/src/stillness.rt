@@ -73,6 +73,7 @@ fn wakes(
     // A fact that the prover is shown: each node stands behind its parts. Nothing runs.
     program.are_parts_first();
     match program.node(node) {
+        // Its token can only end, which uses no rule.
         TermNode::Stop => false,
         TermNode::Operand(operand) => is_ready(scopes, cells, operand, scope),
         TermNode::Site(_, list) => is_callable(scopes, cells, program.operands(list), scope),
@@ -122,6 +123,7 @@ fn can_term_move(
         TermNode::Site(_, list) => {
             return is_callable(scopes, cells, program.operands(list), scope);
         }
+        // Any other node: `wakes` tells below, with the flags of the parts.
         _ => {}
     }
     // A law that the prover is shown; nothing runs.

@@ -69,6 +69,7 @@ impl Marked {
                     spot.scope as usize,
                 )
             }
+            // A `stop`, a call of a definition, or a node with parts.
             _ => false,
         }
     }

@@ -16,7 +16,8 @@ pub struct Made {
     pub args: Args,
 }
 
-/// The happenings of a journal, read entry by entry. An entry takes the same time however long the journal is. A call takes some 900 bytes.
+/// The happenings of a journal, read entry by entry. An entry takes the same time however long the journal is. A call takes some 900 bytes: its
+/// arguments are kept with the call and with each of its happenings.
 #[derive(Drop)]
 pub struct Happenings {
     // The time now.

@@ -42,7 +42,7 @@ fn current(cells: &[Bound], bound: Bound) -> Bound
     }
 }
 
-// The record at a place, counted from 0. None if there are fewer records.
+// The record at a place, counted from 0. None if there are fewer records. The `match` names the two cases for the proof.
 fn scope_at(scopes: &[StoredScope], i: usize) -> Option<&StoredScope>
     ensures there { IfSome result (λ s. slice_get scopes.now i ≡ Some s.now) }
     ensures none { IfNone result (slice_get scopes.now i ≡ None) }

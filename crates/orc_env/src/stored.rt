@@ -26,6 +26,7 @@ pub struct StoredScope {
     put: Put,
 }
 
+// The size that the comment above promises.
 const _: () = prove!(size_of::<StoredScope>() == 24);
 
 // Contracts see the scope that is stored.

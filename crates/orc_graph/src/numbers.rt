@@ -48,6 +48,7 @@ pub(crate) fn copied<T: Copy + Drop>(
     ensures { IfOk result (λ copy. copy.items ≡ items.now) }
 {
     let mut copy = Vec::new(alloc);
+    // A sum that saturates is more than memory holds, and so is refused.
     if copy.try_reserve(items.len().saturating_add(more)).is_err() {
         return Err(GraphFault::Memory);
     }

@@ -88,6 +88,7 @@ impl Dues {
         }
         match self.others.range((time, from)..).next() {
             Some(next) if next.0 == time => Some(next.1),
+            // The next note has a later time, or there is none.
             _ => None,
         }
     }
@@ -101,6 +102,7 @@ impl Dues {
             Some(first) if first.0 == time && first.1 == number => {
                 self.first = self.others.pop_first();
             }
+            // Removing a note that isn't there changes nothing.
             _ => {
                 self.others.remove(&(time, number));
             }

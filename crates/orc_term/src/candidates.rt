@@ -28,7 +28,7 @@ impl Model for Candidates {
     ghost view = { λ c. record { all = c.all; listed = c.places.items } };
 }
 
-/// Whether node `part` is a side of a node of this kind.
+/// Whether node `part` is a side of a node of this kind: a left side of an otherwise or a right side of a pruning.
 pub fn is_side(kind: Kind, part: usize) -> bool
     ensures { result ≡ is_side kind part }
 {

@@ -102,7 +102,7 @@ fn set_flag(nodes: &Nodes, flags: &mut Vec<bool>, candidates: &mut Candidates, p
     }
 }
 
-/// If `halted` is true, sets the flag of a node that hadn't halted, and of each node above it that halts with it. Sides among them become
+/// If `halted` is true, sets the flag of node `from`, which hadn't halted, and of each node above it that halts with it. Sides among them become
 /// candidates. Otherwise nothing changes.
 #[inline(always)]
 pub fn settle(

@@ -27,7 +27,7 @@ pub struct Nodes {
     ranks: Ranks,
 }
 
-// What contracts see of it: the nodes, and `room`, how many `push_within` can still add.
+// Contracts see the nodes, and `room`: how many more `push_within` can add.
 
 impl Model for Nodes {
     ghost use Rattle.std.specs.Prelude.{◌-◌, ◌^◌, min, vec_len, vec_capacity};

@@ -108,6 +108,7 @@ fn is_ranked_below(items: &Vec<Slot>, numbers: &Vec<u32>, above: usize, part: us
         Some(slot) if slot.node().parent as usize == above => {
             rank_at(numbers, above) < rank_at(numbers, part)
         }
+        // It has another parent, or isn't there: nothing is asked of its rank.
         _ => true,
     }
 }
@@ -134,6 +135,7 @@ fn queue_above(items: &Vec<Slot>, at: usize) -> u32 {
         let above = item(items, place).parent as usize;
         match item(items, above).kind {
             Kind::Two(Double::Both, left, _) if left as usize == place => place = above,
+            // The queue ends here.
             _ => return count,
         }
     }
@@ -244,6 +246,7 @@ impl Ranks {
         if !self.are_kept {
             return;
         }
+        // Set to true again once the ranks are right.
         self.are_kept = false;
         let rank = rank_at(&self.numbers, both);
         if rank_at(&self.numbers, parent) < rank {

@@ -73,7 +73,7 @@ pub fn falling_calls(alloc: Global, nodes: &Nodes, side: &Vec<u32>) -> Result<Ve
     Ok(calls)
 }
 
-/// Makes the nodes of the list gone. Each keeps its number, and all others stay as they are.
+/// Makes the nodes of the list `found` gone. Each keeps its number, and all others stay as they are.
 pub fn drop_nodes(nodes: &mut Nodes, found: &Vec<u32>)
     ensures dropped { IsDropped nodes.old.items found.now.items nodes.new.items }
     ensures len { length nodes.new.items ≡ length nodes.old.items }

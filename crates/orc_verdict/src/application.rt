@@ -89,7 +89,6 @@ pub fn apply(
 {
     meets_and_leads();
     if stays_shallow(heights, marked, entry) {
-        // The `match` passes the result on, and gives the proof its two cases.
         return match apply_at_any_depth(alloc, marked, program, answers, entry) {
             Ok(label) => Ok(label),
             Err(why) => Err(why),

@@ -6,6 +6,8 @@
 //!
 //! In entries s, a, b are marks, c is a cell, k a call, v a value, t a time, as in docs/orc.md, *Journals*. `most` is a bound for the levels of each
 //! of the program's terms.
+//!
+//! A `match` that passes an option or a result on as it is names its cases for the proof.
 #![tactic(auto)]
 
 mod allowed;

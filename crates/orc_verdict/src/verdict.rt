@@ -86,8 +86,8 @@ pub(crate) fn allowed(levels: usize, more: usize) -> Option<usize>
     }
 }
 
-/// Takes an entry; `most` bounds the levels of each of the program's terms. The error is the first reason why the entry is refused, and Memory only
-/// where there is no other but perhaps its depth. After an error `taken` may have the entry, so the caller takes no more.
+/// Takes an entry; `heights` are those of the program's terms, and none is over `most`. The error is the first reason why the entry is refused, and
+/// Memory only where there is no other but perhaps its depth. After an error `taken` may have the entry, so the caller takes no more.
 pub(crate) fn take(
     alloc: Global,
     program: &Program,
