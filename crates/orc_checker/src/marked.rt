@@ -89,20 +89,27 @@ impl Model for Marked {
     ghost invariant = { λ m. AreNoted m.nodes.items m.rest.calls m.due × AreKnown m.nodes.items m.flags.items m.candidates × AreIndexed m.nodes.items (record { marks = m.marks.items; prunings = m.prunings.items; calls = m.rest.calls; cells = m.cells.items }) × (length m.prunings.items ≡ length m.cells.items) };
 }
 
-/// Where a token stands: its node in the marked term with the one above it, the program's node under it, and its scope.
+/// Where a token stands on a node of the program.
 #[derive(Clone, Copy)]
 pub(crate) struct Spot {
+    /// The token's node in the marked term.
     pub at: u32,
+    /// The node of the marked term above `at`.
     pub parent: u32,
+    /// The node of the program on which the token stands.
     pub node: u32,
+    /// The scope that says what the names mean there.
     pub scope: u32,
 }
 
-/// Where a token stands: its node in the marked term with the one above it, and the node's tip, which says what the token stands on.
+/// Where a token stands, on a node of the program or on a value that a call gave.
 #[derive(Clone, Copy)]
 pub(crate) struct Holder {
+    /// The token's node in the marked term.
     pub at: u32,
+    /// The node of the marked term above `at`.
     pub parent: u32,
+    /// What the token stands on: `Token` or `Bears`.
     pub tip: Tip,
 }
 

@@ -21,13 +21,18 @@ use orc_term::flags::settle;
 use orc_term::room::{push_within, reserve};
 use orc_term::side::{drop_nodes, nodes_of};
 
-/// Where an entered otherwise stands: its node with the one above it and that of its left side, and its right side: the program's node in a scope.
+/// Where an entered otherwise stands, and its right side, which hasn't started.
 #[derive(Clone, Copy)]
 pub(crate) struct Otherwise {
+    /// The otherwise's node in the marked term.
     pub at: u32,
+    /// The node of the marked term above `at`.
     pub parent: u32,
+    /// The node of the marked term that is the left side.
     pub left: u32,
+    /// The node of the program that is the right side.
     pub node: u32,
+    /// The scope that says what the names mean in the right side.
     pub scope: u32,
 }
 

@@ -26,12 +26,16 @@ use orc_term::side::{drop_nodes, falling_calls, nodes_of};
 use orc_term::walk::{Taker, way_up};
 use std::alloc::AllocError;
 
-/// Where a pruning stands: its node with the one above it, and those of its sides.
+/// Where a pruning stands; all are nodes of the marked term.
 #[derive(Clone, Copy)]
 pub(crate) struct Pruning {
+    /// The pruning itself.
     pub at: u32,
+    /// The node above it.
     pub parent: u32,
+    /// Its left side.
     pub left: u32,
+    /// Its right side.
     pub right: u32,
 }
 

@@ -26,11 +26,14 @@ use orc_term::arena::{Kind, Node, Tip};
 use orc_term::flags::settle;
 use orc_term::room::{push_within, reserve};
 
-/// A call that pends: its node in the marked term, the one above it, and what is kept of the call.
+/// A call that pends.
 #[derive(Clone, Copy)]
 pub(crate) struct Pending {
+    /// Its node in the marked term. The time at which it was made is `called.at`.
     pub at: u32,
+    /// The node of the marked term above `at`.
     pub parent: u32,
+    /// What is kept of the call.
     pub called: Called,
 }
 
@@ -159,6 +162,7 @@ impl Marked {
             },
         );
         push_within(&mut self.marks, pending.at);
+        // Drops the notes of calls that pend no more.
         let _due = self.rest.next_due(&self.nodes, &mut self.due);
         Ok(())
     }
@@ -185,6 +189,7 @@ impl Marked {
             pending.at,
             true,
         );
+        // Drops the notes of calls that pend no more.
         let _due = self.rest.next_due(&self.nodes, &mut self.due);
         Ok(())
     }

@@ -73,9 +73,11 @@ pub enum Plain {
     OneOf(Vec<Value>),
 }
 
-/// A claim: if all these conditions are met in a run, the rest holds in it.
+/// A claim: if all its conditions are met in a run, the rest holds in it.
 #[derive(Drop)]
 pub struct Claim {
+    /// The conditions; a claim without any is asked of each run.
     pub conditions: Vec<Condition>,
+    /// What holds if they are met.
     pub plain: Plain,
 }

@@ -9,9 +9,10 @@ use orc_rules::value::{Args, Value};
 use std::alloc::{AllocError, Global};
 use std::marker::Model;
 
-/// A call that was made: its site, by the number that the journal's entries have for it, and its arguments.
+/// A call that was made.
 #[derive(Drop)]
 pub struct Made {
+    /// The number that the journal's entries have for its site.
     pub site: u32,
     pub args: Args,
 }
@@ -24,6 +25,7 @@ pub struct Happenings {
     time: u64,
     // All calls so far. The journal numbers them from 1 on, so call k is at the place k - 1.
     made: Vec<Made>,
+    // What happened so far, in the order of the entries.
     happened: Vec<Happening>,
 }
 

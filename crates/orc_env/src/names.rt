@@ -21,11 +21,14 @@ pub enum Bound {
     Void,
 }
 
-/// A scope: one name, by its number, with its meaning, more than in scope `outer`. Scope 0 has no names, and scope n is record n - 1 of a list.
+/// A scope: one name, with its meaning, more than in the scope that it extends. Scope 0 has no names, and scope n is record n - 1 of a list.
 #[derive(Clone, Copy)]
 pub struct Scope {
+    /// The name, by its number.
     pub name: u32,
+    /// What the name means. A cell stays here when it is bound or lost: the table of cells says what has become of it.
     pub bound: Bound,
+    /// The number of the scope that it extends.
     pub outer: u32,
 }
 

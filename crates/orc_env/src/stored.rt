@@ -18,7 +18,7 @@ enum Put {
     Void,
 }
 
-/// A scope as it is stored, in 24 bytes.
+/// A scope as it is stored, in 24 bytes, by the fields of `Scope`.
 #[derive(Clone, Copy)]
 pub struct StoredScope {
     name: u32,

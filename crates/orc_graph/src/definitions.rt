@@ -23,6 +23,7 @@ pub(crate) struct Body {
 pub(crate) struct Definitions {
     // The parameters of all definitions, as numbers of names.
     names: Vec<u32>,
+    // The definitions by their numbers.
     bodies: Vec<Body>,
 }
 

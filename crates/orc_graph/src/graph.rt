@@ -26,7 +26,9 @@ use std::marker::Model;
 pub struct Graph {
     // The nodes by their numbers, from 0. Each stands behind its parts.
     nodes: Vec<Node>,
+    // The lists of operands of the calls.
     lists: Lists,
+    // The definitions, each with the node of its body.
     definitions: Definitions,
     // The node of the main term.
     root: u32,

@@ -12,10 +12,12 @@ pub enum GraphFault {
     Memory,
 }
 
-/// A range of a list: from place `start`, counted from 0, up to but without place `end`.
+/// A range of a list, by places that count from 0.
 #[derive(Clone, Copy)]
 pub(crate) struct Range {
+    /// The first place.
     pub(crate) start: u32,
+    /// The place behind the last one: `start` for an empty range.
     pub(crate) end: u32,
 }
 

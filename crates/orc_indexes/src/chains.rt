@@ -9,9 +9,10 @@ use crate::memory::{push_within, reserve};
 use orc_rules::limits::MOST_GROUPS;
 use std::alloc::{AllocError, Global};
 
-// A place's neighbours in the chain of its group. The members of group 0, the program's own, aren't chained, since that group is never dropped.
+// A place in the chain of its group. The members of group 0, the program's own, aren't chained, since that group is never dropped.
 #[derive(Clone, Copy)]
 struct Link {
+    // The group; 0 for a place in no chain.
     group: u32,
     // The place before it in the chain, whose member was put in later; `NOWHERE` for the first.
     before: usize,

@@ -13,6 +13,7 @@ use std::marker::Model;
 pub struct Dues {
     // The earliest note is kept beside the tree of the others: if one call pends at a time, the tree stays empty and costs nothing.
     first: Option<(u64, u64)>,
+    // All notes but the earliest.
     others: BTreeSet<(u64, u64)>,
 }
 

@@ -9,17 +9,21 @@ ghost use Rattle.orc_indexes.specs.declared.wait_index.Note.{Note as Its};
 use std::alloc::{AllocError, Global};
 use std::marker::Model;
 
-/// A token that waits for a cell: its slot, and its serial, which tells whether it is still there.
+/// A token that waits for a cell.
 #[derive(Clone, Copy)]
 pub struct Note {
+    /// Its slot, in which another token may stand later.
     pub slot: usize,
+    /// Its serial, which tells whether it is still the one in the slot.
     pub serial: u64,
 }
 
 /// Which tokens are known to wait (are *parked*): a flag for each slot, and for each cell notes of the tokens that wait for it. A note may outlive
 /// its token: the serial tells.
 pub struct Parking {
+    // Where memory comes from.
     alloc: Global,
+    // By slot: whether the token there is known to wait. A slot without a flag has no such token.
     flags: Vec<bool>,
     // How many flags are set.
     count: usize,

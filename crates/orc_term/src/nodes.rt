@@ -16,6 +16,7 @@ use std::marker::Model;
 /// The nodes of a marked term. Their numbers count from 0, and a node keeps its number.
 #[derive(Drop)]
 pub struct Nodes {
+    /// The nodes, those that are gone too.
     items: Vec<Slot>,
     /// Each node's *hint*: the node itself, or a node above it such that this one and all between let through what is published below them, and don't
     /// change by it. A walk upward goes from hint to hint, so that its cost doesn't grow with the number of `|` on its way.

@@ -142,10 +142,12 @@ fn queue_above(items: &Vec<Slot>, at: usize) -> u32 {
     LONGEST_QUEUE
 }
 
-// A gap to leave while ranks grow: node `below` gets a rank that is `step` greater than that of the node above it.
+// A gap to leave while ranks grow.
 #[derive(Clone, Copy)]
 struct Gap {
+    // The node above which the gap is left.
     below: usize,
+    // By how much its rank is to exceed that of the node above it.
     step: u32,
 }
 

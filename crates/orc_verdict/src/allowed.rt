@@ -25,7 +25,9 @@ const KEPT: usize = 4;
 /// The first entries that are allowed, `KEPT` at most, and how many there are with those that aren't kept.
 #[derive(Drop)]
 pub struct Allowed {
+    // The first `KEPT` entries.
     first: Vec<Entry>,
+    // How many there are, kept or not.
     count: u64,
 }
 

@@ -29,7 +29,8 @@ fn reason_or_memory(
     ensures why { Stops program.now answers.now entry.now marked.old result }
     ensures same { marked.new ≡ marked.old }
 {
-    // A law that the prover is shown; nothing runs.
+    // A law that the prover is shown, here and in `apply`: an entry leads somewhere exactly if no reason but Deep and Memory refuses it. Nothing
+    // runs.
     meets_and_leads();
     match first_reason(marked, program, answers, entry) {
         Some(reason) => reason,

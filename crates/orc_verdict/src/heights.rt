@@ -11,6 +11,7 @@ use std::marker::Model;
 /// For each node of a program how deep its term nests, in levels.
 #[derive(Drop)]
 pub struct Heights {
+    /// By the number of a node: the levels of its term, at least 1.
     levels: Vec<usize>,
     /// No term has more levels.
     most: usize,

@@ -44,10 +44,12 @@ impl From<LinesFault> for TextFault {
     }
 }
 
-/// How many entries a text's journal has, and the verdict on it.
+/// What a check found of a text that is accepted.
 #[derive(Clone, Copy, PartialEq, Eq, Debug)]
 pub struct Checked {
+    /// How many entries its journal has, cancels too.
     pub entries: usize,
+    /// The verdict on its journal.
     pub verdict: Verdict,
 }
 

@@ -1,7 +1,8 @@
 //! The verdict on a whole journal.
 //!
 //! The depth of the term isn't computed at each entry: a bound for its levels grows by what an entry can add, and is made smaller only when it would
-//! exceed the limit. `meets_and_leads` and `tests_are_right` show the prover laws of `orc_rules`; nothing runs.
+//! exceed the limit. `meets_and_leads` and `tests_are_right` show the prover laws of `orc_rules`; nothing runs. The first says that an entry leads
+//! somewhere exactly if no reason but Deep and Memory refuses it, the second that the tests for halted, quiet and ticks are right.
 
 ghost use Rattle.std.specs.Prelude.{◌≡◌, ◌≢◌, ◌<◌, ◌≤◌, ◌+◌, length, slice_get, Some, IfOk, IfErr, IfSome};
 ghost use Rattle.orc_rules.specs.Journal.{Place};
@@ -30,17 +31,21 @@ use std::alloc::Global;
 use std::error::Error;
 use std::fmt;
 
-/// Where a journal has brought a run, and the time there, in units of logical time.
+/// Where a journal has brought a run.
 #[derive(Clone, Copy, PartialEq, Eq, Debug)]
 pub struct Verdict {
+    /// Halted, Quiet or Running.
     pub state: State,
+    /// The time there, in units of logical time.
     pub now: u64,
 }
 
-/// Where a journal is refused: the number of the entry, from 1, and the reason; 0 where memory was refused before the first.
+/// Where a journal is refused, and why.
 #[derive(Clone, Copy, PartialEq, Eq, Debug)]
 pub struct CheckFault {
+    /// The number of the entry, from 1; one past the last where a cancel is missing, and 0 where memory was refused before the first.
     pub at: u64,
+    /// The first reason.
     pub why: RuleFault,
 }
 
@@ -57,10 +62,12 @@ impl fmt::Display for CheckFault {
 
 impl Error for CheckFault {}
 
-/// The marked term after the entries that were taken, and a number of levels that it doesn't exceed.
+/// What is kept of a journal while its entries are taken.
 #[derive(Drop)]
 pub(crate) struct Taken {
+    /// The term after the entries that were taken.
     pub marked: Marked,
+    /// A bound for the levels of the term.
     pub levels: usize,
 }
 
