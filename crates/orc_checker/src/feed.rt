@@ -108,6 +108,7 @@ impl Marked {
         push_flag(&mut self.flags, &mut self.candidates, both, false);
         let halted = self.halts.at(g as usize);
         push_flag(&mut self.flags, &mut self.candidates, both + 1, halted);
+        // The token's node has halted, and what is above it may have halted by that.
         settle(
             &self.nodes,
             &mut self.flags,

@@ -176,6 +176,7 @@ impl Marked {
         ensures refused { IfErr result (λ r. (r ≡ reason.Mark) × (slice_get self.now.cells c ≡ Some (IsCell c) → ⊥)) }
     {
         match self.cells.get(c as usize) {
+            // `cells` has such a cell's own number. Its item for number 0 is void.
             Some(Bound::Cell(d)) if *d == c => Ok(()),
             _ => Err(RuleFault::Mark),
         }
@@ -231,6 +232,7 @@ impl Marked {
         };
         // The token is in the right side, and so are the otherwises that it publishes through: they are dropped with it.
         let (side, calls) = self.leaving(right)?;
+        // The pruning's node means just its left side from now on.
         self.nodes.write_node(
             at as usize,
             Node {
@@ -294,7 +296,8 @@ impl Marked {
             return Err(RuleFault::Halted);
         }
         let side = self.side_at(pruning.right)?;
-        // No flag changes: a pruning whose right side has halted has halted exactly if its left side has.
+        // The pruning's node means just its left side from now on. No flag changes: a pruning whose right side has halted has halted exactly if its
+        // left side has.
         self.nodes.write_node(
             pruning.at as usize,
             Node {

@@ -39,6 +39,7 @@ impl Marked {
         );
         // Each otherwise on the way to the top loses its right side.
         rise(&mut self.nodes, bearer.at);
+        // The token's node has halted, and what is above it may have halted by that.
         settle(
             &self.nodes,
             &mut self.flags,

@@ -182,6 +182,7 @@ impl Marked {
                 parent: pending.parent,
             },
         );
+        // The node of the call has halted, and what is above it may have halted by that.
         settle(
             &self.nodes,
             &mut self.flags,

@@ -91,6 +91,7 @@ impl Marked {
                 parent: spot.parent,
             },
         );
+        // The token's node has halted, and what is above it may have halted by that.
         settle(
             &self.nodes,
             &mut self.flags,

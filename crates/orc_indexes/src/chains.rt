@@ -136,7 +136,7 @@ impl Chains {
     /// Notes that this place holds a member of this group. A new place has to be the next one behind the others, and needs room (`reserve`).
     #[inline(always)]
     pub fn put(&mut self, place: usize, group: u32) {
-        // Most often a token is replaced by one of the same group.
+        // Most often a token is replaced by one of the same group. What is done otherwise isn't inlined.
         if let Some(link) = self.links.get(place)
             && link.group == group
         {
@@ -165,6 +165,7 @@ impl Chains {
             after: first,
             rank: self.rank,
         };
+        // Makes it the first place of the chain, and the one before what was the first.
         set_after(&mut self.firsts, &mut self.links, link, place);
         set_before(&mut self.links, link, place);
         set_link(&mut self.links, place, link);
@@ -176,6 +177,7 @@ impl Chains {
         if link.group == 0 {
             return;
         }
+        // Its neighbours in the chain become each other's.
         set_after(&mut self.firsts, &mut self.links, link, link.after);
         set_before(&mut self.links, link, link.before);
         set_link(&mut self.links, place, ALONE);
@@ -189,6 +191,7 @@ impl Chains {
         if link.group == 0 {
             return;
         }
+        // The neighbours of `last` name `place` from now on.
         set_after(&mut self.firsts, &mut self.links, link, place);
         set_before(&mut self.links, link, place);
         set_link(&mut self.links, place, link);

@@ -117,7 +117,7 @@ impl Candidates {
         self.all
     }
 
-    /// The place added first.
+    /// The place added first. None if no place is listed.
     fn first(&self) -> Option<usize>
         ensures { result ≡ slice_get self.now.listed 0 }
     {

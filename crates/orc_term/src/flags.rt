@@ -22,7 +22,7 @@ pub fn flag_at(flags: &Vec<bool>, i: usize) -> bool
     }
 }
 
-/// Writes a flag that is there.
+/// Writes the flag of node `i`. Where there is no such node nothing changes.
 #[inline(always)]
 pub fn write_flag(flags: &mut Vec<bool>, i: usize, flag: bool)
     ensures items { flags.new.items ≡ slice_set flags.old.items i flag }

@@ -128,7 +128,7 @@ fn are_ranked_below(items: &Vec<Slot>, numbers: &Vec<u32>, above: usize, kind: K
     }
 }
 
-// How many `|` are directly above a node, each the left part of the next one: sends to one `>x>` make such a queue.
+// How many `|` are directly above node `at`, each the left part of the next one, `LONGEST_QUEUE` at most: sends to one `>x>` make such a queue.
 fn queue_above(items: &Vec<Slot>, at: usize) -> u32 {
     let mut place = at;
     for count in 0..LONGEST_QUEUE {
