@@ -52,8 +52,8 @@ impl Tables {
         Ok(seen == from.seen)
     }
 
-    // The number of the term to which an early step of the state leads that nobody sees; None if it has no such step. The error is refused memory, or
-    // one of the sieve's.
+    // The number of the term to which the first early step of the state leads that nobody sees; None if it has no such step. The errors are those of
+    // `next_early` and of `is_unseen`.
     fn early_term(
         &mut self,
         alloc: Global,

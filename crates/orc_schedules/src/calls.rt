@@ -10,6 +10,7 @@ use orc_rules::builtin::are_same;
 use orc_rules::value::Value;
 use orc_search::node::{mix, mix_value};
 
+// Whether both are equal. Only true is promised to mean it.
 fn is_same_phase(one: Phase, other: Phase) -> bool
     ensures { result ≡ true → one ≡ other }
 {
@@ -32,6 +33,7 @@ fn is_same(one: &Occurrence, other: &Occurrence) -> bool
     }
 }
 
+// A hash with a phase mixed in. A phase without a value has a number in its place.
 fn hash_of_phase(mixed: u64, phase: Phase) -> u64 {
     match phase {
         Phase::Called => mix(mixed, 1),

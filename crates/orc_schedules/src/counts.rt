@@ -1,4 +1,7 @@
 //! Lists of calls that were made, by their numbers. An *entry* (`Made`) of a list is a site with arguments, and how often it was called so.
+//!
+//! In contracts `made_at` is the list of a number, `count_of` an entry as the definitions have it, and `Grows` says that the lists which were there
+//! stay.
 
 ghost use Rattle.std.specs.Prelude.{◌≡◌, ◌<◌, ◌≤◌, ◌++◌, ◌∷◌, [], ℕ, List, length, map, true, false, Some, slice_get, IfSome, IfOk, OnOk, OnErr};
 ghost use Rattle.orc_rules.specs.declared.value.Value.{Value as Datum};
@@ -50,6 +53,7 @@ impl Model for Counts {
 // Where the entry for some calls is in a list, or is to be put.
 #[derive(Clone, Copy)]
 struct Place {
+    // From 0, the list's length at most.
     at: usize,
     // Whether there is one for the same calls at this place; if not, the entry is to be put before what is there.
     again: bool,
@@ -72,7 +76,7 @@ fn is_same(one: &Made, other: &Made) -> bool
     one.times == other.times
 }
 
-// The hash of the calls that an entry is for, without their number.
+// The hash of the calls that an entry is for, without their number. The seeds, 2 here and 3 for a list, are arbitrary.
 fn hash_of_kind(calls: &Made) -> u64 {
     let mut mixed = mix(2, calls.site as u64);
     for arg in &calls.args {
@@ -144,6 +148,7 @@ fn raised(alloc: Global, made: &[Made], place: Place, calls: Made) -> Result<Vec
     requires again { place.again ≡ true → place.at < length made.now }
     ensures { IfOk result (λ v. map count_of v.items ≡ raised (count_of calls) place.at place.again (map count_of made.now)) }
 {
+    // Where the entries begin that stay behind this one.
     let rest = if place.again { place.at + 1 } else { place.at };
     let mut list = Vec::new(alloc);
     push_copies(alloc, &mut list, &made[..place.at])?;
@@ -152,7 +157,8 @@ fn raised(alloc: Global, made: &[Made], place: Place, calls: Made) -> Result<Vec
     Ok(list)
 }
 
-// Whether two lists have the same entries in the same order. Only true is promised to mean it.
+// Whether two lists have the same entries in the same order. Only true is promised to mean it. The loop is no `for`, since its invariant speaks of
+// what is left of both lists.
 fn are_same_counts(one: &[Made], other: &[Made]) -> bool
     ensures { result ≡ true → map count_of one.now ≡ map count_of other.now }
 {
@@ -223,7 +229,7 @@ impl Counts {
         Ok(at)
     }
 
-    // The number that a list with this hash may have.
+    // The number that a list with this hash may have; None if none is known.
     fn place_of(&self, hash: u64) -> Option<usize> {
         self.places.get(hash)
     }
@@ -331,6 +337,7 @@ impl Counts {
                 let called = self.called(alloc, answers, at, *site, args)?;
                 Ok(called)
             }
+            // Nothing else counts as a call that is made.
             _ => Ok(at),
         }
     }

@@ -84,9 +84,11 @@ fn is_in_time(longest: u64, steps: u64) -> bool
 /// Makes one search of a program after another. They share the program's terms, the lists of calls that were made and what the terms may do; each has
 /// states of its own.
 pub struct Explorer<'p> {
+    // The program with what answers its calls.
     source: Source<'p>,
-    // The number of the program's term.
+    // The number of the program's term, with which each search begins.
     term: usize,
+    // What terms may do, as far as it is kept.
     moves: Moves,
     // What is shared, and what the last search found.
     tables: Tables,
@@ -196,6 +198,7 @@ pub fn search(
     }
     let tables = &explorer.tables;
     let states = tables.states.len();
+    // Two kinds of paths must stay in time: runs of at most `limit` entries, and a way to each state, which goes through no state twice.
     let steps = limit.max(states as u64);
     if !is_in_time(tables.longest, steps) {
         return Ok(Schedules::TooLong);

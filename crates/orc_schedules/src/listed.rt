@@ -16,7 +16,7 @@ use orc_search::terms::Terms;
 use std::alloc::{AllocError, Global};
 use std::marker::Model;
 
-/// So many are kept at most. With one more all are dropped, so that a search through many states keeps little beside them.
+/// How many `Listed` are kept at most. Before one more is added all are dropped, so that a search through many states keeps little beside them.
 const MOST: usize = 4096;
 
 /// All that a term may do after a list of calls.
@@ -77,11 +77,12 @@ impl Moves {
         }
     }
 
-    // Where something with this hash may be kept.
+    // Where something with this hash may be kept; None if nothing is known to be.
     fn place_of(&self, hash: u64) -> Option<usize> {
         self.places.get(hash)
     }
 
+    // What is kept at that place, from 0; None if nothing is. The match shows the prover the two cases; it changes nothing.
     fn get(&self, at: usize) -> Option<&Listed>
         ensures { IfSome result (λ l. slice_get self.now at ≡ Some l.now) }
     {

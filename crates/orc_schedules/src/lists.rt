@@ -1,5 +1,7 @@
 //! Lists of what was seen on the ways to states, by their numbers. Each list is a shorter one with one thing behind it, so that ways which begin
-//! alike share their beginning.
+//! alike share their beginning. A list is named by its number (`at`, `before`, `to`), from 0.
+//!
+//! In contracts `lists` is the list of all of them by their numbers, `list_at` is one, and `Grows` says that those which were there stay.
 
 ghost use Rattle.std.specs.Prelude.{◌≡◌, ◌<◌, ◌++◌, ◌∷◌, [], length, option_to_list, true, Some, slice_get, IfSome, IfNone, IfOk, OnOk, OnErr};
 ghost use Rattle.orc_rules.specs.declared.value.Value.{Value as Datum};
@@ -28,7 +30,7 @@ use std::marker::Model;
 pub enum What {
     /// A publication.
     Published(Value),
-    /// What became of a call, by its place among those that the lists name.
+    /// What became of a call, by its place in `Lists::calls`, from 0.
     Call(usize),
     /// Only time passed.
     Nothing,
@@ -39,7 +41,7 @@ pub enum What {
 pub struct Longer {
     /// The number of the list before.
     pub before: usize,
-    /// The time to which the list comes.
+    /// The time at the end of the list, in logical units and as far as the sieve tells times apart.
     pub now: u64,
     /// What is behind that list.
     pub what: What,
@@ -50,7 +52,7 @@ pub struct Longer {
 pub struct Lists {
     // What became of calls, each once, as the lists name it.
     calls: Once<Occurrence>,
-    // The list of the number 1, 2 and so on.
+    // The list of number n is at place n - 1. The empty one, of number 0, is at none.
     longer: Vec<Longer>,
     // The number of the list last made with a hash. Nothing is promised of it: what is found there is compared.
     places: Places,
@@ -77,7 +79,7 @@ impl Model for Lists {
     ghost invariant = { λ l. AreBehind l.longer.items × AreMade l.calls l.longer.items };
 }
 
-// What is at that place; None if there is nothing.
+// What is at that place, from 0; None if there is nothing.
 fn longer_at(longer: &[Longer], at: usize) -> Option<Longer>
     ensures { result ≡ slice_get longer.now at }
 {
@@ -87,7 +89,7 @@ fn longer_at(longer: &[Longer], at: usize) -> Option<Longer>
     }
 }
 
-// The hash of a list. Only a wait mixes in the time: what else is seen has the time of the list before.
+// The hash of a list. Each kind of `What` mixes in a number of its own. Only a wait mixes in the time: what else is seen has that of the list before.
 fn hash_of(longer: Longer) -> u64 {
     match longer.what {
         What::Published(value) => mix_value(mix(1, longer.before as u64), value),
@@ -96,6 +98,7 @@ fn hash_of(longer: Longer) -> u64 {
     }
 }
 
+// What became of a call that was answered so.
 fn phase_of(answer: Answer) -> Phase
     ensures { result ≡ phase_of answer }
 {
@@ -117,7 +120,7 @@ impl Lists {
         }
     }
 
-    // How many lists there are.
+    // How many lists there are, the empty one counted.
     fn len(&self) -> usize
         ensures { result ≡ length (lists self.now) }
     {
@@ -177,7 +180,7 @@ impl Lists {
     pub fn happened(&self, alloc: Global, at: usize) -> Result<Vec<Happened>, AllocError>
         ensures { IfOk result (λ v. v.items ≡ (list_at (lists self.now) at).happened) }
     {
-        // From the end to the beginning, since a list knows the one before it.
+        // From the end to the beginning, since a list knows the one before it; `rest` is the list that is left.
         let mut happened = Vec::new(alloc);
         let mut rest = at;
         while let Some(longer) = self.made_of(rest) {
@@ -197,6 +200,7 @@ impl Lists {
                 values.push(value)?;
                 Ok(())
             }
+            // What became of a call, or a wait: neither publishes.
             _ => Ok(()),
         }
     }
@@ -205,6 +209,7 @@ impl Lists {
     pub fn values(&self, alloc: Global, at: usize) -> Result<Vec<Value>, AllocError>
         ensures { IfOk result (λ v. v.items ≡ values_of (list_at (lists self.now) at)) }
     {
+        // From the end to the beginning, as in `happened`.
         let mut values = Vec::new(alloc);
         let mut rest = at;
         while let Some(longer) = self.made_of(rest) {
@@ -215,7 +220,7 @@ impl Lists {
         Ok(values)
     }
 
-    // Whether this is the list of that number.
+    // Whether this is the list of that number; never for the empty list, nor where there is none.
     fn stands_at(&self, at: usize, longer: Longer) -> bool
         ensures { result ≡ true → slice_get (lists self.now) at ≡ Some (list_of self.now.calls (lists self.now) longer) }
     {
@@ -238,7 +243,7 @@ impl Lists {
         Ok(number)
     }
 
-    // The number that a list with this hash may have.
+    // The number that a list with this hash may have; None if none is known.
     fn place_of(&self, hash: u64) -> Option<usize> {
         self.places.get(hash)
     }

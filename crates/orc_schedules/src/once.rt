@@ -77,7 +77,7 @@ impl<T: Hashed + Drop> Once<T> {
         &self.list
     }
 
-    // Where an item with this hash may be.
+    // Where an item with this hash may be; None if none is known.
     fn place_of(&self, hash: u64) -> Option<usize> {
         self.places.get(hash)
     }
@@ -89,7 +89,7 @@ impl<T: Hashed + Drop> Once<T> {
         self.places.insert(hash, place)
     }
 
-    // Whether an equal item is there.
+    // Whether an equal item is at that place. Only true is promised to mean it.
     fn stands_at(&self, place: usize, item: &T) -> bool
         ensures { result ≡ true → slice_get self.now place ≡ Some item.now }
     {

@@ -55,6 +55,7 @@ impl Sieve<'_> {
         match self {
             Sieve::Publications => Ok(None),
             Sieve::Named(watch, sites) => {
+                // `claim_number` gives a site that isn't among them the number `sites.len()`, which has to fit 32 bits.
                 if sites.len() > u32::MAX as usize {
                     return Err(AllocError);
                 }

@@ -2,6 +2,9 @@
 //!
 //! In contracts `AreKnown` says that all numbers in the tables are of something, `Keeps` that all that was there stays with its number, `reached` is
 //! the list of the states that the numbers mean, and `outcomes` that of the ends.
+//!
+//! The error of a call that searches is refused memory, or one of the sieve's or of `successors`: a count past its type. The tables may have more in
+//! them then, and the search is over. Questions to the tables (`&self`) fail by refused memory alone.
 
 ghost use Rattle.std.specs.Prelude.{◌≡◌, ◌<◌, ◌≤◌, ◌∷◌, [], ℕ, List, length, map, true, false, Some, slice_get, IfSome, IfNone, IfOk, OnOk};
 ghost use Rattle.orc_rules.specs.Sites.{Site};
@@ -40,6 +43,7 @@ use std::alloc::{AllocError, Global};
 
 // What a search has found. The first two are shared by all searches of a program, the others begin anew with each.
 pub(crate) struct Tables {
+    // Small terms by their numbers.
     pub(crate) terms: Terms,
     // Lists of calls that were made.
     pub(crate) counts: Counts,
@@ -47,8 +51,9 @@ pub(crate) struct Tables {
     pub(crate) lists: Lists,
     // The states in the order in which they were found, which is that in which they are looked at.
     pub(crate) states: Once<Key>,
+    // The ends that were found, in that order.
     pub(crate) ends: Once<Told>,
-    // The longest wait so far, in units of logical time.
+    // The longest single wait so far, in units of logical time. It bounds how late a run can be (`is_in_time`).
     pub(crate) longest: u64,
 }
 
@@ -99,7 +104,7 @@ impl Tables {
         Ok(())
     }
 
-    // Adds the state that `from` becomes by a step of its term. The error is refused memory, or one of the sieve's, here and below.
+    // Adds the state that `from` becomes by a step of its term, unless it is there.
     fn follow(
         &mut self,
         alloc: Global,
@@ -156,8 +161,8 @@ impl Tables {
         Ok(())
     }
 
-    // Adds the state that `from` becomes once as much time has passed as its first pending call has left; nothing if no call will be answered, or one
-    // is due at once. Only called where nothing can happen before.
+    // Adds the state that `from` becomes once as much time has passed as the pending call that is due first has left; nothing if no call will be
+    // answered, or one is due at once. Only called where nothing can happen before.
     fn wait(&mut self, alloc: Global, sieve: &Sieve, from: Key) -> Result<(), AllocError>
         requires all { AreKnown self.old }
         requires from { IsKnown self.old from }
@@ -172,6 +177,7 @@ impl Tables {
         let Some(by) = self.terms.summary(from.term).left else {
             return Ok(());
         };
+        // Never in `expand`: a call with no time left can return, which is a step.
         if by == 0 {
             return Ok(());
         }
@@ -212,6 +218,7 @@ impl Tables {
         if !still {
             return Ok(());
         }
+        // With some time left the state waits, and is no end.
         if let None = summary.left {
             let quiet = Told {
                 end: End::Quiet,
@@ -254,11 +261,13 @@ impl Tables {
             self.tell(from, true)?;
             return Ok(());
         }
+        // What can still move isn't quiet, but it may have halted: if both sides of an opened pruning have, its cell can still be lost.
         self.tell(from, false)?;
         Ok(())
     }
 
-    // Takes the early steps of a state that nobody sees, and adds all that may come of the state to which they lead, and its end, if it is one.
+    // Takes those early steps of a state that nobody sees (`ahead_of`), adds all that may come of the state to which they lead, and the end of that
+    // one, if it is one.
     fn look_at(
         &mut self,
         alloc: Global,
@@ -310,6 +319,7 @@ impl Tables {
         ensures found { OnOk result ((begin : State) → AreFound (small_definitions source.now.program.now) (kept_by sieve.now) begin source.now.answers.now.sites self.old → AreFound (small_definitions source.now.program.now) (kept_by sieve.now) begin source.now.answers.now.sites self.new) }
     {
         for at in 0..most {
+            // Each state that was found has been looked at.
             let Some(key) = self.states.get(at) else {
                 return Ok(true);
             };
@@ -357,7 +367,7 @@ impl Tables {
         })
     }
 
-    // The end, with when it was and what was seen, if the claim fails there. The error is refused memory.
+    // The end, with when it was and what was seen, if the claim fails there; None if it holds there. The error is refused memory.
     fn failing_at(
         &self,
         alloc: Global,
@@ -376,7 +386,7 @@ impl Tables {
         }
     }
 
-    // The first end, in the order in which they were found, at which the claim fails. The error is refused memory.
+    // The first end, in the order in which they were found, at which the claim fails; None if it holds at all of them. The error is refused memory.
     pub(crate) fn first_failing(
         &self,
         alloc: Global,

@@ -44,7 +44,7 @@ fn is_same_phase(wanted: Wanted, phase: Phase) -> bool
     }
 }
 
-// Whether this names what happened.
+// Whether this names what happened, whatever the arguments and the value.
 fn names_it(name: &Simple, what: &Occurrence) -> bool
     ensures { result ≡ names_it name.now what.now }
 {
@@ -127,7 +127,7 @@ fn latest_of(plain: &Plain) -> u64
     }
 }
 
-// What names the same, without its slots, so that it needs no memory.
+// A copy of a name without the slots of its arguments: it names the same, and an empty vector needs no memory.
 fn outline(alloc: Global, name: &Simple) -> Simple
     ensures names { (w : What) → names_it result w ≡ names_it name.now w }
     ensures seen { sees result ≡ sees name.now }
@@ -192,7 +192,8 @@ impl Watch {
         Ok(())
     }
 
-    // Has it keep what a claim without its conditions names too. One on values needs all publications, one on the end nothing.
+    // Has it keep what a claim without its conditions names too. One on values needs all publications, one on the end nothing. `AtOnce` has its
+    // event kept, though `of_claim` gives no watch for it.
     fn add_plain(&mut self, alloc: Global, plain: &Plain) -> Result<(), AllocError>
         ensures names { OnOk result (NameSame self.new.names (self.old.names ++ watched_plain plain.now)) }
         ensures seen { OnOk result (all_seen self.new.names ≡ all_seen (self.old.names ++ watched_plain plain.now)) }

@@ -48,7 +48,7 @@ pub(crate) fn is_same_change(a: Change, b: Change) -> bool
     }
 }
 
-/// A hash of a change. Nothing is promised of it.
+/// A hash of a change. Nothing is promised of it. The kinds' numbers follow those of nodes (`hash_of` in `node`).
 pub(crate) fn mix_change(change: Change) -> u64 {
     match change {
         Change::Put(q, x) => mix(mix_param(20, q), x as u64),
@@ -85,6 +85,7 @@ fn settle_param(w: Param, n: u64, param: Param) -> Param
     }
 }
 
+// What becomes of a parameter. Time changes none.
 fn changed_param(change: Change, param: Param) -> Param
     ensures { result ≡ changed_param change param }
 {
@@ -95,6 +96,7 @@ fn changed_param(change: Change, param: Param) -> Param
     }
 }
 
+// The parameters, changed. The error is refused memory.
 fn changed_params(alloc: Global, change: Change, params: &[Param]) -> Result<Vec<Param>, AllocError>
     ensures { IfOk result (λ v. v.items ≡ map (changed_param change) params.now) }
 {
@@ -115,6 +117,7 @@ fn less(by: u64, rest: Found) -> Found
     }
 }
 
+// What comes of a pending call after a change. Only time changes it.
 fn changed_rest(change: Change, rest: Found) -> Found
     ensures { result ≡ changed_rest change rest }
 {

@@ -28,20 +28,22 @@ use crate::terms::Terms;
 use crate::walk::Spot;
 use std::alloc::{AllocError, Global};
 
-/// Room for so many parts is made at once.
+/// For how many parts a list has room at first, so that for a small term it asks for memory once.
 const FEW_PARTS: usize = 32;
 
 /// What encloses a part directly.
 #[derive(Clone, Copy)]
 pub struct Inside {
+    /// What kind of part it is there, and the number of the other part.
     frame: Frame,
-    /// The place in the list of the enclosing part.
+    /// The place of the enclosing part in the list of parts, from 0.
     outer: usize,
 }
 
 /// A part of a term that can move.
 #[derive(Clone, Copy)]
 pub struct Part {
+    /// Its number among the terms, and its depth.
     spot: Spot,
     /// None for the term itself.
     inside: Option<Inside>,
@@ -52,11 +54,13 @@ pub struct Part {
 pub struct Parts {
     /// The number of the term.
     root: usize,
+    /// The parts that are listed, the term itself first.
     list: Vec<Part>,
     /// The parts before this place have been looked at, and their own parts are listed.
     next: usize,
 }
 
+// The part at that place, from 0; None if there is none.
 fn part_at(list: &Vec<Part>, at: usize) -> Option<Part>
     ensures { result ≡ slice_get list.now.items at }
 {
@@ -105,7 +109,8 @@ impl Parts {
         })
     }
 
-    // Lists a part of the part at the place `outer`. The error is refused memory.
+    // Lists a part of the part at the place `outer`: the term of the number `at`, around which `depth` left sides of opened prunings stand. The error
+    // is refused memory.
     fn add(&mut self, outer: usize, frame: Frame, at: usize, depth: u64) -> Result<(), AllocError>
         ensures added { OnOk result (self.new.list.items ≡ self.old.list.items ++ record { spot = record { at = at; depth = depth }; inside = Some (record { frame = frame; outer = outer }) } ∷ []) }
         ensures root { self.new.root ≡ self.old.root }
@@ -118,7 +123,7 @@ impl Parts {
     }
 
     // Lists those parts of two joined terms that can move, as `Walk::plan_parts` plans them. The joined term is at the place `outer`, and `depth` is
-    // its own. The error is refused memory, or a depth past 2^64.
+    // its own. The error is refused memory, or a depth of 2^64.
     fn add_parts(
         &mut self,
         outer: usize,
@@ -136,9 +141,11 @@ impl Parts {
                 self.add(outer, Frame::Right(f), g, depth)
             }
             Joint::Feeds(x) => self.add(outer, Frame::Feeds(x, g), f, depth),
+            // A pruning that isn't opened yet moves as a whole.
             Joint::Prunes(_) => Ok(()),
             Joint::Instead => self.add(outer, Frame::First(g), f, depth),
             Joint::Needs => {
+                // Only the left side names the pruning's cell, so only there prunings count one more.
                 let Some(deeper) = depth.checked_add(1) else {
                     return Err(AllocError);
                 };
@@ -157,6 +164,7 @@ impl Parts {
         ensures root { self.new.root ≡ self.old.root }
     {
         let outer = self.next;
+        // Never None: `outer` is a place in the list.
         let Some(next) = outer.checked_add(1) else {
             return Err(AllocError);
         };
@@ -190,6 +198,7 @@ impl Parts {
             let Some(inside) = part.inside else {
                 return Ok(step);
             };
+            // Never None: what encloses a part is listed before it.
             let Some(outer) = part_at(&self.list, inside.outer) else {
                 return Err(AllocError);
             };
@@ -220,16 +229,18 @@ impl Parts {
             let lifted = self.lift(terms, alloc, part, step)?;
             return Ok(Some(lifted));
         }
+        // The term itself publishes, and somebody sees it.
         let Some(inside) = part.inside else {
             return Ok(None);
         };
         if !takes_values(inside.frame) {
             return Ok(None);
         }
+        // Never None, as in `lift`.
         let Some(outer) = part_at(&self.list, inside.outer) else {
             return Err(AllocError);
         };
-        // Once it is taken, nobody sees it from outside, so the rest of the way is passed.
+        // Once the value is taken, nobody sees it from outside: what stands around `outer` stays.
         let taken = lifted(terms, alloc, inside.frame, step)?;
         let lifted = self.lift(terms, alloc, outer, taken)?;
         Ok(Some(lifted))
@@ -257,9 +268,9 @@ impl Parts {
         }
     }
 
-    /// The next step of the term that may go first, if there is one more. It is early if its happening is hidden: nobody sees it, and the calls to
-    /// come are answered after it as before. The error is refused memory, or one of those that `successors` has. The terms that were there stay, in
-    /// both cases.
+    /// The next step of the term that may go first; None once all its parts have been looked at. `made` are the calls that were made before. The step
+    /// is early if its happening is hidden: nobody sees it, and the calls to come are answered after it as before. The errors are those of
+    /// `successors`. The terms that were there stay, in both cases.
     pub fn next_early(
         &mut self,
         terms: &mut Terms,

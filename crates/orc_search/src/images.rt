@@ -9,7 +9,7 @@ use crate::places::Places;
 use std::alloc::{AllocError, Global};
 use std::marker::Model;
 
-/// With so many or more `make_room` drops them all, so that little is kept beside the terms.
+/// With so many images or more `make_room` drops them all, so that little is kept beside the terms.
 const MOST: usize = 65_536;
 
 /// A change, and a term with what it becomes by it, by their numbers.
@@ -66,6 +66,7 @@ impl Images {
         }
     }
 
+    // The image at that place, from 0; None if there is none.
     fn get(&self, place: usize) -> Option<Image>
         ensures { result ≡ slice_get self.now place }
     {
@@ -75,6 +76,7 @@ impl Images {
         }
     }
 
+    // Where the image of this term by this change may stand; None if it isn't known.
     fn place_of(&self, change: Change, from: usize) -> Option<usize> {
         self.places.get(hash_of(change, from))
     }
@@ -99,7 +101,7 @@ impl Images {
         }
     }
 
-    /// Drops all images if there are as many as are kept at most.
+    /// Drops all images if there are `MOST` or more.
     pub fn make_room(&mut self)
         ensures { (self.new ≡ self.old) ⊎ (self.new ≡ []) }
     {

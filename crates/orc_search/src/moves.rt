@@ -1,7 +1,8 @@
 //! All that a numbered term may do. A part does something *by itself* (`own_step`), and `lifted_out` says what the whole does by that.
 //!
 //! In contracts `smalls terms` is the list of all terms by their numbers, `Extends` says that those which were there stay, and `AllZip (IsSuccessor
-//! ..)` that numbered steps are the steps of a list, one by one.
+//! ..)` that numbered steps are the steps of a list, one by one. `made` are the calls that were made before. A match that hands an option back as it
+//! is changes nothing: it is for the prover.
 
 ghost use Rattle.std.specs.Prelude.{◌≡◌, ◌<◌, ◌≤◌, ◌++◌, List, ℕ, length, map, reverse, Some, None, slice_get, IfOk, OnOk, IfSome, IfNone};
 ghost use Rattle.std.specs.List.{AllZip};
@@ -93,6 +94,7 @@ fn given(param: Param) -> Option<Becoming>
     }
 }
 
+// Whether one of the parameters is void.
 fn has_void(params: &[Param]) -> bool
     ensures { result ≡ has_void params.now }
 {
@@ -133,6 +135,7 @@ fn answer(source: &Source, made: &[Made], site: u32, args: &Args) -> Result<Foun
 fn call(alloc: Global, site: u32, args: &[Value], rest: Found) -> Result<Becoming, AllocError>
     ensures { IfOk result (λ b. becoming_of (Some b) ≡ asked (λ _ _. record { site = site; args = args.now; rest = rest }) site (Some args.now)) }
 {
+    // One copy for what is seen, and one for the pending call.
     let made = Vec::from_slice(alloc, args)?;
     let out = Vec::from_slice(alloc, args)?;
     Ok(Becoming {
@@ -397,7 +400,8 @@ pub(crate) fn own_step(
     }
 }
 
-// Plans that the parts of this part are entered next. The error is refused memory, or prunings opened in one another 2^64 deep.
+// Plans that the parts of this part are entered next. The error is refused memory, prunings opened in one another 2^64 deep, or that there is no such
+// term.
 fn plan(terms: &Terms, walk: &mut Walk, spot: Spot) -> Result<(), AllocError>
     ensures { OnOk result (IsPlanned (smalls terms.now) spot walk.old walk.new) }
 {

@@ -124,7 +124,8 @@ pub fn is_same_node(a: &Node, b: &Node) -> bool
 /// A hash with a word mixed in: words that are mixed in one after another give a number that differs for most lists of words. Nothing is promised of
 /// it.
 pub fn mix(seed: u64, word: u64) -> u64 {
-    // The odd constant is 2^64 over the golden ratio, which spreads its factor over all bits.
+    // The odd constant is 2^64 over the golden ratio, which spreads its factor over all bits. The low bits of a product come of low bits alone, so a
+    // rotation brings upper ones down: `Places` takes a slot from the low bits.
     (seed ^ word)
         .wrapping_add(0x9E37_79B9_7F4A_7C15)
         .wrapping_mul(0x9E37_79B9_7F4A_7C15)

@@ -14,6 +14,7 @@ const FEWEST: usize = 16;
 struct Slot {
     high: u32,
     low: u32,
+    // The number, or `FREE`.
     at: u32,
 }
 
@@ -69,6 +70,7 @@ impl Places {
 
     /// The number that was kept for this hash last; None if there is none.
     pub fn get(&self, hash: u64) -> Option<usize> {
+        // Only its hash is compared.
         let wanted = Slot::new(hash, FREE);
         // Without slots the loop has no turn, whatever the mask is.
         let mask = self.slots.len().wrapping_sub(1);
@@ -87,11 +89,13 @@ impl Places {
         None
     }
 
-    // Puts a number with its hash into the first slot, from that of the hash's low bits on, that is free or has the same hash.
+    // Puts a number with its hash into the first slot, from that of the hash's low bits on, that is free or has the same hash. Without
+    // one nothing is kept; `insert` sees to it that some are free.
     fn put(&mut self, new: Slot) {
         let mask = self.slots.len().wrapping_sub(1);
         let mut place = new.low as usize & mask;
         for _slot in 0..self.slots.len() {
+            // Never None: the mask keeps the place below the length, a power of two.
             let Some(slot) = self.slots.get_mut(place) else {
                 return;
             };
@@ -113,6 +117,7 @@ impl Places {
         let free = Slot::new(0, FREE);
         let many = self.slots.len().saturating_mul(2).max(FEWEST);
         let before = replace(&mut self.slots, Vec::from_elem(self.alloc, free, many)?);
+        // `put` counts them again.
         self.used = 0;
         for slot in before.as_slice() {
             if !slot.is_free() {

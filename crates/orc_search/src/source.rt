@@ -11,6 +11,7 @@ use orc_rules::param::{Operand, Param};
 use orc_rules::program::{Program, TermNode};
 use std::alloc::{AllocError, Global};
 
+// An operand of a source as a parameter.
 fn param_of(operand: Operand) -> Param
     ensures { result ≡ param_of operand }
 {
@@ -20,6 +21,7 @@ fn param_of(operand: Operand) -> Param
     }
 }
 
+// Operands as parameters. The error is refused memory.
 fn params_of(alloc: Global, operands: &[Operand]) -> Result<Vec<Param>, AllocError>
     ensures { IfOk result (λ v. v.items ≡ map param_of operands.now) }
 {
@@ -30,7 +32,7 @@ fn params_of(alloc: Global, operands: &[Operand]) -> Result<Vec<Param>, AllocErr
     Ok(params)
 }
 
-// The number of the small term of a program's node; None if it isn't known.
+// The number of the small term of the program's node `i`, from 0; None if it isn't known yet.
 fn number_at(numbers: &[usize], i: usize) -> Option<usize>
     ensures { result ≡ slice_get numbers.now i }
 {
@@ -53,7 +55,7 @@ fn pair_of(numbers: &[usize], joint: Joint, f: usize, g: usize) -> Result<Node, 
     Ok(Node::Pair(joint, left, right))
 }
 
-// The node of the small term of a program's node, from the numbers of those before it. The error is refused memory.
+// The node of the small term of a program's node, from the numbers of those before it. The error is refused memory, or that of `pair_of`.
 fn node_of(
     alloc: Global,
     program: &Program,

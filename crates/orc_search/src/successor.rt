@@ -56,9 +56,9 @@ pub enum Frame {
 pub enum Lift {
     /// It stays, with the new part.
     Stays,
-    /// A `>x>` takes a published value: its x and its right side.
+    /// A `>x>` takes a published value: its x, its right side, and the value.
     Fed(u32, usize, Value),
-    /// A cell takes a published value: its number, and the left side of its pruning, which alone is left.
+    /// A cell takes a published value: its number, the left side of its pruning, which alone is left, and the value.
     Bound(u64, usize, Value),
     /// An otherwise passes a published value on, and its left side alone is left.
     Passed,

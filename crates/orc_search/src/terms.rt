@@ -1,4 +1,7 @@
 //! The small terms of a search, each as a numbered node whose parts are earlier nodes. Terms share their parts, and none is ever removed.
+//!
+//! In contracts `smalls` is the list of all terms by their numbers, `HasParts` says that a node's parts have lower numbers, and `Extends` that the
+//! terms which were there stay. A match that hands an option back as it is changes nothing: it is for the prover.
 
 ghost use Rattle.std.specs.Prelude.{◌≡◌, ◌<◌, ◌≤◌, ◌++◌, ◌∷◌, [], List, length, Some, true, false, slice_get, IfOk, OnOk, OnErr, IfSome, IfNone, slice_index_or};
 ghost use Rattle.orc_search.specs.Changes.{IsImage, IsPart};
@@ -17,7 +20,7 @@ use std::marker::Model;
 /// Small terms by their numbers, from 0. A node that is asked for again has the same number again, unless one with an equal hash came between.
 pub struct Terms {
     nodes: Vec<Node>,
-    // One for each node.
+    // One for each node, at its place.
     summaries: Vec<Summary>,
     // Where the node last made with a hash stands. Nothing is promised of it: what is found there is compared.
     places: Places,
@@ -52,6 +55,7 @@ impl Model for Terms {
     ghost invariant = { λ t. ArePartsFirst t.nodes.items × (t.summaries.items ≡ map summary_of (smalls t.nodes.items)) × AreImages (smalls t.nodes.items) t.images };
 }
 
+// The node at that place, from 0; None if there is none.
 fn node_at(nodes: &Vec<Node>, at: usize) -> Option<&Node>
     ensures there { IfSome result (λ n. slice_get nodes.now.items at ≡ Some n.now) }
     ensures none { IfNone result (slice_get nodes.now.items at ≡ None) }
@@ -75,7 +79,7 @@ fn summary_in(summaries: &Vec<Summary>, at: usize) -> Summary
     }
 }
 
-// The summary of a term without parts. A value or a call that isn't made yet hasn't halted, and has no pending call.
+// The summary of a term without parts. A parameter or a call that isn't made yet hasn't halted, and has no pending call.
 fn tip_summary(tip: &Tip) -> Summary
     ensures { result ≡ summary_of (tip_of tip.now) }
 {
@@ -105,7 +109,7 @@ fn time_left(rest: Found) -> Option<u64>
     }
 }
 
-// The lesser of two times, where there are any.
+// The lesser of two times; the only one if there is one; None if there is none.
 fn sooner(a: Option<u64>, b: Option<u64>) -> Option<u64>
     ensures { result ≡ sooner a b }
 {
@@ -211,7 +215,7 @@ impl Terms {
         Ok(at)
     }
 
-    // Whether an equal node is at that place.
+    // Whether an equal node is at that place. Only true is promised to mean it.
     fn stands_at(&self, at: usize, node: &Node) -> bool
         ensures { result ≡ true → slice_get (smalls self.now) at ≡ Some (small_of_node (smalls self.now) node.now) }
     {
@@ -221,7 +225,7 @@ impl Terms {
         }
     }
 
-    // A place where a node with this hash may stand.
+    // A place where a node with this hash may stand; None if none is known.
     fn place_of(&self, hash: u64) -> Option<usize> {
         self.places.get(hash)
     }

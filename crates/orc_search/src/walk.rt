@@ -21,7 +21,7 @@ pub(crate) struct Spot {
     pub(crate) depth: u64,
 }
 
-/// What a walk does next: it enters a part, which this frame encloses, or it leaves the part that it is in.
+/// What a walk does next: it enters a part, which this frame encloses, or it leaves the part that it is in, whose own parts it has entered.
 #[derive(Clone, Copy)]
 pub(crate) enum Task {
     Enter(Frame, Spot),
