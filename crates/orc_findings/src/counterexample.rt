@@ -1,5 +1,8 @@
 //! What stands below a claim that fails in the table of a test: the way, where the claim fails in its run, or what it saw of a run that a search
-//! found. Each writer appends to `text`; its error is refused memory.
+//! found. Each writer appends to `text`; its error is refused memory. The loops aren't `for` loops, since their invariants speak of what is left.
+//!
+//! With columns from 0, the lines of a way begin in column 11, behind the failure's number; where a claim fails and what it saw in column 9, below the
+//! claim's text.
 
 ghost use Rattle.std.specs.Prelude.{◌≡◌, ◌++◌, OnOk, true};
 ghost use Rattle.orc_findings.specs.Below.{at_time, failing_text, headed, lines_or_usual, number_text, seen_all, seen_one, seen_text, time_text, timed, way_text};
@@ -12,13 +15,13 @@ use orc_outcome::End;
 use orc_ways::test::SiteName;
 use std::alloc::{AllocError, Global};
 
-// `    [12]`, and blanks up to the column where lines begin.
+// `    [12]`, and blanks up to the column where the way's lines begin.
 fn write_number(alloc: Global, number: usize, text: &mut Vec<u8>) -> Result<(), AllocError>
     ensures { OnOk result (text.new.items ≡ text.old.items ++ number_text number) }
 {
     let head = format!(in alloc; "    [{number}]")?;
     text.extend_from_slice(head.as_bytes())?;
-    // None if the number is longer than the blanks.
+    // As many blanks as are left of column 11; None if the number reaches past it.
     match b"           ".get(head.len()..) {
         Some(blanks) => text.extend_from_slice(blanks),
         None => Ok(()),
@@ -34,6 +37,7 @@ fn write_headed(
 ) -> Result<(), AllocError>
     ensures { OnOk result (text.new.items ≡ text.old.items ++ headed begins head.now lines.now) }
 {
+    // Whether the next byte is the first of a line that gets the head.
     let mut is_first = begins;
     let mut rest = lines;
     loop {
@@ -51,7 +55,7 @@ fn write_headed(
     }
 }
 
-// Appends the lines, each below the first one behind blanks; or a sentence if there are none.
+// Appends the lines, each below the first one behind blanks, since that one stands behind the number; or a sentence if there are none.
 fn write_or_usual(lines: &[u8], text: &mut Vec<u8>) -> Result<(), AllocError>
     ensures { OnOk result (text.new.items ≡ text.old.items ++ lines_or_usual lines.now) }
 {

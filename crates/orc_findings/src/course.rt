@@ -96,7 +96,7 @@ impl Course<'_> {
         Ok(())
     }
 
-    // Appends the happening at this place, from 0; the end if there is none.
+    // Appends the happening at this place, from 0, with its time; the run's end if there is none.
     fn write_at(
         &self,
         alloc: Global,

@@ -1,4 +1,7 @@
 //! What the claims of a test that stand below `always` say of one run, whoever made it: the answer of `orc check --claims`.
+//!
+//! The loops aren't `for` loops, since their invariants speak of the rest of the lists. Where a loop goes over lines and verdicts, `rest` are the
+//! lines that are left and `others` their verdicts, as many.
 
 ghost use Rattle.std.specs.Prelude.{◌≡◌, ◌++◌, IfOk, OnOk, length};
 ghost use Rattle.std.specs.List.{count_by, slice_get};
@@ -110,7 +113,7 @@ fn standing_of(state: State) -> Standing
     }
 }
 
-// What is said of the first claim, if there is one.
+// The verdict on the first claim; None if there is none.
 fn first_verdict(judged: &[Judged]) -> Option<Verdict>
     ensures { result ≡ first_verdict judged.now }
 {
@@ -163,7 +166,7 @@ impl Seen<'_> {
         course.write_place(alloc, sites, verdict, text)
     }
 
-    // Appends the line of a claim, and below one that fails the line that says where.
+    // Appends the line of a claim, and below one that fails the line that says where, which begins below the claim's text.
     fn write_row(
         &self,
         alloc: Global,

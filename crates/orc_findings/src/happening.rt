@@ -1,4 +1,5 @@
-//! The text of what happens in a run: `Pay(7, 100) answered 2001`. Each writer appends to `text`; its error is refused memory.
+//! The text of what happens in a run: `Pay(7, 100) answered 2001`. Each writer appends to `text`; its error is refused memory. The loops aren't `for`
+//! loops, since their invariants speak of the rest of the list.
 
 ghost use Rattle.std.specs.Prelude.{◌≡◌, ◌++◌, OnOk, true, length};
 ghost use Rattle.std.specs.List.{slice_get};
@@ -31,6 +32,7 @@ fn write_closing(values: &[Value], text: &mut Vec<u8>) -> Result<(), AllocError>
     }
 }
 
+// `(7, 100)`, or `()`
 fn write_arguments(values: &[Value], text: &mut Vec<u8>) -> Result<(), AllocError>
     ensures { OnOk result (text.new.items ≡ text.old.items ++ arguments values.now) }
 {
@@ -45,6 +47,7 @@ fn write_arguments(values: &[Value], text: &mut Vec<u8>) -> Result<(), AllocErro
     Ok(())
 }
 
+// What became of a call, behind a blank: ` answered 2001`
 fn write_phase(phase: Phase, text: &mut Vec<u8>) -> Result<(), AllocError>
     ensures { OnOk result (text.new.items ≡ text.old.items ++ phase_text phase) }
 {

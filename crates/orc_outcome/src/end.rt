@@ -6,7 +6,7 @@ ghost use Rattle.orc_outcome.specs.Status.{end_status_of};
 /// How a run ended.
 #[derive(Clone, Copy, Debug, PartialEq, Eq)]
 pub enum End {
-    /// The term has halted: nothing can ever happen any more.
+    /// The term has halted: no call and no publication can come of it any more.
     Halted,
     /// Nothing can happen any more, though the term has not halted.
     Quiet,

@@ -9,7 +9,7 @@ pub struct Played {
     pub summary: Summary,
     /// What it published, in order.
     pub published: Vec<Value>,
-    /// Its journal in the second version. None if it wasn't kept.
+    /// Its journal in the second version, the one that has cancels. None if it wasn't kept.
     pub journal: Option<Journal>,
 }
 

@@ -8,7 +8,7 @@ ghost use Rattle.orc_tally.specs.Shell.{escaped, is_plain, word_of};
 
 use std::alloc::AllocError;
 
-// Whether the byte means itself to a shell.
+// Whether the byte means itself to a shell: an ASCII letter or digit, `-`, `.`, `/`, `_`, or a byte of a character beyond ASCII.
 fn is_plain(byte: u8) -> bool
     ensures { result ≡ is_plain byte }
 {
@@ -33,7 +33,7 @@ fn are_plain(name: &[u8]) -> bool
     }
 }
 
-// Writes the inside of a name's quotes. The error is refused memory.
+// Writes the inside of a name's quotes. Before an apostrophe the quotes end, and behind it they begin again. The error is refused memory.
 fn write_escaped(name: &[u8], text: &mut Vec<u8>) -> Result<(), AllocError>
     ensures { OnOk result (text.new.items ≡ text.old.items ++ escaped name.now) }
 {

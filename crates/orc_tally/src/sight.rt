@@ -16,11 +16,12 @@ use std::alloc::{AllocError, Global};
 pub struct ClaimSite {
     /// Its number in the program's table.
     pub site: u32,
+    /// How many arguments its calls have.
     pub arguments: usize,
 }
 
-/// The number that claims have for a site of the program's table with so many arguments: its place among these, from 0, or their number if it isn't
-/// among them.
+/// The number that claims have for a site of the program's table with so many arguments: its place in `sites`, from 0, or `sites.len()` if it isn't
+/// there.
 pub fn claim_number(sites: &[ClaimSite], site: u32, arguments: usize) -> u32
     requires { length sites.now < 2 ^ 32 }
     ensures { result ≡ number_from 0 sites.now site arguments }
@@ -75,7 +76,7 @@ pub fn happenings_of(
 ) -> Result<Happenings, AllocError>
     ensures { IfOk result (λ h. h ≡ told_all begin (map (renumbered sites.now) journal.now.entries)) }
 {
-    // One past the last is a number too, and has to fit 32 bits.
+    // `claim_number` may give `sites.len()`, which has to fit 32 bits.
     if sites.len() > u32::MAX as usize {
         return Err(AllocError);
     }

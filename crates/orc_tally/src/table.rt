@@ -1,4 +1,5 @@
-//! The rows of the table that `orc test` prints of a test. A claim's *section* is the place of its case, or None for `always`.
+//! The rows of the table that `orc test` prints of a test. A claim's *section* is the place of its case, or None for `always`. Cases and claims are
+//! named by their places in the test, from 0.
 //!
 //! A loop that matches on the rest of a list is no `for`, since its invariant speaks of that rest.
 
@@ -18,7 +19,7 @@ pub struct CaseReport {
     pub ways: u64,
     /// How many of them were tried, the first ones.
     pub tried: u64,
-    /// How many runs were cut: by the limit, or by one of the engine's.
+    /// How many of its runs didn't end by themselves: the limit of entries cut them, or a limit of the engine.
     pub cut: u64,
     /// What is reported of each claim of the test over the ways that were tried, those of other cases too. There may be one claim more than the test
     /// has lines of claims: the last one is then `ends Halted or Quiet`.
@@ -333,8 +334,8 @@ fn is_end(claim: &Claim) -> bool
     claim.conditions.len() == 0 && is_of_end(&claim.plain)
 }
 
-// Whether one of these claims says how the runs of the case at this place end. `lines` has the line of each claim, in the same order; in the loop
-// `rest` are the claims that are left, and `behind` their lines.
+// Whether one of these claims says how the runs of the case at this place end. `lines` has the line of each claim, in the same order, and so as many;
+// in the loop `rest` are the claims that are left, and `behind` their lines.
 fn has_end(case: usize, claims: &[Claim], lines: &[ClaimLine<'_>]) -> bool
     ensures { result ≡ has_end case claims.now lines.now }
 {
@@ -377,6 +378,7 @@ fn add_end(
             rows.push(Row::Fails(claim, Counterexample::Trial(shown)))?;
             Ok(())
         }
+        // It fails only in runs that were cut, and none of these is reported.
         None => Ok(()),
     }
 }
@@ -474,6 +476,7 @@ pub fn failure_at(rows: &[Row], number: u64) -> Option<Counterexample>
                     if number == 1 {
                         return Some(*found);
                     }
+                    // 0 is the number of no failure. It stays 0, so that none is found.
                     number = number.saturating_sub(1);
                 }
                 rest = more;

@@ -1,6 +1,7 @@
 //! The text of the table that `orc test` prints of a test.
 //!
-//! The loops over lists aren't `for` loops, since their invariants speak of the rest of the list. Each error is refused memory.
+//! The loops over lists aren't `for` loops, since their invariants speak of the rest of the list. Each error is refused memory. A claim's *section*
+//! is the place of its case, or None for `always`; cases and claims are named by their places in the test, from 0.
 
 ghost use Rattle.std.specs.Prelude.{◌≡◌, ◌++◌, IfOk, IfSome, OnOk, Some, codes, map, true};
 ghost use Rattle.std.specs.List.{slice_get};
@@ -56,7 +57,7 @@ pub fn claim_text<'a>(line: &ClaimLine<'a>) -> &'a [u8]
 }
 
 impl Report<'_, '_> {
-    // The name of a case; nothing if there is none at this place.
+    // The name of the case at this place; nothing if there is none.
     fn write_name(&self, case: usize, text: &mut Vec<u8>) -> Result<(), AllocError>
         ensures { OnOk result (text.new.items ≡ text.old.items ++ name_at (slice_get self.now.test.now.cases.items case)) }
     {
@@ -112,7 +113,7 @@ impl Report<'_, '_> {
         Ok(())
     }
 
-    // `27 of 378 ways of slow`
+    // `27 of 378 ways of slow`, where a claim is `failing` in 27 of the 378 ways that were `tried`
     fn write_one(
         &self,
         alloc: Global,
@@ -216,7 +217,8 @@ impl Report<'_, '_> {
         }
     }
 
-    // The line of a claim that holds: `  ok     no A()    (every schedule)`
+    // The line of a claim that holds: `  ok     no A()    (every schedule)`. `tested` says that it was put to the test, `whole` that every schedule
+    // keeps it.
     fn write_success(
         &self,
         claim: usize,
@@ -328,7 +330,7 @@ impl Call<'_> {
         text.extend_from_slice(b" --fail 1")
     }
 
-    // The two lines with the commands that show the first failure.
+    // The two lines with the commands that show the first failure, the second command below the first.
     fn write_commands(&self, text: &mut Vec<u8>) -> Result<(), AllocError>
         ensures { OnOk result (text.new.items ≡ text.old.items ++ commands_text self.now.source.now self.now.test.now self.now.options.now) }
     {
@@ -353,7 +355,7 @@ impl Call<'_> {
     }
 }
 
-// Whether a comma stands before the last so many digits of a number.
+// Whether a comma stands before the last `digits` digits of a number.
 fn is_grouped(digits: usize) -> bool
     ensures { result ≡ is_grouped digits }
 {
@@ -452,7 +454,7 @@ fn all_tried(cases: &[CaseReport]) -> Option<u64>
     }
 }
 
-// In how many ways a claim fails, 0 if nothing is reported of it.
+// In how many ways a claim fails; 0 if nothing is reported of it.
 fn failing_in(told: Option<Told>) -> u64
     ensures { result ≡ failing_in told }
 {
@@ -462,7 +464,7 @@ fn failing_in(told: Option<Told>) -> u64
     }
 }
 
-// What stands before an item of a list.
+// What stands before an item of a list, by whether it is the first one.
 fn comma(is_first: bool) -> &'static str
     ensures { result.now ≡ comma is_first }
 {

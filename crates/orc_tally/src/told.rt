@@ -10,9 +10,9 @@ use std::alloc::{AllocError, Global};
 /// A trial in which a claim fails: a run in some way and some order.
 #[derive(Clone, Copy, PartialEq, Eq, Debug)]
 pub struct Failure {
-    /// The way, from 0.
+    /// The number of the way in its case, from 0.
     pub way: u64,
-    /// The order, from 0.
+    /// The number of the order, from 0.
     pub order: u64,
     /// Where in the run it fails. It is never `Holds`.
     pub verdict: Verdict,
@@ -99,7 +99,7 @@ pub fn nothing_told(alloc: Global, claims: &[Claim]) -> Result<Vec<Told>, AllocE
 }
 
 /// What is reported of each claim over one way with one trial more of it: `told` is what the orders before gave, and `judged` what the claims say of
-/// the run in this order. Way and order are counted from 0. The error is refused memory.
+/// the run in this order, claim by claim up to the end of the shorter list. Way and order are counted from 0. The error is refused memory.
 pub fn noted(
     alloc: Global,
     way: u64,
@@ -127,7 +127,8 @@ pub fn noted(
     }
 }
 
-/// What is reported of each claim over some ways and others behind them together. The error is refused memory.
+/// What is reported of each claim over some ways and others behind them together, claim by claim up to the end of the shorter list. The error is
+/// refused memory.
 pub fn joined(alloc: Global, told: &[Told], others: &[Told]) -> Result<Vec<Told>, AllocError>
     ensures { IfOk result (λ all. all.items ≡ joined_all told.now others.now) }
 {
