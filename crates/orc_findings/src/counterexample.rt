@@ -1,8 +1,8 @@
 //! What stands below a claim that fails in the table of a test: the way, where the claim fails in its run, or what it saw of a run that a search
 //! found. Each writer appends to `text`; its error is refused memory. The loops aren't `for` loops, since their invariants speak of what is left.
 //!
-//! With columns from 0, the lines of a way begin in column 11, behind the failure's number; where a claim fails and what it saw in column 9, below the
-//! claim's text.
+//! With columns from 0, the lines of a way begin in column 11, behind the failure's number; where a claim fails and what it saw in column 9, below
+//! the claim's text.
 
 ghost use Rattle.std.specs.Prelude.{◌≡◌, ◌++◌, OnOk, true};
 ghost use Rattle.orc_findings.specs.Below.{at_time, failing_text, headed, lines_or_usual, number_text, seen_all, seen_one, seen_text, time_text, timed, way_text};

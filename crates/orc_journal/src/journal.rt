@@ -1,4 +1,7 @@
 //! A journal in memory.
+//!
+//! A call that adds an entry makes room for its row, then adds to the tables, and puts the row in last, which can't fail. So where memory is refused
+//! no row was added; what the tables have more is named by none.
 
 ghost use Rattle.std.specs.Prelude.{◌≡◌, ◌+◌, ◌≤◌, ◌++◌, ◌∷◌, [], List, None, Some, length, map, take, true, false, IfOk, OnOk, OnErr};
 ghost use Rattle.std.specs.List.{slice_get};
@@ -88,7 +91,8 @@ impl Journal {
     }
 
     /// Adds an entry at the end. The error is refused memory, and then nothing changes.
-    // Inlined, so that a caller which knows the entry's kind makes one call and builds no `Entry`. A number that the kind doesn't have is 0.
+    // Inlined, so that a caller which knows the entry's kind makes one call and builds no `Entry`. A number that the kind doesn't have is 0. The
+    // letters are those of `Entry`.
     #[inline(always)]
     pub fn push(&mut self, entry: &Entry) -> Result<(), AllocError>
         ensures added { OnOk result (self.new ≡ record { version = self.old.version; entries = self.old.entries ++ entry.now ∷ [] }) }
@@ -115,7 +119,7 @@ impl Journal {
         }
     }
 
-    // Adds an entry of numbers alone at the end. Where memory is refused nothing changes.
+    // Adds an entry of numbers alone at the end, in the order of its line (`Parts`). Where memory is refused nothing changes.
     // Neither it nor `push_given` is inlined, so that `push` stays small.
     #[inline(never)]
     fn push_plain(

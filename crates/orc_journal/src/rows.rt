@@ -41,7 +41,7 @@ pub enum Row {
 // The docstring of `Journal` says so.
 const _: () = prove!(size_of::<Row>() == 16);
 
-/// A call's site, the place of its first argument among the values, and how many it has.
+/// A call's site, by its number in the program's table, the place of its first argument among the values, and how many arguments it has.
 #[derive(Clone, Copy)]
 pub struct Called {
     pub site: u32,
@@ -49,6 +49,7 @@ pub struct Called {
     pub count: u8,
 }
 
+// So it says of this size.
 const _: () = prove!(size_of::<Called>() == 12);
 
 /// What the rows of a journal name by its place: values, calls and parts of wide rows.
@@ -132,7 +133,7 @@ fn args_of(values: &[Value]) -> Args
     args
 }
 
-// The value at a place. There is one at each place that a row names.
+// The value at a place; `signal` if there is none, which is no place that a row names.
 fn value_at(values: &Vec<Value>, at: u64) -> Value
     ensures { result ≡ value_at values.now.items at }
 {
@@ -180,7 +181,8 @@ impl Tables {
         self.add_wide(parts)
     }
 
-    /// Makes the row of an entry that has only numbers: neither a value nor arguments. The error is refused memory.
+    /// Makes the row of an entry that has only numbers, neither a value nor arguments, from the numbers as `Parts` has them. The error is refused
+    /// memory.
     pub(crate) fn add_plain(
         &mut self,
         kind: Kind,
@@ -220,6 +222,7 @@ impl Tables {
     {
         match values {
             [value] => self.place(*value),
+            // Several follow one another only if all are stored anew; with none any place does.
             _ => {
                 let start = self.values.len();
                 self.values.extend_from_slice(values)?;
@@ -228,7 +231,8 @@ impl Tables {
         }
     }
 
-    /// Makes the row of an entry with a value. The error is refused memory.
+    /// Makes the row of an entry with a value, from its two numbers as `Parts` has them: the second one of a `publish` is 0. The error is refused
+    /// memory.
     pub(crate) fn add_given(
         &mut self,
         kind: Kind,
@@ -257,6 +261,7 @@ impl Tables {
         ensures kept { Keeps self.old self.new }
         ensures row { IfOk result (λ r. StandsFor self.new r (Call token call site args.now)) }
     {
+        // The place at which `put` adds the call below: only if that succeeds the row is handed out.
         let at = self.calls.len() as u64;
         // 2^32 values would take 64 GiB: a place that doesn't fit 32 bits counts as refused memory.
         let Some(start) = short(self.place_all(args)? as u64) else {
@@ -322,7 +327,7 @@ impl Tables {
         *entry = Entry::Call(s, k, called.site, args_of(self.args(called)));
     }
 
-    /// Overwrites `entry` with the entry of a row.
+    /// Overwrites `entry` with the entry of a row. `Parts` says what its numbers are.
     pub(crate) fn read(&self, row: Row, entry: &mut Entry)
         requires { IsWithin self.now row }
         ensures { entry.new ≡ entry_of self.now row }
@@ -349,7 +354,7 @@ impl Tables {
         }
     }
 
-    /// The value that the entry of a row publishes, if it publishes one.
+    /// The value that the entry of a row publishes; None if it is no `publish`.
     pub(crate) fn publication(&self, row: Row) -> Option<Value>
         requires { IsWithin self.now row }
         ensures { option_to_list result ≡ published (entry_of self.now row ∷ []) }

@@ -20,7 +20,9 @@ pub struct Shift {
     pub token: u32,
     /// Added to its marks from 2 on.
     pub marks: u32,
+    /// Added to the numbers of its calls.
     pub calls: u32,
+    /// Added to the numbers of its cells.
     pub cells: u32,
     /// Added to the places of its values.
     pub values: u32,
@@ -40,8 +42,9 @@ impl Shift {
         self.marks.checked_add(own)
     }
 
-    // Rewrites a part's row for the same entry under the enclosing run's numbers. None for a wide row, if a number doesn't fit 32 bits, or if an
-    // `open` has mark 1 among its new marks, since these would no longer follow one another. At None some numbers may have been rewritten.
+    // Rewrites a part's row for the same entry under the enclosing run's numbers; a, b and c are the first three of its `Parts`. None for a wide row,
+    // if a number doesn't fit 32 bits, or if an `open` has mark 1 among its new marks, since these would no longer follow one another. At None some
+    // numbers may have been rewritten.
     #[inline(always)]
     fn move_row(self, row: &mut Row) -> Option<()>
         ensures moved { OnSome result (row.new ≡ row_by self row.old) }
@@ -188,6 +191,7 @@ impl Tables {
         ensures kept { Keeps self.old self.new }
         ensures added { IfOk result (λ fit. fit ≡ true → self.new ≡ grown self.old part.now.values (map (called_by shift) part.now.calls) []) }
     {
+        // Room for all calls, which `push_calls` then adds without a test.
         self.calls.try_reserve(part.calls.len())?;
         if !push_calls(&mut self.calls, &part.calls, shift) {
             return Ok(false);

@@ -69,8 +69,8 @@ impl Tables {
         }
     }
 
-    // Adds a part's entry to these tables under the enclosing run's numbers, and gives its row here. `row` is its row in the part. The error is
-    // refused memory, or a number that doesn't fit 64 bits.
+    // Adds a part's entry to these tables under the enclosing run's numbers, and gives its row here. `row` is its row in the part; the letters s, a,
+    // b, c and k are those of `Entry`, in the enclosing run. The error is refused memory, or a number that doesn't fit 64 bits.
     #[inline(always)]
     fn add_moved(
         &mut self,

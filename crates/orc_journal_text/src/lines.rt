@@ -42,6 +42,7 @@ pub enum LinesFault {
 #[derive(Drop)]
 pub struct Lines<R: Read + Drop> {
     version: Version,
+    // What has come of the text and isn't used, and the reader.
     pieces: Pieces<R>,
     // How many entries were read.
     read: usize,
@@ -187,12 +188,12 @@ impl<R: Read + Drop> Lines<R> {
         let Some(behind) = next_entry(self.version, self.pieces.rest(), answers, entry) else {
             return Ok(false);
         };
-        // Drops the line: only the bytes behind it are kept.
         let left = behind.len();
         let counted = count_with(self.counted, entry);
         if counted > MOST_ENTRIES {
             return Err(LinesFault::Text(JournalFault::Long));
         }
+        // Drops the line: only the bytes behind it are kept.
         self.pieces.keep_last(left);
         self.read += 1;
         self.counted = counted;
@@ -235,6 +236,7 @@ impl<R: Read + Drop> Lines<R> {
         ensures end { IfOk result (λ _. (piece : List ℕ) × MayCome self.old.coming.left piece × ((text : List ℕ) (es : List EntryOf) → HasRead answers.now.names text self.old es → (more : List EntryOf) × IsJournal answers.now.names (text ++ piece) (record { version = self.old.version; entries = es ++ more }))) }
         ensures fault { IfErr result (λ f. (text : List ℕ) (es : List EntryOf) → HasRead answers.now.names text self.old es → IsLinesFault answers.now.names self.old.coming.left text f) }
     {
+        // A placeholder, which `next` overwrites.
         let mut entry = Entry::Tick(0);
         while self.next(answers, &mut entry)? {}
         Ok(())

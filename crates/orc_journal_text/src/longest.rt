@@ -7,7 +7,7 @@ ghost use Rattle.orc_rules.specs.declared.entry.Entry.{Entry as EntryOf};
 
 use orc_rules::answers::Answers;
 
-/// A line has fewer bytes than this, its site's name aside: that of a call with the most arguments has 418 at most.
+/// A line has fewer bytes than this, its site's name aside. The longest, of a call with 16 arguments, has 400; these and their commas take 350.
 const MOST_UNNAMED: usize = 512;
 
 // Whether no site's name has more than `most` bytes.

@@ -136,6 +136,7 @@ impl<R: Read + Drop> Pieces<R> {
         if make_room(&mut self.room, self.start, self.end).is_err() {
             return Err(LinesFault::Text(JournalFault::Memory));
         }
+        // The bytes that aren't used are at the front now.
         self.end -= self.start;
         self.start = 0;
         let Some(count) = read_at(&mut self.source, self.room.as_mut_slice(), self.end) else {

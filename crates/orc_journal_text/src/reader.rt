@@ -191,8 +191,8 @@ fn split_name(bytes: &[u8]) -> (&[u8], &[u8])
     bytes.split_at(end)
 }
 
-// A guess at the built-in site by the first letters: its number, by the order of `Builtin::ALL`. A wrong guess costs time alone, since `is_name_of`
-// tests it.
+// A guess at the built-in site by the first letters: its number, by the order of `Builtin::ALL`, whose last one is `Rwait`. A wrong guess costs time
+// alone, since `is_name_of` tests it.
 fn likely_site(name: &[u8]) -> u32 {
     match name {
         [b'A', ..] => 0,
@@ -218,7 +218,8 @@ fn is_name_of(name: &[u8], site: u32, answers: &Answers) -> bool
     }
 }
 
-// The number of the site of that name. Most calls are of built-in sites: one of these is tried before the table, in which to look takes longer.
+// The number of the site of that name; None if the table has no such site. Most calls are of built-in sites: one of these is tried before the table,
+// in which to look takes longer.
 #[inline(always)]
 fn site_of(name: &[u8], answers: &Answers) -> Option<u32>
     ensures { result ≡ site_named answers.now.names name.now }
@@ -269,6 +270,7 @@ fn values_at<'a>(bytes: &'a [u8], args: &mut Args) -> Option<&'a [u8]>
         }
         rest = after(b", ", behind)?;
     }
+    // One more value follows than a call may have.
     None
 }
 

@@ -52,7 +52,7 @@ impl fmt::Display for JournalFault {
 impl Error for JournalFault {}
 
 impl JournalFault {
-    /// The process's status at this fault.
+    /// The process's status at this fault: 5 for refused memory, 1 for a fault of the text.
     pub fn status(self) -> u8
         ensures { result ≡ journal_status self }
     {
@@ -137,6 +137,7 @@ pub fn write_journal(
     ensures unnamed { IfOk result (λ whole. whole ≡ false → journal.now.version ≡ Two → AreNamed answers.now.names journal.now.entries → ⊥) }
 {
     write_header(out, journal.version())?;
+    // A placeholder, which `read` overwrites.
     let mut entry = Entry::Tick(0);
     for at in 0..journal.len() {
         // There is an entry at each place below the length.

@@ -1,4 +1,5 @@
-//! Writing one entry as its line, and values as text. A `Tail` grows at its front: the fields of a line are put from the last one to the first.
+//! Writing one entry as its line, and values as text. A `Tail` grows at its front: the fields of a line are put from the last one to the first. The
+//! letters s, a, b, c, k and v are those of `Entry`.
 
 ghost use Rattle.std.specs.Prelude.{◌≡◌, ◌++◌, ◌<◌, OnOk, length, ◌∷◌, []};
 ghost use Rattle.orc_rules.specs.Text.{value_text, closing, arguments, call, line, output, IsNamed};
