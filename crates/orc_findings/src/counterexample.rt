@@ -79,8 +79,8 @@ pub fn write_way(
     write_or_usual(lines, text)
 }
 
-// `time 12`, or `a time over 30` for the latest time that the claim tells apart, which stands for all times from it on. With the greatest `latest`
-// all times are told apart, and that one is itself.
+// `time 12`, or `a time over 30` for a `latest` of 31: the latest time that the claim tells apart stands for all times from it on. With the greatest
+// `latest` all times are told apart, and that one is itself.
 fn write_time(alloc: Global, latest: u64, time: u64, text: &mut Vec<u8>) -> Result<(), AllocError>
     ensures { OnOk result (text.new.items ≡ text.old.items ++ time_text latest time) }
 {

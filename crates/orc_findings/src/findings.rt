@@ -138,6 +138,7 @@ impl Seen<'_> {
         if claim >= claims.len() {
             return Ok(None);
         }
+        // `judge` takes a list: that of this claim alone.
         let judged = judge(
             alloc,
             &claims[claim..claim + 1],

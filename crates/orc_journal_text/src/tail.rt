@@ -73,7 +73,7 @@ impl Tail {
         self.start = itoa::write_digits(n, &mut self.room, self.start);
     }
 
-    /// Puts a space and a number before it: 21 bytes at most.
+    /// Puts a space and a number in front: 21 bytes at most.
     #[inline(always)]
     pub(crate) fn put_number(&mut self, n: u64)
         requires { 21 + length self.old ≤ ROOM }
@@ -84,7 +84,7 @@ impl Tail {
         self.put(b" ");
     }
 
-    /// Puts a value before it: 21 bytes at most.
+    /// Puts a value in front: 21 bytes at most.
     pub(crate) fn put_value(&mut self, v: Value)
         requires { 21 + length self.old ≤ ROOM }
         ensures text { self.new ≡ value_text v ++ self.old }
@@ -104,7 +104,7 @@ impl Tail {
         }
     }
 
-    /// Puts a space and a value before it: 22 bytes at most.
+    /// Puts a space and a value in front: 22 bytes at most.
     #[inline(always)]
     pub(crate) fn put_value_field(&mut self, v: Value)
         requires { 22 + length self.old ≤ ROOM }

@@ -40,7 +40,8 @@ pub fn write_publications(out: &mut Vec<u8>, values: &[Value]) -> Result<(), All
     Ok(())
 }
 
-// Appends a call's arguments after the first one, each behind a comma, and the closing bracket.
+// Appends a call's arguments after the first one, each behind a comma, and the closing bracket. It recurses once an argument, which are
+// `MOST_ARGUMENTS` at most.
 fn push_closing(out: &mut Vec<u8>, args: &[Value]) -> Result<(), AllocError>
     ensures { OnOk result (out.new.items ≡ out.old.items ++ closing args.now) }
 {

@@ -18,9 +18,9 @@ pub struct Seen {
 /// What a search for a claim came to.
 #[derive(Drop)]
 pub enum ClaimSearched {
-    /// The claim holds in each run of at most so many entries as were asked for that ends by itself; how many states there are.
+    /// The claim holds in each run within the limit of entries that ends by itself, halted or quiet; how many states there are.
     Holds(usize),
-    /// It fails in this run.
+    /// It fails in this run, of however many entries.
     Fails(Seen),
     /// There are more states than the search was to look at, and the claim fails at none of the ends that it found.
     TooMany,

@@ -1,4 +1,5 @@
-//! Lists of calls that were made, by their numbers. An *entry* (`Made`) of a list is a site with arguments, and how often it was called so.
+//! Lists of calls that were made, by their numbers. An *entry* (`Made`) of a list is a site with arguments, and how often it was called so, as far as
+//! later calls are answered otherwise because of it (`called`).
 //!
 //! In contracts `made_at` is the list of a number, `count_of` an entry as the definitions have it, and `Grows` says that the lists which were there
 //! stay.

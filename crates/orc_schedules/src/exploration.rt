@@ -29,9 +29,10 @@ use std::alloc::{AllocError, Global};
 /// What a search through all schedules came to.
 #[derive(Drop)]
 pub enum Schedules {
-    /// The ends of all runs within the limit of entries that end by themselves, each that of some run, and how many states there are.
+    /// The ends of all runs within the limit of entries that end by themselves, halted or quiet; each is that of some run, of however many entries.
+    /// Behind them how many states there are.
     All(Vec<Ended>, usize),
-    /// There are more states than the search was to look at.
+    /// There are more states than the search was to look at, as where a loop goes on publishing.
     TooMany,
     /// A run within the limit of entries, or one to a state that was found, may come to a time of more than 64 bits.
     TooLong,
@@ -148,11 +149,9 @@ impl<'p> Explorer<'p> {
         Ok(all)
     }
 
-    /// Searches all schedules of the program for a run in which a claim fails, through `most` states at most. `sites` are those that the test of the
-    /// claim names. The answer is that the claim holds in every run of at most `limit` entries, cancels not counted, that ends by itself; or how one
-    /// run ends in which it fails, of however many entries, with what of it the claim names; or that there are more states and it fails at none of
-    /// the ends that were found; or that waits may add up to a time past 2^64; or that a search can't watch for such a claim. The error is refused
-    /// memory, also where the test names 2^32 sites. After an answer it can search again; after an error it can't.
+    /// Searches all schedules of the program for a run in which a claim fails, through `most` states at most; `ClaimSearched` says what each answer
+    /// means. `sites` are those that the test of the claim names, in its order; `limit` counts entries without cancels. The error is refused memory,
+    /// also where the test names 2^32 sites. After an answer it can search again; after an error it can't.
     pub fn search_claim(
         &mut self,
         alloc: Global,
@@ -178,10 +177,8 @@ impl<'p> Explorer<'p> {
     }
 }
 
-/// Searches all schedules of a program whose calls these sites answer, through `most` states at most. The answer is every outcome that a run of at
-/// most `limit` entries, cancels not counted, ends with by itself, be it halted or quiet, and none with which no run ends, of however many entries;
-/// or that there are more states, as where a loop goes on publishing; or that waits may add up to a time past 2^64, in such a run or on the way to
-/// a state. The error is refused memory.
+/// Searches all schedules of a program whose calls `answers` answers, through `most` states at most; `Schedules` says what each answer means. `limit`
+/// counts entries without cancels. The error is refused memory.
 pub fn search(
     alloc: Global,
     program: &Program,
@@ -198,7 +195,7 @@ pub fn search(
     }
     let tables = &explorer.tables;
     let states = tables.states.len();
-    // Two kinds of paths must stay in time: runs of at most `limit` entries, and a way to each state, which goes through no state twice.
+    // Two kinds of paths must stay in time: runs of at most `limit` entries, and a path to each state, which goes through no state twice.
     let steps = limit.max(states as u64);
     if !is_in_time(tables.longest, steps) {
         return Ok(Schedules::TooLong);

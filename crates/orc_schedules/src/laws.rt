@@ -4,7 +4,7 @@ ghost use Rattle.orc_schedules.specs.Ends.{FoundAreOfRuns};
 ghost use Rattle.orc_schedules.specs.Found.{AllAreFound};
 ghost use Rattle.orc_schedules.specs.Watch.{HoldsByWatched};
 
-/// Take states, each with what was seen on the way to it, that are closed under all that may happen. Their ends include the end of every run.
+/// Take states, each with what was seen on a path to it, that are closed under all that may happen. Their ends include the end of every run.
 pub fn all_are_found()
     ensures { AllAreFound }
 {}

@@ -149,6 +149,7 @@ impl Moves {
         ensures all { IfOk result (λ at. AreNext (small_definitions source.now.program.now) source.now.answers.now.sites (smalls terms.new) counts.now from.made (small_at (smalls terms.old) from.term) (next_at self.new at)) }
         ensures kept { Extends (smalls terms.old) (smalls terms.new) }
     {
+        // The seed, 1, is arbitrary.
         let hash = mix(mix(1, from.term as u64), from.made as u64);
         if let Some(at) = self.place_of(hash) {
             if self.stands_at(at, from) {

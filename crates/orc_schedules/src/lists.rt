@@ -1,4 +1,4 @@
-//! Lists of what was seen on the ways to states, by their numbers. Each list is a shorter one with one thing behind it, so that ways which begin
+//! Lists of what was seen on the paths to states, by their numbers. Each list is a shorter one with one thing behind it, so that paths which begin
 //! alike share their beginning. A list is named by its number (`at`, `before`, `to`), from 0.
 //!
 //! In contracts `lists` is the list of all of them by their numbers, `list_at` is one, and `Grows` says that those which were there stay.

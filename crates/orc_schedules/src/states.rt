@@ -5,7 +5,7 @@ ghost use Rattle.std.specs.Prelude.{◌≡◌, true};
 use crate::once::Hashed;
 use orc_search::node::mix;
 
-/// A state, and what was seen on a way to it. Two ways that differ in what was seen lead to two states.
+/// A state, and what was seen on a path to it. Two paths that differ in what was seen lead to two states.
 #[derive(Clone, Copy, PartialEq, Eq)]
 pub struct Key {
     /// The number of its term (`Terms`).
@@ -17,6 +17,7 @@ pub struct Key {
 }
 
 impl Hashed for Key {
+    // The seed, 1, is arbitrary.
     fn hash(&self) -> u64 {
         mix(
             mix(mix(1, self.term as u64), self.made as u64),

@@ -199,7 +199,7 @@ impl Tables {
         requires from { IsKnown self.old from }
         ensures all { OnOk result (AreKnown self.new) }
         ensures kept { OnOk result (Keeps self.old self.new) }
-        // If the state is an end, that end is among the ends, with what was seen on the way.
+        // If the state is an end, that end is among the ends, with what was seen on the path to it.
         ensures told { OnOk result ((e : Ending) → ending_if still (small_at (smalls self.old.terms) from.term) ≡ Some e → IsIn (end_of e, seen_at self.old from.seen) (outcomes self.new)) }
         // No other end is added.
         ensures added { OnOk result (AddsEnd (outcomes self.old) (ending_if still (small_at (smalls self.old.terms) from.term)) (seen_at self.old from.seen) (outcomes self.new)) }

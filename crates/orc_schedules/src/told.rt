@@ -14,6 +14,7 @@ pub struct Told {
 }
 
 impl Hashed for Told {
+    // The seed, 1, is arbitrary.
     fn hash(&self) -> u64 {
         mix(mix(1, self.end.status() as u64), self.seen as u64)
     }

@@ -216,6 +216,7 @@ fn own_of(
             Ok(Own::Becomes(becoming))
         }
         Some(Node::Tip(Tip::Enters(definition, params))) => {
+            // A copy, since the node that has them is among the terms, which grow when the call is worked out.
             let params = Vec::from_slice(alloc, params)?;
             Ok(Own::Enters(*definition, params))
         }
@@ -253,8 +254,8 @@ fn number_of_node(terms: &mut Terms, source: &Source, node: usize) -> Result<usi
     }
 }
 
-// The number of what a term becomes if the parameters are put for the names, one after another, as far as there are both. The error is refused
-// memory.
+// The number of what the term `body` becomes if the parameters are put for the names, one after another, as far as there are both. The error is
+// refused memory.
 fn filled(
     terms: &mut Terms,
     alloc: Global,

@@ -78,6 +78,7 @@ fn are_same_params(a: &[Param], b: &[Param]) -> bool
     }
 }
 
+// `are_same`, with a contract like those of the others here; the attribute names a lemma that the prover needs.
 #[tactic(auto, using(crate::proofs::Nodes::values_same))]
 fn are_same_values(a: &[Value], b: &[Value]) -> bool
     ensures { result ≡ true → a.now ≡ b.now }
@@ -121,8 +122,8 @@ pub fn is_same_node(a: &Node, b: &Node) -> bool
     }
 }
 
-/// A hash with a word mixed in: words that are mixed in one after another give a number that differs for most lists of words. Nothing is promised of
-/// it.
+/// A hash with a number mixed in: numbers that are mixed in one after another give a hash that differs for most lists of numbers. Nothing is promised
+/// of it.
 pub fn mix(seed: u64, word: u64) -> u64 {
     // The odd constant is 2^64 over the golden ratio, which spreads its factor over all bits. The low bits of a product come of low bits alone, so a
     // rotation brings upper ones down: `Places` takes a slot from the low bits.

@@ -6,7 +6,7 @@ use std::mem::replace;
 /// The number in a free slot.
 const FREE: u32 = u32::MAX;
 
-/// How many slots there are at first.
+/// How many slots there are at first: a power of two, as the mask asks, which `grow` doubles.
 const FEWEST: usize = 16;
 
 /// A number with the two halves of its hash, so that a slot takes twelve bytes.

@@ -42,7 +42,7 @@ fn number_at(numbers: &[usize], i: usize) -> Option<usize>
     }
 }
 
-// The node that joins the terms of two nodes of a program. The error, which no program comes to, is that the number of one isn't known yet.
+// The node that joins the terms of the program's nodes f and g. The error, which no program comes to, is that the number of one isn't known yet.
 fn pair_of(numbers: &[usize], joint: Joint, f: usize, g: usize) -> Result<Node, AllocError>
     ensures { IfOk result (λ n. IsPairOf numbers.now joint f g n) }
 {
@@ -55,7 +55,8 @@ fn pair_of(numbers: &[usize], joint: Joint, f: usize, g: usize) -> Result<Node, 
     Ok(Node::Pair(joint, left, right))
 }
 
-// The node of the small term of a program's node, from the numbers of those before it. The error is refused memory, or that of `pair_of`.
+// The node of the small term of a program's node, which `unfolded` is, from the numbers of the terms of the nodes before it. The error is refused
+// memory, or that of `pair_of`.
 fn node_of(
     alloc: Global,
     program: &Program,
