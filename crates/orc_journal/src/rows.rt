@@ -49,7 +49,7 @@ pub struct Called {
     pub count: u8,
 }
 
-// So it says of this size.
+// `Journal` says this, too.
 const _: () = prove!(size_of::<Called>() == 12);
 
 /// What the rows of a journal name by its place: values, calls and parts of wide rows.
@@ -222,7 +222,7 @@ impl Tables {
     {
         match values {
             [value] => self.place(*value),
-            // Several follow one another only if all are stored anew; with none any place does.
+            // Several follow one another only if all are stored anew; with none, any place will do.
             _ => {
                 let start = self.values.len();
                 self.values.extend_from_slice(values)?;
@@ -248,7 +248,7 @@ impl Tables {
         self.add_parts(numbered(kind, first, second, at as u64, 0))
     }
 
-    /// Makes the row of a call. The error is refused memory.
+    /// Makes the row of a call, by the mark of the token that makes it, the call's number, and its site's number. The error is refused memory.
     #[inline(always)]
     pub(crate) fn add_call(
         &mut self,

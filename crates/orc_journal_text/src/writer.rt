@@ -88,7 +88,8 @@ fn push_call(out: &mut Vec<u8>, site: u32, args: &Args, answers: &Answers) -> Re
     Ok(())
 }
 
-// Appends the line of a call. Its front is put together on the stack; the site's name, whose length has no bound, is appended by itself.
+// Appends the line of a call: `token` is the mark of the token that makes it, `number` the call's. Its front is put together on the stack; the site's
+// name, whose length has no bound, is appended by itself.
 fn write_call(
     out: &mut Vec<u8>,
     token: u64,

@@ -266,8 +266,8 @@ impl Tables {
         Ok(())
     }
 
-    // Takes those early steps of a state that nobody sees (`ahead_of`), adds all that may come of the state to which they lead, and the end of that
-    // one, if it is one.
+    // Takes those early steps of a state that nobody sees (`ahead_of`), and adds all that may come of the state to which they lead, and that state's
+    // end, if it is one.
     fn look_at(
         &mut self,
         alloc: Global,

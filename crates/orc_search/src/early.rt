@@ -34,7 +34,7 @@ const FEW_PARTS: usize = 32;
 /// What encloses a part directly.
 #[derive(Clone, Copy)]
 pub struct Inside {
-    /// What kind of part it is there, and the number of the other part.
+    /// Which side of it the part is, and the number of the other side.
     frame: Frame,
     /// The place of the enclosing part in the list of parts, from 0.
     outer: usize,
@@ -229,7 +229,7 @@ impl Parts {
             let lifted = self.lift(terms, alloc, part, step)?;
             return Ok(Some(lifted));
         }
-        // The term itself publishes, and somebody sees it.
+        // A publication of the whole term isn't early; nor, below, one that what encloses the part only passes on.
         let Some(inside) = part.inside else {
             return Ok(None);
         };

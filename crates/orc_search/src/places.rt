@@ -70,7 +70,7 @@ impl Places {
 
     /// The number that was kept for this hash last; None if there is none.
     pub fn get(&self, hash: u64) -> Option<usize> {
-        // Only its hash is compared.
+        // Only its hash is compared; the number says nothing.
         let wanted = Slot::new(hash, FREE);
         // Without slots the loop has no turn, whatever the mask is.
         let mask = self.slots.len().wrapping_sub(1);
