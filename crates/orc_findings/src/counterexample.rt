@@ -1,5 +1,6 @@
 //! What stands below a claim that fails in the table of a test: the way, where the claim fails in its run, or what it saw of a run that a search
-//! found. Each writer appends to `text`; its error is refused memory. The loops aren't `for` loops, since their invariants speak of what is left.
+//! found. Each writer appends to `text`; its error is refused memory. `sites` are those of the test, whose places are the sites' numbers.
+//! The loops aren't `for` loops, since their invariants speak of what is left.
 //!
 //! With columns from 0, the lines of a way begin in column 11, behind the failure's number; where a claim fails and what it saw in column 9, below
 //! the claim's text.

@@ -1,4 +1,5 @@
-//! Where in a run a claim fails, as text: at a happening, or at the run's end.
+//! Where in a run a claim fails, as text: at a happening, or at the run's end. `sites` are those of the test: a site's number in claims is its place
+//! there, from 0.
 
 ghost use Rattle.std.specs.Prelude.{◌≡◌, ◌++◌, OnOk, decimal};
 ghost use Rattle.std.specs.List.{slice_get};

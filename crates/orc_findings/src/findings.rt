@@ -1,7 +1,7 @@
 //! What the claims of a test that stand below `always` say of one run, whoever made it: the answer of `orc check --claims`.
 //!
 //! The loops aren't `for` loops, since their invariants speak of the rest of the lists. Where a loop goes over lines and verdicts, `rest` are the
-//! lines that are left and `others` their verdicts, as many.
+//! lines that are left and `others` their verdicts, as many. `sites` are those of the test, whose places are the sites' numbers.
 
 ghost use Rattle.std.specs.Prelude.{◌≡◌, ◌++◌, IfOk, OnOk, length};
 ghost use Rattle.std.specs.List.{count_by, slice_get};

@@ -21,8 +21,8 @@ pub struct CaseReport {
     pub tried: u64,
     /// How many of its runs didn't end by themselves: the limit of entries cut them, or a limit of the engine.
     pub cut: u64,
-    /// What is reported of each claim of the test over the ways that were tried, those of other cases too. There may be one claim more than the test
-    /// has lines of claims: the last one is then `ends Halted or Quiet`.
+    /// What is reported of each claim of the test, claims of other cases too, over the ways that were tried: at the claim's place. There may be one
+    /// more behind those that have a line in the test: `ends Halted or Quiet`.
     pub told: Vec<Told>,
 }
 

@@ -1,4 +1,4 @@
-//! What is reported of a claim over many trials.
+//! What is reported of a claim over many trials. A loop that matches on the rest of a list is no `for`, since its invariant speaks of that rest.
 
 ghost use Rattle.std.specs.Prelude.{◌≡◌, map, IfOk, IfSome};
 ghost use Rattle.orc_tally.specs.Told.{first_of, joined, joined_all, noted, noted_all, nothing};
