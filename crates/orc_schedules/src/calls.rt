@@ -57,7 +57,7 @@ fn hash_of(what: &Occurrence) -> u64 {
     }
 }
 
-/// A copy.
+/// A copy. It asks for no memory: `Args` has its values in place.
 pub(crate) fn copied(what: &Occurrence) -> Occurrence
     ensures { result ≡ what.now }
 {

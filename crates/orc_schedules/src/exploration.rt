@@ -38,7 +38,7 @@ pub enum Schedules {
     TooLong,
 }
 
-// The number of the small term of a program's node; None if there is no such node.
+// The number of the small term of the program's node `at`, from 0; None if there is no such node.
 fn number_at(numbers: &[usize], at: usize) -> Option<usize>
     ensures { result ≡ slice_get numbers.now at }
 {
@@ -48,7 +48,8 @@ fn number_at(numbers: &[usize], at: usize) -> Option<usize>
     }
 }
 
-// The number of the program's main term as a small one; that of `stop` if the program has no such node. The error is refused memory.
+// The number of the program's main term as a small one; that of `stop` if the program has no such node. `numbers` are those of its nodes' terms. The
+// error is refused memory.
 fn number_of_source(
     terms: &mut Terms,
     program: &Program,

@@ -60,9 +60,9 @@ struct Becoming {
 enum Own {
     // A term without parts, and its step, if it has one.
     Becomes(Option<Becoming>),
-    // A call of a definition.
+    // A call of the definition of this number with these parameters.
     Enters(u32, Vec<Param>),
-    // Two terms that are joined, which may turn into something else.
+    // Two terms that are joined, the left and the right one, which may turn into something else (`turned`).
     Joins(Joint, usize, usize),
 }
 

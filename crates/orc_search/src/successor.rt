@@ -108,7 +108,7 @@ fn lift_of(frame: Frame, happening: &Happening) -> Lift
     }
 }
 
-// A `>x>` takes a value that its left side published: a copy of its right side with the value runs beside the rest. f is what the left side has
+// A `>x>` takes a value that its left side published: a copy of its right side g with the value runs beside the rest. f is what the left side has
 // become. The error is refused memory.
 fn fed(
     terms: &mut Terms,

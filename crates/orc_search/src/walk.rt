@@ -68,7 +68,7 @@ impl Walk {
         }
     }
 
-    // Plans that a part is entered next, before all that is planned. The error is refused memory.
+    // Plans that a part, the term of the number `at` at this depth, is entered next, before all that is planned. The error is refused memory.
     fn plan(&mut self, frame: Frame, at: usize, depth: u64) -> Result<(), AllocError>
         ensures todo { OnOk result (reverse self.new.todo.items ≡ Enter frame (record { at = at; depth = depth }) ∷ reverse self.old.todo.items) }
         ensures path { self.new.path.items ≡ self.old.path.items }
