@@ -16,7 +16,7 @@ use std::alloc::Global;
 use std::io::Write;
 
 // In contracts `shown` is the text to write, `Appends old new text` says that all of `text` was written to the output, and `AppendsPrefix` that a
-// prefix of it was. `IsCertified` says that the text is the journal of a run that ended so by itself.
+// prefix of it was. `IsCertified` says that a journal's text is that of a run that ended so by itself.
 
 /// What to write of a run.
 #[derive(Clone, Copy, Debug, PartialEq, Eq)]
@@ -44,7 +44,7 @@ struct Certificate {
     end: End,
 }
 
-// How a run ended whose journal leads to this state. None where it goes on.
+// How a run ended whose journal leads to this state. None where the run goes on.
 fn end_of(state: State) -> Option<End>
     ensures { IfSome result (IsEndOf state) }
 {
@@ -55,8 +55,8 @@ fn end_of(state: State) -> Option<End>
     }
 }
 
-// Checks a journal's text against the program that a source spells, with the built-in sites and those of a script. None where it isn't known to
-// be the journal of a whole run.
+// Checks a journal's text against the program that a source spells, with the built-in sites and those of a script. None where it isn't known to be
+// the journal of a whole run of at most `limit` entries, cancels counted, or memory was refused.
 fn check(
     alloc: Global,
     source: &[u8],

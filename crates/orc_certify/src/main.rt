@@ -35,6 +35,7 @@ struct Asked<'a> {
     limit: u64,
 }
 
+// The form of that name. None where there is none.
 fn form_of(word: &str) -> Option<Form> {
     match word {
         "values" => Some(Form::Values),
@@ -43,7 +44,7 @@ fn form_of(word: &str) -> Option<Form> {
     }
 }
 
-// The limit that a word says, or the default where there is no word. None where the word is no number.
+// The limit that a word says, or the default of `orc run` where there is no word. None where the word is no number below 2^64.
 fn limit_of(word: Option<&String>) -> Option<u64> {
     match word {
         Some(word) => word.parse::<u64>().ok(),
@@ -68,7 +69,8 @@ fn read_words(words: &[String]) -> Option<Asked<'_>> {
     })
 }
 
-// Reads the files and writes the answer. Gives the status. The error is that of a file which can't be read.
+// Reads the files, writes the answer to standard output, and gives the status. The error is that of a file which can't be read; nothing was written
+// then.
 fn answer(rt: &HostRuntime, asked: &Asked) -> io::Result<u8> {
     let source = fs::read(rt, asked.source)?;
     let script = fs::read(rt, asked.script)?;
@@ -91,9 +93,11 @@ fn answer(rt: &HostRuntime, asked: &Asked) -> io::Result<u8> {
 
 fn main(rt: HostRuntime) -> ExitCode {
     let Ok(args) = env::args(&rt) else {
+        // A word isn't UTF-8, or memory for the words was refused.
         return ExitCode::from(WRONG_WORDS);
     };
     let Ok(words) = args.collect::<Vec<String>>(rt.alloc()) else {
+        // Memory was refused.
         return ExitCode::from(UNCERTIFIED);
     };
     let Some(asked) = read_words(words.as_slice()) else {

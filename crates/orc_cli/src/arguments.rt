@@ -1,6 +1,7 @@
 //! The arguments that each command takes, and what the help says of them: a table, from which `commands.rt` makes what `clap` reads.
 //!
-//! Numbers of a range are `i64`, as `clap` has them.
+//! Numbers of a range are `i64`, as `clap` has them. The limits of this file are those of the command line alone; docs/orc.md, *Limits*, has them
+//! too.
 
 use orc_rules::limits::{DEFAULT_ENTRIES, DEFAULT_WORKERS, MOST_ENTRIES, MOST_WORKERS};
 
@@ -25,12 +26,12 @@ pub const DEFAULT_TRIALS: u64 = 20;
 /// The most ways of a case that `test` tries.
 const MOST_WAYS: i64 = 1_000_000;
 
-/// The most failures that a test may report: of 1,024 claims, and one of each of 256 cases.
+/// The most failures that a test may report: of 1,024 claims, and one of each of 256 cases, that its runs end by themselves.
 const MOST_FAILURES: i64 = 1_280;
 
 /// An argument of one or more commands.
 pub(crate) struct Argument {
-    /// The commands that take it.
+    /// The commands that take it, by their names in `COMMANDS`.
     pub(crate) of: &'static [&'static str],
     /// Its name. An option is written with `--` before it.
     pub(crate) name: &'static str,
@@ -52,13 +53,13 @@ pub(crate) enum Takes {
     Nothing,
     /// The argument's name, and a text.
     Text(&'static str),
-    /// The argument's name, and one of these words; the last field is the word where it is left out.
+    /// The argument's name, and one of these words. The first field is the placeholder; the last one is the word where it is left out.
     Word(&'static str, &'static [&'static str], &'static str),
     /// The argument's name, and any number from 0 to 2^64 - 1.
     Number,
-    /// The argument's name, and a number from 1 to this one: which of so many things is meant.
+    /// The argument's name, and a number from 1 to this one, without a default: which of several things is meant.
     Choice(i64),
-    /// The argument's name, and a number from the first to the second one; the third one is the number where it is left out.
+    /// The argument's name, and a number from the first to the second one, both allowed; the third one is the number where it is left out.
     Setting(i64, i64, u64),
 }
 
@@ -66,9 +67,9 @@ pub(crate) enum Takes {
 pub(crate) enum Beside {
     /// No other.
     Anything,
-    /// It excludes the argument of this name.
+    /// It excludes the argument of this name: only one of them may be written.
     Not(&'static str),
-    /// It needs the argument of this name.
+    /// It needs the argument of this name: it may be written only beside it.
     Only(&'static str),
 }
 

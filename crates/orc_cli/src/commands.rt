@@ -1,4 +1,6 @@
-//! The commands as `clap` reads them.
+//! The commands as `clap` reads them, from the table of `arguments.rt`.
+//!
+//! `clap` borrows all texts: those of the table live as long as the program, and those that are made here are kept in [`ArgumentTexts`].
 
 use crate::arguments::{ARGUMENTS, Argument, Beside, COMMANDS, Takes};
 use clap::{Arg, ArgAction, Command, value_parser};
@@ -7,7 +9,7 @@ use std::alloc::{AllocError, Global};
 /// The version, and the logic of the proof kit with which the program was proved (README.md).
 const VERSION: &str = "0.1.0 (proved with logic dac8208d650f15bf)";
 
-/// What the help has below the list of commands.
+/// What the help has below the list of commands. The texts of faults and the statuses are defined elsewhere (docs/architecture.md); this is a copy.
 const CODES: &str = "Faults, each one line on standard error, a code with its place:
   S, C  the source's text, its names    (a byte, counted from 0)
   L, J  the script, the journal's text  (a line, counted from 1)
@@ -21,7 +23,7 @@ Status:
   2  the command line was refused       6  a file or the output failed
   3  quiet: it waits for ever           7  the engine is at fault";
 
-// The texts of a setting, which `clap` borrows.
+// The texts of a setting that aren't in the table, since they have its numbers.
 #[derive(Drop)]
 struct Told {
     /// The number where it is left out.
@@ -30,7 +32,7 @@ struct Told {
     help: String,
 }
 
-// An argument, and where it is a setting its texts.
+// An argument, and if it is a setting its texts; None for any other.
 #[derive(Drop)]
 struct Row {
     argument: &'static Argument,
@@ -48,12 +50,13 @@ impl Row {
                     help: format!(in alloc; "{help}, {least} to {most}")?,
                 })
             }
+            // Others have no numbers in their help, and no default that is made here.
             _ => None,
         };
         Ok(Row { argument, told })
     }
 
-    // Whether a command takes it.
+    // Whether the command of this name takes it.
     fn is_of(&self, command: &str) -> bool {
         for one in self.argument.of {
             if *one == command {
@@ -63,7 +66,7 @@ impl Row {
         false
     }
 
-    // Adds what the help says of it, and the default of a setting.
+    // Adds to `clap`'s argument what the help says of it, and the default of a setting.
     fn helping<'a>(&'a self, argument: Arg<'a>) -> Arg<'a> {
         match &self.told {
             Some(told) => argument
@@ -73,7 +76,7 @@ impl Row {
         }
     }
 
-    // Adds which other argument it excludes or needs. The error is refused memory.
+    // Adds to `clap`'s argument which other one it excludes or needs. The error is refused memory.
     fn beside<'a>(&self, argument: Arg<'a>) -> Result<Arg<'a>, AllocError> {
         match self.argument.beside {
             Beside::Anything => Ok(argument),
@@ -135,7 +138,7 @@ impl ArgumentTexts {
         Ok(ArgumentTexts { rows })
     }
 
-    // A command with its arguments. The error is refused memory.
+    // A command of `COMMANDS` with its arguments; `about` is what the help says of it. The error is refused memory.
     fn command<'a>(
         &'a self,
         alloc: Global,

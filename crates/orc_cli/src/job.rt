@@ -13,7 +13,9 @@ pub const STANDARD_INPUT: &str = "-";
 /// A job, and whether what went wrong is to be explained.
 #[derive(Clone, Copy, Debug)]
 pub struct Asked<'a> {
+    /// What is to be done.
     pub job: Job<'a>,
+    /// Whether `--explain` is given.
     pub explain: bool,
 }
 
@@ -22,7 +24,7 @@ pub struct Asked<'a> {
 pub struct ProgramPaths<'a> {
     /// The program's source.
     pub file: &'a str,
-    /// How its own sites answer.
+    /// How its own sites answer. None where no script is given: then it has none.
     pub script: Option<&'a str>,
 }
 
@@ -90,7 +92,7 @@ fn is_input(path: &str) -> bool
     path == STANDARD_INPUT
 }
 
-// Whether a path is there and is that of standard input.
+// Whether a path is given and is that of standard input.
 fn may_be_input(path: Option<&str>) -> bool
     ensures { result ≡ may_name_input (option_map (λ p. p.now) path.entry) }
 {
@@ -100,21 +102,21 @@ fn may_be_input(path: Option<&str>) -> bool
     }
 }
 
-// Whether at least two of three are so.
+// Whether at least two of these three are true.
 fn are_two(a: bool, b: bool, c: bool) -> bool
     ensures { result ≡ two_of a b c }
 {
     a && b || (a || b) && c
 }
 
-// Whether at least two of four are so.
+// Whether at least two of these four are true.
 fn are_two_of_four(a: bool, b: bool, c: bool, d: bool) -> bool
     ensures { result ≡ two_of_four a b c d }
 {
     are_two(a, b, c) || (a || b || c) && d
 }
 
-// Whether so many workers, and at most so many entries, are within the limits.
+// Whether so many workers, and a limit of so many entries, are within the limits of the engine.
 fn is_in_range(workers: u64, limit: u64) -> bool
     ensures { result ≡ true → IsInRange workers limit }
 {
@@ -129,7 +131,7 @@ impl ProgramPaths<'_> {
         is_input(self.file) && may_be_input(self.script)
     }
 
-    // Whether standard input is named for more than one of these and another file.
+    // Whether standard input is named for more than one of these two files and `other`.
     fn shares_input_with(&self, other: &str) -> bool
         ensures { result ≡ share_with self.now other.now }
     {
@@ -168,12 +170,13 @@ impl Job<'_> {
                 may_be_input(program.script),
                 is_input(test),
             ),
+            // It reads one file.
             Job::Print { .. } => false,
             Job::Test { program, test, .. } => program.shares_input_with(test),
         }
     }
 
-    /// Whether the numbers of workers and of entries that it asks for are within the limits.
+    /// Whether the numbers of workers and of entries that it asks for are within the limits of the engine. A job that makes no run asks for none.
     pub(crate) fn is_in_range(&self) -> bool
         ensures { result ≡ true → AreInRange self.now }
     {

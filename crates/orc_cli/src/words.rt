@@ -1,6 +1,7 @@
-//! What the words of a command line ask for, from what `clap` has read of them (`given`).
+//! What the words of a command line ask for, from what `clap` has read of them (`given`, the arguments of one command).
 //!
 //! A function here gives None where `clap` lacks a value that is always there: a file that it requires, or a setting, which has a default.
+//! `read_words` refuses such a line, which doesn't come.
 
 ghost use Rattle.std.specs.Prelude.{◌≡◌, IfOk, false};
 ghost use Rattle.orc_cli.specs.Inputs.{shares};
@@ -18,7 +19,7 @@ use orc_rules::limits::DEFAULT_WORKERS;
 use std::alloc::Global;
 use std::convert::AsStr;
 
-// Whether a flag is there. It states nothing, so that no caller's proof reads what `clap` states of flags.
+// Whether a flag of this name is there. It states nothing, so that no caller's proof reads what `clap` states of flags.
 fn is_given(given: &ArgMatches, name: &str) -> bool {
     given.get_flag(name)
 }
@@ -34,7 +35,7 @@ fn wanted_of(given: &ArgMatches) -> Wanted {
     }
 }
 
-// The order of the number that is given, else the fixed one.
+// The order of the number that is given, else the fixed one. `Unordered` is asked for by a flag, which `options_of` reads.
 fn order_of(given: &ArgMatches) -> Order {
     match given.get_one::<u64>("order") {
         Some(number) => Order::Numbered(number),
@@ -42,7 +43,7 @@ fn order_of(given: &ArgMatches) -> Order {
     }
 }
 
-// How a program is run. A numbered order is one worker's, so `clap` refuses a number of workers beside it.
+// How a program is run. A numbered order is one worker's, so `clap` refuses a number of workers beside it; the default isn't asked then.
 fn options_of(given: &ArgMatches) -> Option<Options> {
     let order = if is_given(given, "unordered") {
         Order::Unordered
@@ -70,7 +71,7 @@ fn survey_options_of(given: &ArgMatches) -> Option<SurveyOptions> {
     })
 }
 
-// Through how many states all schedules are searched at most. None where `--all` doesn't ask for that.
+// Through how many states all schedules are searched at most. None where `--all` isn't given: then nothing is searched.
 fn states_of(given: &ArgMatches) -> Option<u64> {
     if !is_given(given, "all") {
         return None;
@@ -155,7 +156,7 @@ fn check_of<'a>(program: ProgramPaths<'a>, given: &ArgMatches<'a>) -> Option<Job
     }
 }
 
-// How a program is run whose journal is drawn. `draw` takes no number of workers.
+// How a program is run whose journal is drawn. `draw` takes no number of workers, and no flag for a run that is unordered.
 fn drawn_run_of(given: &ArgMatches) -> Option<Options> {
     let order = order_of(given);
     let workers = match order {
@@ -192,7 +193,7 @@ fn draw_of<'a>(program: ProgramPaths<'a>, given: &ArgMatches<'a>) -> Option<Job<
     }
 }
 
-// What the words of a command that takes a script ask for. None too where the command has no arm here.
+// What the words of a command that takes a script ask for. None too for another command: `job_of` has `print`, and there are no others.
 fn job_with_script<'a>(
     name: &str,
     program: ProgramPaths<'a>,

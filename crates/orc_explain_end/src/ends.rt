@@ -3,6 +3,9 @@
 //! Of a quiet run an explanation says which calls never return and which parts wait for them (`quiet`); of a run that was cut, what could come next
 //! (`cut`); and of one for which the engine had no more room, how far each of the engine's limits is used up (`room`). `remarks.rt` has what it says
 //! of a halted run.
+//!
+//! Each function here with a `page` writes what its comment names at the end of that page. `note` begins a line there, which the function ends;
+//! `rest` writes a last line `and N more`. Calls and cells count from 1. A call *is out* while it is pending.
 
 use crate::ended::Ended;
 use crate::moves::{Moves, Wait};
@@ -20,10 +23,10 @@ use orc_syntax::{Ast, parse};
 use orc_verdict::mark_named;
 use std::alloc::{AllocError, Global};
 
-/// How many calls or cells are shown at most that have a line each.
+/// How many calls, or cells, are shown at most that have a line each. The others are only counted, so that an explanation stays short.
 const LINES: u64 = 8;
 
-/// How many calls are shown in one line at most.
+/// How many calls are shown in one line at most; the others are only counted.
 const IN_A_LINE: u64 = 4;
 
 // How many calls are pending.
@@ -65,6 +68,7 @@ impl Scene<'_, '_> {
         page.note("");
         page.say_number("call ", number, ", ");
         self.call(page, call.entry);
+        // The place of the call in the checker's list, from 0.
         let at = (number as usize).saturating_sub(1);
         if let Some(kept) = self.replay.marked.calls().get(at) {
             self.silence(page, call, kept.called(), lines);
@@ -83,7 +87,7 @@ impl Scene<'_, '_> {
         }
     }
 
-    // The line of the script that says never. No built-in site does.
+    // Which line of the script says never of a call. No built-in site does; nothing is written where no line is found.
     fn never(&self, page: &mut Page, call: Made, lines: &ScriptLines) {
         if let Some(Entry::Call(_, _, site, args)) = self.ended.journal.get(call.entry) {
             let name = name_of(self.ended.answers, site);
@@ -129,15 +133,15 @@ impl Scene<'_, '_> {
         page.say("\n");
     }
 
-    // What could give a cell its value. `inside` flags the steps in the right side of the cell's pruning: the pending calls there, or, if there are
-    // none, a token there that waits itself.
+    // What could give a cell its value. `inside` says of each step whether it is in the right side of the cell's pruning: the pending calls there,
+    // or, if there are none, a token there that waits itself.
     fn giver(&self, page: &mut Page, moves: &Moves, inside: &[bool]) {
         if !self.calls_inside(page, inside) {
             self.waiting_inside(page, moves, inside);
         }
     }
 
-    // The pending calls inside these steps, and whether there are any.
+    // The first pending calls inside these steps, and how many there are more; answers whether there are any.
     fn calls_inside(&self, page: &mut Page, inside: &[bool]) -> bool {
         let mut all: u64 = 0;
         let mut number: u64 = 0;
@@ -154,7 +158,7 @@ impl Scene<'_, '_> {
         all > 0
     }
 
-    // The first token that waits inside these steps, or `nothing`.
+    // The first token that waits inside these steps, by its mark, or `nothing` where none does.
     fn waiting_inside(&self, page: &mut Page, moves: &Moves, inside: &[bool]) {
         for token in &moves.waiting {
             let step = self.replay.token(*token).step;
@@ -167,14 +171,14 @@ impl Scene<'_, '_> {
         page.say("nothing");
     }
 
-    // A quiet run: its pending calls, who waits for what, and what would end the wait.
+    // The lines of a quiet run: its pending calls, who waits for what, and what would end the wait.
     fn quiet(&self, page: &mut Page, moves: &Moves) {
         self.silent_calls(page);
         self.waits(page, moves);
         page.help("a time limit is `x <x< (f | Rwait(10) >> 0)`");
     }
 
-    // The entries that could come next.
+    // The line with the first entries that could come next. None can where the limit was reached by the last entry of all.
     fn next(&self, page: &mut Page, moves: &Moves) {
         if moves.count == 0 {
             page.note("nothing could go on: it has just ended\n");
@@ -235,8 +239,8 @@ impl Scene<'_, '_> {
         }
     }
 
-    // A run that was cut: what could come next, which calls are pending, and how often definitions were called, as a recursion without an end may be
-    // why.
+    // The lines of a run that was cut: what could come next, which calls are pending, and how often definitions were called, as a recursion without
+    // an end may be why.
     fn cut(&self, page: &mut Page, moves: &Moves) {
         self.next(page, moves);
         self.out(page);
@@ -248,7 +252,7 @@ impl Scene<'_, '_> {
         }
     }
 
-    // How far each of the engine's limits is used up, one of which has cut the run.
+    // The lines on how far each of the engine's limits is used up, one of which has cut the run.
     fn room(&self, page: &mut Page, moves: &Moves) {
         match self.replay.frames(self.alloc, self.ended.program) {
             Ok(frames) => self.limits(page, moves, frames),
@@ -256,7 +260,7 @@ impl Scene<'_, '_> {
         }
     }
 
-    // The lines of that. `frames` is how many left sides of `>x>` are round one token at most.
+    // The lines of `room`. `frames` is how many left sides of `>x>` are round one token at most.
     fn limits(&self, page: &mut Page, moves: &Moves, frames: u64) {
         page.note("the engine can hold no more; by the rules it could go on\n");
         page.note("");
@@ -293,7 +297,7 @@ impl Scene<'_, '_> {
                 self.cut(page, moves);
                 self.room(page, moves);
             }
-            // A halted run was explained above; of one without memory `explain_refused_memory` says all.
+            // Not reached: a halted run was explained above, and of one without memory `explain_refused_memory` says all.
             End::Halted | End::Memory => {}
         }
     }

@@ -7,17 +7,18 @@ use orc_rules::program::Program;
 use orc_verdict::{return_entry, token_entry};
 use std::alloc::{AllocError, Global};
 
-/// How many of the entries that can come next are kept, to be shown.
+/// How many of the entries that can come next are kept, to be shown in one line.
 const KEPT: usize = 4;
 
 /// A cell for which tokens wait.
 #[derive(Clone, Copy)]
 pub(crate) struct Wait {
+    /// The cell's number, from 1.
     pub cell: u64,
     /// How many tokens wait for it, and the mark of the first of them, which is the least; 0 where none does.
     pub tokens: u64,
     pub first: u64,
-    // The mark of the token that was counted last: a token on a call may wait for this cell in several arguments, and is to count once.
+    // The mark of the token that was counted last, 0 at first: a token on a call may wait for this cell in several arguments, and is to count once.
     last: u64,
 }
 
@@ -98,7 +99,8 @@ impl Moves {
         Ok(())
     }
 
-    // Each mark of a token that the term still has: what the token can do, or for what it waits.
+    // Looks at each mark that the run has given so far: what its token can do, or for what it waits. Marks that no token has any more are passed
+    // over.
     fn add_tokens(&mut self, program: &Program, replay: &Replay) -> Result<(), AllocError> {
         for mark in 1..replay.marked.new_mark() {
             if replay.trail.token(mark).is_some() {
@@ -115,7 +117,7 @@ impl Moves {
         Ok(())
     }
 
-    // Notes a token that waits, and for which cells: those of its variable, or of its call's arguments, that have no value yet.
+    // Notes a token that waits, and for which cells: that of its variable, or those of its call's arguments, that have no value yet.
     fn wait(&mut self, program: &Program, replay: &Replay, token: u64) -> Result<(), AllocError> {
         self.waiting.push(token)?;
         for position in 0..MOST_ARGUMENTS {
@@ -126,7 +128,8 @@ impl Moves {
         Ok(())
     }
 
-    // Counts a token among those that wait for a cell, from 1, unless it was counted already.
+    // Counts a token among those that wait for a cell, from 1, unless it was counted already. Marks come in ascending order, so the first one is the
+    // least.
     fn wait_for(&mut self, cell: u64, token: u64) {
         let at = (cell as usize).saturating_sub(1);
         if let Some(wait) = self.waits.get_mut(at) {
@@ -140,7 +143,7 @@ impl Moves {
         }
     }
 
-    // Each side that hasn't ended: right sides of prunings by their cells, and left sides of otherwises by their marks.
+    // Looks at each side that hasn't ended: right sides of prunings by their cells, and left sides of otherwises by their marks.
     fn add_sides(&mut self, replay: &Replay) -> Result<(), AllocError> {
         let mut cell: u64 = 0;
         for _cell in &replay.cells {
@@ -170,7 +173,7 @@ impl Moves {
         Ok(())
     }
 
-    // Each pending call that is due now.
+    // Adds the return of each pending call that is due now.
     fn add_returns(&mut self, replay: &Replay) -> Result<(), AllocError> {
         let mut call: u64 = 0;
         for made in &replay.calls {
@@ -180,6 +183,7 @@ impl Moves {
                     Some((answer, time)) if time == replay.marked.now() => {
                         self.add(return_entry(&replay.marked, call, answer))?;
                     }
+                    // It is due later, or never.
                     _ => {}
                 }
             }

@@ -1,7 +1,9 @@
 //! What looks like a mistake in a run that has halted, though the language allows it: calls that halted, lines of the script that answered no call,
 //! and definitions with the name of a built-in site.
 //!
-//! Each function here with a `page` writes what its comment names at the end of that page.
+//! Each function here with a `page` writes what its comment names at the end of that page. Calls count from 1, in the order in which they were made;
+//! lines of the script count from 1 in its text, and from 0 in the list of `ScriptLines`, where they have a *place*. A spot is a numbered place of
+//! the program's tree.
 
 use crate::replay::{Loss, Made};
 use crate::scene::{Scene, begin, name_of};
@@ -14,15 +16,17 @@ use orc_rules::value::Value;
 use std::alloc::{AllocError, Global};
 use std::collections::HashMap;
 
-/// How many remarks of one kind are shown at most.
+/// How many remarks of one kind are shown at most; the others are only counted, so that an explanation stays short.
 const SHOWN: u64 = 4;
 
-/// Calls that were made at one spot, a numbered place of the program's tree, and of which the same is to be said.
+/// Calls that were made at one spot, and of which the same is to be said.
 #[derive(Clone, Copy)]
 struct Group {
+    // The first of these calls.
     first: Made,
-    // The number of the first one, from 1.
+    // The number of the first one.
     number: u64,
+    // How many they are.
     count: u64,
 }
 
@@ -94,7 +98,7 @@ impl Drop for Remarks {
     }
 }
 
-// What the built-in site of that name takes, if these arguments are something else. None where they fit, or there is no such site.
+// What the built-in site of that name takes, if it doesn't take these arguments. None where they fit, or there is no such site.
 fn wanted(name: &[u8], args: &[Value]) -> Option<&'static str> {
     match built_in_named(name) {
         Some(site) => wanted_by(site, args),
@@ -102,7 +106,7 @@ fn wanted(name: &[u8], args: &[Value]) -> Option<&'static str> {
     }
 }
 
-// Why a call of the built-in site of that name halts though its arguments fit. None where none does, or there is no such site.
+// Why a call of the built-in site of that name halts though its arguments fit. None where its calls don't halt then, or there is no such site.
 fn why_built_in_halted(name: &[u8]) -> Option<&'static str> {
     match built_in_named(name) {
         Some(site) => why_halted(site),
@@ -123,7 +127,8 @@ fn hides(lines: &ScriptLines, earlier: &ScriptLine, later: &ScriptLine) -> bool 
         })
 }
 
-// How many arguments a line's patterns don't take, and the first of them: its place, from 1, and the value that the pattern wants.
+// How many arguments a line's patterns don't take, and of the first of them the place, from 1, with the value that the pattern wants; None where all
+// are taken.
 fn differences(patterns: &[Option<Value>], args: &[Value]) -> (u64, Option<(u64, Value)>) {
     let mut count: u64 = 0;
     let mut first = None;
@@ -198,7 +203,7 @@ impl Remarks {
         Ok(remarks)
     }
 
-    // Notes each line of the script as one that has answered no call, and then each call of the run.
+    // Begins with no line of the script used, and then notes each call of the run.
     fn read(&mut self, scene: &Scene, lines: &ScriptLines) -> Result<(), AllocError> {
         for _rule in &lines.list {
             self.used.push(false)?;
@@ -220,6 +225,7 @@ impl Remarks {
         made: Made,
         number: u64,
     ) -> Result<(), AllocError> {
+        // Always a call's entry.
         let Some(Entry::Call(_, _, site, args)) = scene.ended.journal.get(made.entry) else {
             return Ok(());
         };
@@ -344,7 +350,7 @@ impl Scene<'_, '_> {
         self.rest(page, groups.list.len() as u64, SHOWN);
     }
 
-    // What a call's site takes.
+    // What the site takes of the call that this entry of the journal makes.
     fn site_takes(&self, page: &mut Page, entry: usize) {
         if let Some(Entry::Call(_, _, site, args)) = self.ended.journal.get(entry) {
             let name = name_of(self.ended.answers, site);
@@ -377,7 +383,8 @@ impl Scene<'_, '_> {
         }
     }
 
-    // Where tokens ended without a publication, since values that they needed were lost: a line for each of the first spots, and how many more there are.
+    // A line for each of the first spots at which tokens ended without a publication, since values that they needed were lost, and how many more
+    // spots there are.
     fn losses(&self, page: &mut Page) {
         for loss in self.replay.losses.iter().take(SHOWN as usize) {
             self.loss(page, *loss);
@@ -385,7 +392,7 @@ impl Scene<'_, '_> {
         self.rest(page, self.replay.losses.len() as u64, SHOWN);
     }
 
-    // The line of one spot: its text, and the value that was lost.
+    // The line of one spot where values were lost: its text, and the value that the first token there needed.
     fn loss(&self, page: &mut Page, loss: Loss) {
         page.note("`");
         self.words(page, loss.spot);
@@ -402,7 +409,7 @@ impl Scene<'_, '_> {
         say_others(page, loss.count, "more part");
     }
 
-    // Lines of the script that answered no call, each with a reason where one is found.
+    // A line for each of the first lines of the script that answered no call, with a reason where one is found, and how many more there are.
     fn unused_lines(&self, page: &mut Page, remarks: &Remarks, lines: &ScriptLines) {
         let mut shown: u64 = 0;
         for (place, line) in lines.list.iter().enumerate() {
@@ -423,7 +430,7 @@ impl Scene<'_, '_> {
         self.definitions.iter().any(|definition| built_in_named(definition.name.text).is_some())
     }
 
-    // The definitions that have the name of a built-in site: calls with this name are calls of the definition.
+    // A line for each of the first definitions that have the name of a built-in site: calls with this name are calls of the definition.
     fn hidden_sites(&self, page: &mut Page) {
         let source = self.subject.source;
         let mut all: u64 = 0;
@@ -442,7 +449,8 @@ impl Scene<'_, '_> {
         self.rest(page, all, SHOWN);
     }
 
-    // The reason why a line answered no call: an earlier line hides it, or its site was never called. Nothing where neither is so.
+    // The reason why the script's line at this place answered no call: an earlier line hides it, or its site was never called. Nothing where neither
+    // is so.
     fn hidden(&self, page: &mut Page, lines: &ScriptLines, place: usize, line: &ScriptLine) {
         for earlier in lines.list.iter().take(place) {
             if hides(lines, earlier, line) {

@@ -108,10 +108,11 @@ impl<'a> Replay<'a> {
     // Follows all entries. What an entry says of its token is noted before the trail takes the token away.
     fn read(&mut self, ended: &Ended, sketch: &Sketch<'a>) -> Result<(), AllocError> {
         for at in 0..ended.journal.len() {
+            // `at` is a place of the journal, so the entry is there.
             let Some(entry) = ended.journal.get(at) else {
                 return Ok(());
             };
-            // Before the step, which takes the token from the term.
+            // Before the step, which takes the token from the term: the term says which value is lost.
             if let Entry::Void(s) = entry {
                 self.add_loss(ended.program, s)?;
             }
@@ -128,7 +129,7 @@ impl<'a> Replay<'a> {
         Ok(())
     }
 
-    // Notes what an entry begins or ends besides tokens: a call, a cell, a call of a definition.
+    // Notes what an entry begins or ends besides tokens: a call, a cell, a call of a definition. Other entries begin and end none.
     fn note(&mut self, sketch: &Sketch<'a>, entry: &Entry, at: usize) -> Result<(), AllocError> {
         match entry {
             Entry::Call(s, _, _, _) => return self.add_call(*s, at),
@@ -145,6 +146,7 @@ impl<'a> Replay<'a> {
     fn add_call(&mut self, mark: u64, entry: usize) -> Result<(), AllocError> {
         let token = self.token(mark);
         self.calls.push(Made {
+            // A token that makes a call is at a spot: no answer of a call is a call.
             spot: token.spot.unwrap_or(0),
             step: token.step,
             entry,
@@ -185,7 +187,8 @@ impl<'a> Replay<'a> {
         Ok(())
     }
 
-    // The cell of the first lost value that a token needs.
+    // The cell of the first lost value that a token needs. None where `cell_of` finds none, or the token stands on something else than a variable or
+    // a call of a site.
     fn lost_cell(&self, program: &Program, token: u64) -> Option<u64> {
         let (number, scope) = self.node_of(token)?;
         match program.node(number) {
@@ -202,7 +205,7 @@ impl<'a> Replay<'a> {
         }
     }
 
-    // The cell that was put for an operand, whatever has become of it.
+    // The cell that was put for an operand, whatever has become of it. None for a value, and where the value was lost already when it was put.
     fn cell_of(&self, operand: Operand, scope: usize) -> Option<u64> {
         // With an empty table of cells, `meaning` gives the cell itself, even if it has been bound or lost.
         match meaning(self.marked.scopes(), &[], operand, scope) {
@@ -225,7 +228,7 @@ impl<'a> Replay<'a> {
         None
     }
 
-    // Adds the cell of a pruning that the token of this mark opens.
+    // Adds the cell of a pruning that the token of this mark opens. The entry is an `open`, so a pruning stands under the token.
     fn add_cell(&mut self, sketch: &Sketch<'a>, mark: u64) -> Result<(), AllocError> {
         let Shape::Prune(_, _, purpose) = self.trail.shape(sketch, mark) else {
             return Ok(());
@@ -253,6 +256,7 @@ impl<'a> Replay<'a> {
     pub(crate) fn inside(&self, alloc: Global, cell: u64) -> Result<Vec<bool>, AllocError> {
         // A step comes behind the one round it, so one pass is enough.
         let mut inside: Vec<bool> = Vec::new(alloc);
+        // Step 0, the whole term.
         inside.push(false)?;
         for step in self.trail.steps() {
             let is_inside = match step.way {
@@ -284,6 +288,7 @@ impl<'a> Replay<'a> {
     fn step_frames(&self, alloc: Global) -> Result<Vec<u64>, AllocError> {
         // A step comes behind the one round it, so one pass is enough.
         let mut frames: Vec<u64> = Vec::new(alloc);
+        // Step 0, the whole term.
         frames.push(0)?;
         for step in self.trail.steps() {
             let outer = frames.get(step.outer).copied().unwrap_or(0);

@@ -17,10 +17,11 @@ use orc_source_map::{Purpose, Sketch};
 use orc_syntax::Definition;
 use std::alloc::Global;
 
-/// How many columns of a part of the source are shown.
+/// How many columns of a part of the source are shown at most; a longer one ends with `..`.
 const TERM: usize = 28;
 
-/// A run that has ended, replayed, with all that an explanation reads.
+/// A run that has ended, replayed, with all that an explanation reads: the texts of its files, the run with its journal, the program's spots, its
+/// definitions, and where the run has come to.
 #[derive(Clone, Copy)]
 pub(crate) struct Scene<'s, 'a> {
     pub alloc: Global,
@@ -44,7 +45,7 @@ pub(crate) fn begin(page: &mut Page, summary: Summary) {
     reach(page, summary);
 }
 
-/// The rest of a line on how far a run came: its time, and `, after N entries`.
+/// The rest of a line on how far a run came: its time, and `, after N entries`, cancels counted.
 pub(crate) fn reach(page: &mut Page, summary: Summary) {
     page.number(summary.now);
     page.say_number(", after ", summary.entries, "");
@@ -55,7 +56,7 @@ pub(crate) fn reach(page: &mut Page, summary: Summary) {
     });
 }
 
-/// `and N more`, where there are more than were shown.
+/// `and N more` in the same line, where there are more than were shown.
 pub(crate) fn say_more(page: &mut Page, all: u64, shown: u64) {
     if all > shown {
         page.say_number(" and ", all.saturating_sub(shown), " more");
@@ -85,13 +86,13 @@ impl Scene<'_, '_> {
         page.place(source.text, self.sketch.span(spot).start);
     }
 
-    /// `line L` of a byte of the source.
+    /// `line L` of a byte of the source, from 0.
     pub(crate) fn line(&self, page: &mut Page, at: usize) {
         let source = self.subject.source;
         page.line(source.text, at);
     }
 
-    /// A call that was made, as `NAME(a, b)`, by the place of its entry.
+    /// A call that was made, as `NAME(a, b)`, by the place of its entry in the journal, from 0. Nothing where that entry makes no call.
     pub(crate) fn call(&self, page: &mut Page, entry: usize) {
         if let Some(Entry::Call(_, _, site, args)) = self.ended.journal.get(entry) {
             page.word(name_of(self.ended.answers, site));
@@ -99,7 +100,7 @@ impl Scene<'_, '_> {
         }
     }
 
-    /// An entry as a line of a journal, without its LF.
+    /// An entry as a line of a journal, without its LF. Nothing where the entry has no line: a call of a site that the table doesn't have.
     pub(crate) fn entry(&self, page: &mut Page, entry: &Entry) {
         if has_line(entry, self.ended.answers) {
             let mut text = Vec::new(self.alloc);
@@ -135,7 +136,7 @@ impl Scene<'_, '_> {
         }
     }
 
-    /// What a token stands on: a call with its values put in, else the source's text, cut.
+    /// What a token stands on, at this spot: a call with its values put in, else the source's text, cut. Nothing where there is no such token.
     pub(crate) fn term(&self, page: &mut Page, token: u64, spot: usize) {
         let span = self.sketch.span(spot);
         let source = self.subject.source;
@@ -144,6 +145,7 @@ impl Scene<'_, '_> {
         };
         match self.ended.program.node(number) {
             TermNode::Call(_, list) | TermNode::Site(_, list) => {
+                // The name of the call, with which its text begins.
                 page.word(source.part(span_at(source.text, span.start)));
                 self.operands(page, list, scope);
             }
@@ -166,6 +168,7 @@ impl Scene<'_, '_> {
             match self.replay.marked.param(*operand, scope) {
                 Param::Is(value) => page.value(value),
                 Param::Cell(cell) => self.awaited(page, cell),
+                // A variable of the source is bound in the token's scope, so `Name` doesn't come.
                 Param::Void | Param::Name(_) => page.say("void"),
             }
         }
@@ -181,7 +184,7 @@ impl Scene<'_, '_> {
     }
 }
 
-// A part of a source in one line, with one blank for all between two words, cut where it is long.
+// A part of a source in one line, with one blank for all white space between two words, cut where it is longer than `TERM`.
 fn squeeze(page: &mut Page, text: &[u8]) {
     let mut shown: usize = 0;
     let mut is_apart = false;

@@ -9,7 +9,7 @@ use orc_rules::builtin::is_same;
 use orc_rules::value::Value;
 use std::alloc::{AllocError, Global};
 
-/// A line of a script.
+/// A line of a script that answers calls.
 #[derive(Clone, Copy)]
 pub(crate) struct ScriptLine<'a> {
     /// The line's number, from 1.
@@ -37,7 +37,7 @@ const WORDS: [(&[u8], Option<Value>); 4] = [
     (b"signal", Some(Value::Signal)),
 ];
 
-// What a pattern stands for, where a piece of a line is one: a value, or None for any.
+// What a pattern stands for: a value, or None for any (`Some(None)`). None where a piece of a line is no pattern, as a comma.
 fn pattern_of(text: &[u8]) -> Option<Option<Value>> {
     for (word, pattern) in WORDS.iter() {
         if *word == text {
@@ -66,12 +66,13 @@ impl<'a> ScriptLines<'a> {
                 number = number.saturating_add(1);
             }
         }
+        // The last line may have no LF.
         let end = text.len();
         lines.read(alloc, text, Span { start, end }, number)?;
         Ok(lines)
     }
 
-    // Adds the line with this number, of these bytes, if it is more than blanks and a comment.
+    // Adds the line with this number, from 1, of these bytes, if it is more than blanks and a comment.
     fn read(
         &mut self,
         alloc: Global,
@@ -85,7 +86,7 @@ impl<'a> ScriptLines<'a> {
         };
         let name = site.text;
         let first = self.patterns.len();
-        // Behind the name and the `(`. A comma is no pattern.
+        // The patterns stand behind the name and the `(`. A comma is no pattern.
         for piece in line.pieces.iter().skip(2) {
             if piece.text == b")".as_slice() {
                 break;

@@ -31,11 +31,11 @@ pub(crate) enum Fate {
 pub(crate) struct Watch {
     pub named: Named,
     pub fate: Fate,
-    // The number of its node. None until an entry has made it.
+    // The number of its node, which stays the same as long as it stands. None until an entry has made it.
     place: Option<usize>,
 }
 
-// Whether an entry makes what is named.
+// Whether an entry makes what is named: it is among the entry's new numbers; an otherwise is made by the `other` of its mark.
 fn is_brought(named: Named, entry: &Entry) -> bool {
     let new = numbers_of(entry);
     match named {
@@ -47,7 +47,7 @@ fn is_brought(named: Named, entry: &Entry) -> bool {
     }
 }
 
-// Whether an entry uses up what is named. A `bind` uses up its cell beside its token.
+// Whether an entry uses up what is named, which it names itself. A `bind` uses up its cell beside its token.
 fn is_used(named: Named, entry: &Entry) -> bool {
     match (named, named_by(entry)) {
         (Named::Token(mark), Named::Token(used)) => mark == used,
@@ -78,6 +78,7 @@ impl Watch {
             (Named::Call(call), Fate::Bound(_), Entry::Cancel(cancelled)) if *cancelled == call => {
                 self.fate = Fate::Cancelled(number);
             }
+            // Only the cancel of a call that a bind dropped says more of a fate that is known.
             _ => {}
         }
         match self.place {
@@ -87,11 +88,12 @@ impl Watch {
                     self.fate = self.ended_by(marked, place, entry, number);
                 }
             }
+            // It isn't made yet, or it still stands.
             _ => {}
         }
     }
 
-    // The fate of what is named, which was at the node at this place until this entry was applied.
+    // The fate of what is named, which was at the node at this place until the entry with this number was applied.
     fn ended_by(&self, marked: &Marked, place: usize, entry: &Entry, number: u64) -> Fate {
         if is_used(self.named, entry) {
             return match self.named {
@@ -100,12 +102,14 @@ impl Watch {
             };
         }
         if let Some(slot) = marked.nodes().get(place) {
+            // An otherwise that has published becomes a node that means its left side alone.
             if let Kind::One(Single::Passed, _) = slot.node().kind {
                 return Fate::Left(number);
             }
         }
         match entry {
             Entry::Bind(_, _, _) => Fate::Bound(number),
+            // A `lost` or a `right`: no other entry drops a side.
             _ => Fate::Ended(number),
         }
     }
@@ -125,9 +129,10 @@ impl Watch {
             Named::Call(call) => ("call", call, marked.new_call()),
             Named::Cell(cell) => ("cell", cell, marked.new_cell()),
             Named::Otherwise(mark) => ("otherwise", mark, marked.new_mark()),
+            // Not reached: an entry that names nothing isn't refused for what it names.
             Named::Nothing => ("mark", 0, 1),
         };
-        // How many of its kind there have been.
+        // How many of its kind there have been: they are numbered from 1.
         let last = next.saturating_sub(1);
         let (why, other) = match self.fate {
             Fate::UsedUp(entry) => (": entry % used it up", entry),
@@ -136,7 +141,7 @@ impl Watch {
             Fate::Bound(entry) => (": the bind at entry % dropped it", entry),
             Fate::Ended(entry) => (": the end of its side at entry % dropped it", entry),
             Fate::Left(entry) => (": the publication at entry % left it", entry),
-            // It never stood.
+            // It has never stood in the term.
             Fate::Nothing if last == 0 => (": there was none before", 0),
             Fate::Nothing if number == 0 => (": numbers begin with 1", 0),
             Fate::Nothing if number > last => (": numbers go up to %", last),

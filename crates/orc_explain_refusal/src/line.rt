@@ -6,7 +6,7 @@ use orc_rules::answers::Answers;
 use orc_rules::entry::Entry;
 use std::alloc::{AllocError, Global};
 
-/// The line of an entry, without its LF; empty where there is no entry. The error is refused memory.
+/// The line of an entry, without its LF; empty where there is no entry, or its site has no name. The error is refused memory.
 pub(crate) fn line_of(
     alloc: Global,
     answers: &Answers,
@@ -18,7 +18,7 @@ pub(crate) fn line_of(
             write_entry(entry, answers, &mut line)?;
         }
     }
-    // `write_entry` ends a line with its LF.
+    // `write_entry` ends a line with its LF; an empty line has none.
     let _line_feed = line.pop();
     Ok(line)
 }

@@ -5,13 +5,18 @@ use orc_rules::entry::Entry;
 use orc_term::arena::{Double, Kind, Single, Tip};
 use orc_verdict::mark_named;
 
-/// What an entry needs to find in the term, by its number: a token by its mark, a pending call, the pruning of a cell, or an otherwise by its mark.
+/// What an entry needs to find in the term. All numbers are from 1.
 #[derive(Clone, Copy)]
 pub(crate) enum Named {
+    /// A token, by its mark.
     Token(u64),
+    /// A pending call, by its number.
     Call(u64),
+    /// The pruning of a cell, by the cell's number.
     Cell(u64),
+    /// An entered otherwise, by the mark of the token that entered it.
     Otherwise(u64),
+    /// No token, call, cell or otherwise, as of a `tick` and a `cancel`.
     Nothing,
 }
 

@@ -11,7 +11,9 @@ use std::alloc::{AllocError, Global};
 
 /// The names of a program, and the variable of each of its cells.
 pub(crate) struct Names<'r, 's> {
+    // For the names of definitions.
     ast: &'r Ast<'s>,
+    // For the names of sites.
     answers: &'r Answers,
     // The source's variables, by their numbers.
     variables: Variables<'s>,
@@ -31,7 +33,8 @@ impl Drop for Names<'_, '_> {
     }
 }
 
-// The variable of each cell below a number: the first scope that has the cell is the one in which its pruning was opened.
+// The variable of each cell below the number `next`: the first scope that has the cell is the one in which its pruning was opened. None for a cell
+// that no scope has, and for cell 0. The error is refused memory.
 fn cells_of(
     alloc: Global,
     scopes: &[StoredScope],
@@ -75,7 +78,7 @@ impl<'r, 's> Names<'r, 's> {
         (name as usize).checked_sub(self.variables.len())
     }
 
-    /// Writes the name of a variable, nothing for a number that none has.
+    /// Writes the name of a variable of the source; nothing for one that the scope check made.
     pub(crate) fn say_variable(&self, page: &mut Page, name: u32) {
         if let Some(text) = self.variables.get(name as usize) {
             page.word(text);
@@ -104,6 +107,7 @@ impl<'r, 's> Names<'r, 's> {
                 self.say_variable(page, name);
             }
             Sign::Opened(cell) => self.say_cell(page, cell),
+            // No name to write: a sign without a variable, or the variable of an argument.
             _ => {}
         }
         page.say(behind);

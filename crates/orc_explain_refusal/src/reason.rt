@@ -21,7 +21,9 @@ use std::alloc::Global;
 pub(crate) struct Refused<'r> {
     pub program: &'r Program,
     pub answers: &'r Answers,
+    /// The run up to the entry.
     pub replay: &'r Replay,
+    /// The entries that are allowed in place of it.
     pub allowed: &'r Allowed,
     /// None where a cancel is due behind the last entry.
     pub entry: Option<&'r Entry>,
@@ -32,7 +34,7 @@ pub(crate) struct Refused<'r> {
 }
 
 impl Refused<'_> {
-    // Shows the entry with carets under a word of its line, or under the whole line where that is None. What is said next stands behind the carets.
+    // Shows the entry with carets under a word of its line, or under the whole line where `word` is None. What is said next stands behind the carets.
     fn show(&self, page: &mut Page, word: Option<usize>) {
         let part = match word {
             Some(number) => part_at(self.line, b' ', number),
@@ -52,7 +54,7 @@ impl Refused<'_> {
         let cancel = cancel_in(self.allowed);
         let cancelled = Fill::Number(cancel.unwrap_or(0));
         let Some(entry) = self.entry else {
-            // A cancel is due behind the last entry.
+            // Without an entry: the journal ends where a cancel is due.
             self.show(page, None);
             page.tell("the journal ends here, and cancel % is due\n", &[cancelled]);
             return;
@@ -113,7 +115,8 @@ impl Refused<'_> {
         }
     }
 
-    // The token can make no entry: it waits for those of its arguments that are cells without a value. Or the entry names no token.
+    // The token can make no entry: says that it waits for those of its arguments that are cells without a value. Where there is none, or the entry
+    // names no token (mark 0), it says only that something else stands there.
     fn say_waits(&self, page: &mut Page, mark: u64) {
         let marked = &self.replay.marked;
         let mut cells: u64 = 0;
@@ -128,6 +131,7 @@ impl Refused<'_> {
             return;
         }
         self.show(page, Some(0));
+        // Between `cell` and the first number; later ones stand behind a comma.
         let mut sign = if cells == 1 { " " } else { "s " };
         page.tell("mark % waits for cell", &[Fill::Number(mark)]);
         for place in 0..MOST_ARGUMENTS {
@@ -139,7 +143,7 @@ impl Refused<'_> {
         page.say("\n");
     }
 
-    // The first new number in the entry that isn't the next one of its kind.
+    // Says which new number of the entry isn't the next one of its kind: the first that isn't.
     fn say_number(&self, page: &mut Page, entry: &Entry) {
         let marked = &self.replay.marked;
         let new = numbers_of(entry);
@@ -150,6 +154,7 @@ impl Refused<'_> {
             (new.cell, marked.new_cell()),
             (new.call, marked.new_call()),
             (new.mark, mark),
+            // Of two new marks the second is one more than the first.
             (new.second, mark.saturating_add(1)),
         ] {
             if let Some(number) = number {
@@ -163,7 +168,8 @@ impl Refused<'_> {
         }
     }
 
-    // What the table says of the call that an entry returns, and at what time the call was made.
+    // What the table says of the call that an entry returns, and at what time the call was made. None where the entry returns none, or there is no
+    // such call.
     fn returned(&self, entry: &Entry) -> Option<(Found, u64)> {
         let (Entry::Return(call, _, _) | Entry::ReturnHalt(call)) = entry else {
             return None;
@@ -173,8 +179,9 @@ impl Refused<'_> {
         Some((called.found, called.at))
     }
 
-    // A return with another answer than the table's, which is the last word of its line.
+    // Says what the table's answer is, where a return has another one. Its answer is the last word of its line.
     fn say_answer(&self, page: &mut Page, entry: &Entry) {
+        // `return CALL MARK VALUE` or `return CALL halt`, words counted from 0.
         let answer = match entry {
             Entry::Return(_, _, _) => 3,
             _ => 2,
@@ -189,7 +196,7 @@ impl Refused<'_> {
         }
     }
 
-    // A return that isn't due now, or a tick that isn't allowed.
+    // Says when the call is due, where a return comes at another time; or what is wrong with a tick.
     fn say_time(&self, page: &mut Page, entry: &Entry) {
         self.show(page, Some(1));
         let (Entry::Return(call, _, _) | Entry::ReturnHalt(call)) = entry else {
@@ -217,7 +224,7 @@ impl Refused<'_> {
         }
     }
 
-    // A tick to another time than the next due one, or while something else can happen.
+    // Says why a tick isn't allowed: the next due time is another one, something else can happen, or no call is ever due.
     fn say_tick(&self, page: &mut Page) {
         match self.allowed.entries().first() {
             Some(Entry::Tick(time)) => {

@@ -39,7 +39,7 @@ impl Drop for Case<'_> {
     }
 }
 
-// The program of a tree. It was checked before without a fault, so the error is refused memory.
+// The program of a tree. The tree was checked before without a fault, so the error is refused memory.
 fn program_of(alloc: Global, ast: &Ast, answers: &Answers) -> Result<Program, AllocError> {
     let names = answers.names(alloc)?;
     match orc_scope::check(alloc, ast, names.as_slice()) {
@@ -73,8 +73,8 @@ impl<'s> Case<'s> {
         })
     }
 
-    // Writes the explanation of the entry at a place, from 0, of the journal with this name. A place behind the last entry is where a `cancel` is
-    // due. The error is refused memory.
+    // Writes the explanation of the entry at a place, from 0, of the journal with this name, which is refused for the reason `why`. A place behind
+    // the last entry is where a `cancel` is due. The error is refused memory.
     fn say(
         &self,
         page: &mut Page,
@@ -86,7 +86,7 @@ impl<'s> Case<'s> {
         let mut replay = Replay::new(alloc, &self.program, &self.answers, &self.journal, place)?;
         let allowed = Allowed::new(alloc, &mut replay.marked, &self.program, &self.answers)?;
         let number = line_number(place);
-        // The entry's line has the greatest number that is shown.
+        // The entry's line has the greatest number that is shown, so the left margin is made as wide as that. Entry N is in line N + 1.
         page.widen(number);
         page.inset();
         page.tell(
@@ -100,6 +100,7 @@ impl<'s> Case<'s> {
         );
         page.margin();
         page.say("\n");
+        // The entry before it, whole from its first column on, if there is one.
         if let Some(before) = place.checked_sub(1) {
             let line = line_of(alloc, &self.answers, self.journal.get(before).as_ref())?;
             page.row(line_number(before), line.as_slice(), 0, 0);

@@ -9,14 +9,14 @@ use orc_rules::entry::Entry;
 use orc_rules::program::Program;
 use std::alloc::{AllocError, Global};
 
-/// The marked term before an entry, and what its entries have done.
+/// The marked term before the refused entry, and what the entries before it have done to what that one names.
 pub(crate) struct Replay {
     pub marked: Marked,
     /// For each call, call 1 first, the place of its entry, from 0.
     calls: Vec<usize>,
     /// What the refused entry names first, and what has become of it.
     pub first: Watch,
-    /// The cell that a `bind` names beside its token, and what has become of it.
+    /// The cell that a `bind` names beside its token, and what has become of it. It names nothing if the refused entry is no `bind`.
     pub second: Watch,
 }
 
@@ -41,11 +41,13 @@ impl Replay {
         journal: &Journal,
         place: usize,
     ) -> Result<Replay, AllocError> {
+        // Journals of the first version don't record the cancels of a bind.
         let cancels = matches!(journal.version(), Version::Two);
         let marked = Marked::new(alloc, program, cancels)?;
         let (first, second) = match journal.get(place) {
             Some(Entry::Bind(mark, cell, _)) => (Named::Token(mark), Named::Cell(cell)),
             Some(entry) => (named_by(&entry), Named::Nothing),
+            // A cancel is due behind the last entry.
             None => (Named::Nothing, Named::Nothing),
         };
         let first = Watch::new(first, &marked);

@@ -4,7 +4,7 @@ use crate::strip::Strip;
 use orc_report::{Fill, Page, Window};
 use std::alloc::{AllocError, Global};
 
-/// How many columns behind the end of the term numbers and words may take in the line below it.
+/// How many columns the line below the term may reach over the term's end, for what the carets mean.
 const BEHIND: usize = 32;
 
 impl Strip<'_, '_> {
@@ -58,6 +58,7 @@ impl Strip<'_, '_> {
                 let column = end.saturating_sub(window.first);
                 put(&mut signs, alloc, column, words, number, true)?;
             }
+            // No part is named, or it isn't in the window.
             _ => {}
         }
         Ok(signs)
@@ -81,8 +82,8 @@ fn show_line(page: &mut Page, window: Window, front: &str, shown: &[u8], end: &s
     page.say("\n");
 }
 
-// Puts words with a number into a line of blanks from column `start` on, if they have room there: a blank on both sides, or, for the last words of
-// the line, nothing from `start` to its end. The number of a mark for which there is no room is left out. The error is refused memory.
+// Puts `words`, in which the number stands for the `%`, into a line from column `start` on, if they have room there: a blank on both sides, or, for
+// the last words of the line, nothing from `start` to its end. What has no room is left out. The error is refused memory.
 fn put(
     signs: &mut Vec<u8>,
     alloc: Global,

@@ -1,6 +1,6 @@
 //! The signs between the two parts of an operation in a term, and when a part needs brackets.
 
-/// What joins two parts: an operator with the number of its variable, if it has one, or an opened pruning with its cell.
+/// What joins two parts: `|`, `;`, `>x>` and `<x<` with the number of the variable x, or an opened pruning with the number of its cell.
 #[derive(Clone, Copy)]
 pub(crate) enum Sign {
     Par,
@@ -10,8 +10,8 @@ pub(crate) enum Sign {
     Opened(u64),
 }
 
-/// How tightly a sign binds, and how tightly its left and its right part have to bind to need no brackets; and the variable that it binds in either
-/// part.
+/// How tightly a sign binds (`own`; a greater number binds more tightly), and how tightly its left and its right part have to bind to need no
+/// brackets; and the variable that it binds in either part, None where it binds none.
 #[derive(Clone, Copy)]
 pub(crate) struct Levels {
     pub own: usize,

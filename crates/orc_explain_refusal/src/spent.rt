@@ -4,7 +4,7 @@ use orc_checker::Marked;
 use orc_term::arena::{Kind, Tip};
 use std::alloc::{AllocError, Global};
 
-/// For each node of a marked term whether it has halted and a token still stands in it, as one on a `stop` may.
+/// For each node of a marked term, in their order, whether it has halted and a token still stands in it, as one on a `stop` may.
 #[derive(Drop)]
 pub(crate) struct Spent {
     is_held: Vec<bool>,
@@ -26,10 +26,11 @@ impl Spent {
         Ok(spent)
     }
 
-    // Notes that a token stands in the node at a place, and so in the nodes above it, as far as they have halted. The climb ends at a node that is
-    // noted already, so all calls together note each node once.
+    // Notes that a token stands in the node `from`, and so in the nodes above it, as far as they have halted. The climb ends at a node that is noted
+    // already, so all calls together note each node once.
     fn hold(&mut self, marked: &Marked, from: usize) {
         let mut place = from;
+        // No way up is longer than the list of nodes.
         for _node in marked.nodes() {
             let Some(is_held) = self.is_held.get_mut(place) else {
                 return;

@@ -14,10 +14,11 @@ use orc_report::Page;
 use orc_rules::program::Program;
 use std::alloc::Global;
 
-/// A part off the way to what is named becomes `..` if it takes more columns than this.
+/// A part off the way to what is named becomes `..` if it takes more columns than this, so that what is named stays in sight.
 const LONGEST_PART: usize = 28;
 
-/// How many columns are written behind the beginning of what is named, or from the beginning of the term where nothing is: more than are ever shown.
+/// How many columns are written behind the beginning of what is named, or from the beginning of the term where nothing is: more than are ever shown,
+/// which is 76 (`Window`).
 pub(crate) const AHEAD: usize = 300;
 
 /// A mark's number, and the column below which it is written.
@@ -59,9 +60,9 @@ pub(crate) struct Strip<'r, 's> {
     pub named: Option<Stretch>,
     /// Whether the term goes on behind what was written.
     pub is_cut: bool,
-    /// The variables that signs of the term bind in the part that is being written.
+    /// The numbers of the variables that signs of the term bind in the part that is being written.
     pub bound: Vec<u32>,
-    /// So many columns are written at most.
+    /// How many columns are written at most. The writing stops once there are more.
     pub most: usize,
     // What is still to be written, the next task last.
     tasks: Vec<Task>,
@@ -130,7 +131,7 @@ impl<'r, 's> Strip<'r, 's> {
         strip
     }
 
-    // Does the tasks until none is left, enough columns are written or memory is refused. There are fewer tasks than the loop has turns.
+    // Does the tasks until none is left, enough columns are written or memory is refused. The loop has more turns than there are tasks.
     fn write(&mut self) {
         for _task in 0..u64::MAX {
             if self.page.len() > self.most {
@@ -168,6 +169,7 @@ impl<'r, 's> Strip<'r, 's> {
             Task::Unbind => {
                 let _name = self.bound.pop();
             }
+            // Nothing more is written of a long part.
             _ if is_long => {}
             Task::Node(at, level) => self.node(at, level),
             Task::Way(at, level) => self.way_node(at, level),
@@ -194,7 +196,7 @@ impl<'r, 's> Strip<'r, 's> {
         }
     }
 
-    // Ends the innermost part. If it has become long, it is taken back, with the notes in it, and `..` is written.
+    // Ends the innermost part. If it has become long (`is_long`), it is taken back, with the notes in it, and `..` is written.
     fn close(&mut self, is_long: bool) {
         let Some(part) = self.parts.pop() else {
             return;
@@ -203,6 +205,7 @@ impl<'r, 's> Strip<'r, 's> {
             return;
         }
         self.page.truncate(part.start);
+        // Notes stand from left to right, so those in the part are the last ones.
         for _note in 0..self.notes.len() {
             match self.notes.last() {
                 Some(note) if note.column >= part.start => {
@@ -261,7 +264,7 @@ impl<'r, 's> Strip<'r, 's> {
     }
 }
 
-/// A side of an operation. If it `is_part`, it becomes `..` where it is long.
+/// A side of an operation: what writes it, and whether it becomes `..` where it is long (`is_part`).
 #[derive(Clone, Copy)]
 pub(crate) struct Side {
     pub task: Task,

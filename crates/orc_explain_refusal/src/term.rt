@@ -14,7 +14,7 @@ use orc_rules::param::{Operand, Param};
 use orc_rules::program::TermNode;
 use orc_term::arena::{Double, Kind, Single, Tip};
 
-/// A call, with the nodes of the expressions that the source has as its arguments, by their places; None where it has a literal or a name.
+/// A call, with the nodes of the expressions that the source has as its arguments, by their places from 0; None where it has a literal or a name.
 #[derive(Clone, Copy)]
 struct Called {
     node: TermNode,
@@ -44,7 +44,7 @@ impl<'r, 's> Strip<'r, 's> {
         }
     }
 
-    // Whether a part of a node is the node at place `below` of the way.
+    // Whether this part of a node is the node at place `below` of the way; false where `below` is None.
     fn is_on_way(&self, part: u32, below: Option<usize>) -> bool {
         match below {
             Some(place) => self.way.node(place) == Some(part as usize),
@@ -52,7 +52,8 @@ impl<'r, 's> Strip<'r, 's> {
         }
     }
 
-    // The task for a part of a node. `below` is the place on the way of that node's own part, None for a node off the way and for the named one.
+    // The task for a part of a node, to be written at this level. `below` is the place on the way of that node's own part; None for a node off the
+    // way, and for the named one, whose parts are off it.
     fn part(&self, part: u32, level: usize, below: Option<usize>) -> Side {
         match below {
             Some(place) if self.is_on_way(part, below) => Side {
@@ -136,7 +137,7 @@ impl<'r, 's> Strip<'r, 's> {
         }
     }
 
-    /// Writes a node of the program in a scope.
+    /// Writes a node of the program in a scope, or puts the tasks for its parts on the stack.
     pub(crate) fn source(&mut self, node: usize, scope: usize, wanted: usize) {
         if let Some(called) = self.called(node) {
             self.call(called, scope);
@@ -172,6 +173,7 @@ impl<'r, 's> Strip<'r, 's> {
         let mut given = [None; MOST_ARGUMENTS];
         let mut at = node;
         let mut room = MOST_ARGUMENTS;
+        // One turn for each pruning, and one for the call.
         for _pruning in 0..=MOST_ARGUMENTS {
             match self.program.node(at) {
                 TermNode::Prune(inner, name, value) => {
@@ -186,6 +188,7 @@ impl<'r, 's> Strip<'r, 's> {
                 call @ (TermNode::Site(_, list) | TermNode::Call(_, list)) => {
                     let operands = self.program.operands(list);
                     for (place, value) in given.iter().enumerate() {
+                        // The argument's place by its variable: an expression stands where its variable does.
                         let own = match operands.get(place) {
                             Some(Operand::Name(name)) => self.names.argument(*name),
                             _ => None,

@@ -8,7 +8,7 @@ use orc_rules::entry::{Entry, RuleFault};
 use orc_term::arena::{Double, Kind, Node, Single};
 use std::alloc::{AllocError, Global};
 
-/// So many levels above the named part are shown at most. A node for which nothing is written is no level.
+/// How many levels above the named part are shown at most: a term may nest thousands. A node for which nothing is written is no level.
 const LEVELS: usize = 12;
 
 /// The numbers of the nodes from the named part, at place 0, upwards as far as they are shown; none where no part of the term is named.
@@ -17,7 +17,7 @@ pub(crate) struct Way {
     nodes: Vec<usize>,
     /// What stands behind the carets: words, and the number that fills them. None for a side that hasn't halted, which the entry's line explains.
     pub label: Option<(&'static str, u64)>,
-    /// Whether there are nodes above it that aren't shown.
+    /// Whether there are nodes above these that aren't shown.
     pub is_inner: bool,
 }
 
@@ -36,7 +36,8 @@ fn side_of(marked: &Marked, entry: &Entry) -> Option<usize> {
     }
 }
 
-// Whether a node is written as its part on the way alone: an otherwise that has published, or a `|` whose other side is spent.
+// Whether nothing is written for the node `above` but its part on the way, `part`: an otherwise that has published, or a `|` whose other side is
+// spent.
 fn is_silent(marked: &Marked, spent: &Spent, above: Node, part: usize) -> bool {
     match above.kind {
         Kind::One(Single::Passed, _) => true,
@@ -80,11 +81,12 @@ impl Way {
         Ok(way)
     }
 
-    // Notes the nodes from a place up to the whole, or to the highest level that is shown. The error is refused memory.
+    // Notes the nodes from `from` up to the whole, node 0, or to the highest level that is shown. The error is refused memory.
     fn climb(&mut self, marked: &Marked, spent: &Spent, from: usize) -> Result<(), AllocError> {
         let mut place = from;
         let mut levels: usize = 0;
         self.nodes.push(place)?;
+        // No way up is longer than the list of nodes.
         for _node in 0..marked.nodes().len() {
             if place == 0 {
                 return Ok(());
@@ -119,7 +121,7 @@ impl Way {
         self.nodes.len().checked_sub(1)
     }
 
-    /// The number of the node at this place of the way, where the named one is at 0.
+    /// The number of the node at this place of the way, where the named one is at 0. None above the highest that is shown.
     pub(crate) fn node(&self, place: usize) -> Option<usize> {
         self.nodes.get(place).copied()
     }

@@ -11,10 +11,11 @@ use orc_ways::test::{Service, ServiceLine, SiteName, Test};
 use std::alloc::{AllocError, Global};
 use std::thread::Threads;
 
-/// How many ways are run between two looks at whether a service is still unasked. If none is, the other ways aren't run.
+/// How many ways are run between two looks at whether a service is still unasked; if none is, the other ways aren't run. So many ways give several
+/// workers work, and few are run in vain.
 const BATCH: usize = 64;
 
-// The place of a service's site among those of its test, which have it: a test's sites are all that its lines name.
+// The place, from 0, of a service's site among those of its test. It is there: a test's sites are all that its lines name.
 fn site_of(sites: &[SiteName<'_>], service: &Service<'_>) -> u32 {
     let mut place: u32 = 0;
     for site in sites {
@@ -44,7 +45,7 @@ fn claim_of(
     })
 }
 
-// That claim for each service, in the order of the services.
+// The claim of `claim_of` for each service, in the order of the services. The error is refused memory.
 fn claims_of(alloc: Global, test: &Test<'_>) -> Result<Vec<Claim>, AllocError> {
     let mut claims = Vec::new(alloc);
     for line in &test.services {
@@ -53,7 +54,7 @@ fn claims_of(alloc: Global, test: &Test<'_>) -> Result<Vec<Claim>, AllocError> {
     Ok(claims)
 }
 
-/// Whether a service belongs to the case at this place. One below `given` belongs to every case.
+/// Whether a service belongs to the case at this place, from 0. One below `given` belongs to every case.
 pub(crate) fn is_of(line: &ServiceLine<'_>, case: usize) -> bool {
     match line.case {
         Some(own) => own == case,
@@ -61,7 +62,7 @@ pub(crate) fn is_of(line: &ServiceLine<'_>, case: usize) -> bool {
     }
 }
 
-/// The services of a test, and whether a run has asked each of them.
+/// The services of a test, and for each of them, in their order, whether a run has asked it.
 #[derive(Drop)]
 struct Services<'s, 'a> {
     lines: &'s [ServiceLine<'a>],
@@ -93,7 +94,8 @@ impl<'s, 'a> Services<'s, 'a> {
         false
     }
 
-    // Notes which services the runs of a case have asked. `told` has the counts of each service's claim, in the order of the services.
+    // Notes which services the runs of a case have asked: those whose claim was put to the test. `told` has what is reported of each service's claim,
+    // in the order of the services. A service of another case isn't noted.
     fn note(&mut self, case: usize, told: &[Told]) {
         for (place, line) in self.lines.iter().enumerate() {
             let is_tested = match told.get(place) {
@@ -108,7 +110,7 @@ impl<'s, 'a> Services<'s, 'a> {
         }
     }
 
-    // Makes runs of a case until each of its services was asked, or no run is left. The error is refused memory.
+    // Makes runs of the case at this place until each of its services was asked, or no run is left. The error is refused memory.
     fn try_case<'t, 'c, R: Threads + Sync>(
         &mut self,
         rt: &R,
@@ -176,7 +178,8 @@ fn say_service(page: &mut Page, test: &Test<'_>, line: &ServiceLine<'_>) {
 }
 
 /// The text that names the services of a test that no run asks; empty where each is asked. `cases` has the ways that were tried, whose runs in all
-/// orders are made again. The runs of its case ask a service of a case, and those of any case one of `given`. The error is refused memory.
+/// orders are made again by `workers` threads. A service of a case is to be asked in a run of that case, and one of `given` in a run of any case. The
+/// error is refused memory.
 pub fn services_never_asked<R: Threads + Sync>(
     rt: &R,
     alloc: Global,
@@ -186,6 +189,7 @@ pub fn services_never_asked<R: Threads + Sync>(
     workers: usize,
 ) -> Result<String, AllocError> {
     let claims = claims_of(alloc, test)?;
+    // What was tried, with the services' claims in place of the test's.
     let trials = Trials {
         source: tried.source,
         sites: tried.sites,

@@ -11,8 +11,11 @@ use std::alloc::{AllocError, Global};
 /// The names that a command line has for the files of a test, which the table's title and commands repeat.
 #[derive(Clone, Copy)]
 pub struct Names<'n> {
+    /// The program's file.
     pub source: &'n str,
+    /// The test's file.
     pub test: &'n str,
+    /// The file of the script beside the test. None where the command line has none.
     pub script: Option<&'n str>,
 }
 
@@ -29,7 +32,8 @@ fn write_script(script: Option<&str>, text: &mut Vec<u8>) -> Result<(), AllocErr
     }
 }
 
-// Writes an option with its number, unless that is the option's default. The error is refused memory.
+// Writes an option with its number, unless that is the `usual` one, its default. `word` is the option with a blank on both sides. The error is
+// refused memory.
 fn write_option(
     alloc: Global,
     word: &str,

@@ -48,7 +48,8 @@ fn test_beside<'a>(
     }
 }
 
-// What the claims below `always` say of a journal that was checked, and how many of them fail. The error is refused memory.
+// What the claims below `always` say of a journal that was checked, and how many of them fail. Claims of a case are left out: no journal says of
+// which case it is. The error is refused memory.
 fn findings_of(alloc: Global, test: &Test<'_>, judged: &Judged) -> Result<Findings, AllocError>
     ensures text { IfOk result (λ f. f.text.items ≡ findings_text test.now (sight_at test.now judged.now.answers judged.now.journal judged.now.state judged.now.time)) }
     ensures failing { IfOk result (λ f. f.failing ≡ failing test.now (sight_at test.now judged.now.answers judged.now.journal judged.now.state judged.now.time)) }

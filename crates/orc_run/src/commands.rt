@@ -1,4 +1,10 @@
 //! What a command line does, over the files and the streams that it is given.
+//!
+//! Each job has a function here that answers the process's status, or the [`Failure`] that `perform` reports. It hands a fault of a text or of a run
+//! to `explained` itself, since a `Failure` doesn't keep the bytes of the files. After a failure nothing was written, but where the output failed a
+//! prefix.
+//!
+//! What standard error doesn't take changes no status, so the results of writing to it are dropped (`let _`).
 
 ghost use Rattle.std.specs.Prelude.{◌≡◌, ◌≢◌, ◌<◌, ◌⊎◌, ℕ, List, IfOk, IfErr, cond, nat_eq, option_map};
 ghost use Rattle.std.specs.Io.KnownBytes.{Keeps};
@@ -40,7 +46,8 @@ use std::path::Path;
 use std::sync::Wait;
 use std::thread::Threads;
 
-/// Reports a command line that asks for help or for the version, or was refused, and gives the status. `clap` hands over both as an error.
+/// Reports a command line that asks for help or for the version, or was refused, and gives the status: 0 where help or version was written, 2 where
+/// the line was refused, 5 where memory was, 6 where standard output failed. `clap` hands over all of these as an error.
 fn refuse<W: Write, V: Write>(error: &clap::Error, out: &mut W, err: &mut V) -> u8
     ensures status { result < 7 × result ≢ 1 × result ≢ 3 × result ≢ 4 }
     ensures refused { result ≡ 2 → Keeps (W.contents out.old) (W.contents out.new) }
@@ -66,7 +73,7 @@ fn refuse<W: Write, V: Write>(error: &clap::Error, out: &mut W, err: &mut V) -> 
     }
 }
 
-// All bytes of the file at a path.
+// All bytes of the file at a path. The failure names the path.
 fn read<'a, F: Files>(path: &'a str, files: &mut F) -> Result<Vec<u8>, Failure<'a>>
     ensures held { IfOk result (λ bytes. IsHeld (F.holds files.old path.now) bytes.items) }
     ensures unread { IfErr result IsUnread }
@@ -78,7 +85,7 @@ fn read<'a, F: Files>(path: &'a str, files: &mut F) -> Result<Vec<u8>, Failure<'
     }
 }
 
-// The bytes of a script, none where there is no script.
+// The bytes of a script; none where there is no script, which reads as a script without lines.
 fn read_script_text<'a, F: Files>(
     alloc: Global,
     path: Option<&'a str>,
@@ -168,7 +175,7 @@ fn survey_file<'a, R: Threads + Sync, F: Files, W: Write>(
     }
 }
 
-// The status of a search that found all outcomes, or didn't.
+// The status of a search: 0 if it found all outcomes, 4 (cut) if not.
 fn search_status(all: bool) -> u8
     ensures { result ≡ cond all 0 4 }
 {
@@ -270,6 +277,7 @@ fn check_file<'a, F: Files, W: Write>(
 {
     let source = read(program.file, files)?;
     if !explained.is_asked() {
+        // The journal is opened before the script is read: if neither can be, the journal is named.
         let reader = match files.open(journal) {
             Ok(reader) => reader,
             Err(fault) => return Err(Failure::Unread(journal, fault)),
@@ -315,7 +323,7 @@ fn check_file<'a, F: Files, W: Write>(
     }
 }
 
-// The status if so many claims of a test fail, in a program's runs or on a journal.
+// 0 if no claim of a test fails, in a program's runs or on a journal; else 1.
 fn claims_status(failing: usize) -> u8
     ensures { result ≡ cond (nat_eq failing 0) 0 1 }
 {
@@ -351,6 +359,7 @@ fn claims_file<'a, F: Files, W: Write>(
         out,
     ) {
         Ok(failing) => Ok(claims_status(failing)),
+        // `Explained::test` shows the fault in the test's text, which a `Subject` doesn't have.
         Err(RunFault::Test(fault)) => {
             let document = Document {
                 name: title_of(test),
@@ -374,7 +383,7 @@ fn claims_file<'a, F: Files, W: Write>(
     }
 }
 
-// The title of a picture of a file's program: the file's name without its folders.
+// The title of a picture of a file's program: the file's name without its folders, or the whole path where it has no such name, as `..`.
 fn name_of(path: &str) -> &str {
     let title = title_of(path);
     Path::new(title).file_name().unwrap_or(title)
@@ -519,6 +528,7 @@ fn test_file<'a, R: Threads + Sync, F: Files, W: Write>(
     };
     match test_text(rt, alloc, &names, &texts, options, out, explained) {
         Ok(failing) => Ok(claims_status(failing)),
+        // As in `claims_file`: a `Subject` doesn't have the test's text.
         Err(Untested::Fault(RunFault::Test(fault))) => {
             let document = Document {
                 name: title_of(test),
@@ -537,7 +547,8 @@ fn test_file<'a, R: Threads + Sync, F: Files, W: Write>(
     }
 }
 
-// Does what a command line asks for, and gives the process's status.
+// Does what a command line asks for, and gives the process's status. Numbers of options that are out of range are a failure here; `read_words`
+// refuses them before.
 fn do_job<'a, R: Threads + Wait + Sync, F: Files, W: Write>(
     rt: &R,
     alloc: Global,
@@ -661,7 +672,7 @@ where
     ensures quiet { result ≡ 3 → HasEnded ends.Quiet (W.contents out.old) (W.contents out.new) }
     ensures cut { result ≡ 4 → WasCut (W.contents out.old) (W.contents out.new) ⊎ TellsNotAll (W.contents out.old) (W.contents out.new) }
 {
-    // `clap` borrows the numbers that options allow, so they are held here while the words are read.
+    // `clap` borrows the texts of the options' ranges and defaults, so these are held here until the job is done.
     let texts = match ArgumentTexts::new(alloc) {
         Err(error) => return refuse(&clap::Error::from(error), out, err),
         Ok(texts) => texts,

@@ -14,10 +14,10 @@ use orc_syntax::parse;
 use orc_tally::Failure;
 use std::alloc::{AllocError, Global};
 
-/// About how many columns wide the picture of a run is.
+/// About how many columns wide the picture of a run is: as many as `orc draw --text` takes by default.
 const WIDTH: u64 = 80;
 
-/// What stands below a claim that fails in a run: the failure's number, from 1, the unusual lines of the way, and where the claim fails in `run`,
+/// What stands below a claim that fails in a run: the failure's number, from 1, the unusual `lines` of the way, and where the claim fails in `run`,
 /// which is that of `failure`'s order. The error is refused memory.
 pub fn trial_text(
     alloc: Global,
@@ -46,7 +46,7 @@ pub fn trial_text(
     Ok(text)
 }
 
-// Writes what a claim saw of a run, and how that ended. The error is refused memory.
+// Writes what a claim saw of a run, and how that ended, both as the search told it: there is no journal. The error is refused memory.
 fn write_sighted(
     alloc: Global,
     trials: &Trials<'_, '_>,
@@ -63,8 +63,9 @@ fn write_sighted(
     ended.write_seen(alloc, trials.sites, sighted.latest, text)
 }
 
-/// What stands below a claim that only the search through all schedules found to fail: the failure's number, from 1, the unusual lines of the way,
-/// and what the claim saw of a run of it, if a search still finds one. The error is refused memory.
+/// What stands below a claim that only the search through all schedules found to fail: the failure's number, from 1, the unusual `lines` of the way,
+/// and what the claim saw of a run of it. `sighted` is None if no search finds one any more; then only the lines are written. The error is refused
+/// memory.
 pub fn schedule_text(
     alloc: Global,
     trials: &Trials<'_, '_>,
@@ -92,7 +93,7 @@ pub fn write_picture(
     mut run: Run,
     text: &mut Vec<u8>,
 ) -> Result<(), AllocError> {
-    // The run was made of both: only memory can be refused here.
+    // The run was made of both texts: only memory can be refused here.
     let Ok(loaded) = load(alloc, source, script) else {
         return Err(AllocError);
     };
@@ -100,10 +101,12 @@ pub fn write_picture(
         return Err(AllocError);
     };
     let state = state_at(run.played.summary.end);
+    // The journal moves into the picture's subject. `run` has it, so None doesn't come.
     let Some(journal) = run.played.journal.take() else {
         return Err(AllocError);
     };
     let subject = Subject {
+        // A row has no place for a title.
         name: "",
         source,
         ast,

@@ -2,6 +2,9 @@
 //!
 //! A run in an order shows a failure (`Trial`), or only the search through all schedules found it (`Schedule`). What is shown is made again from the
 //! failure's script and order: the runs of the trials aren't kept.
+//!
+//! In the functions here `lines` are the unusual lines of a failure's way (`unusual_lines`), `ranges` those with the numbers of a range with which
+//! the claim fails (`ranges_of`), `number` is the failure's, from 1, and `claim` the claim's place among the test's, from 0.
 
 ghost use Rattle.std.specs.Prelude.{◌≡◌, [], IfErr, IfOk, false};
 ghost use Rattle.orc_orders.specs.Trials.{IsMadeAgain, texts};
@@ -24,7 +27,7 @@ use std::alloc::AllocError;
 use std::thread::Threads;
 
 impl<R: Threads + Sync> Tester<'_, '_, R> {
-    // Makes the run again that shows a failure.
+    // Makes the run again that shows a failure, in its way and its order. The error is that of the run, or refused memory.
     #[tactic(auto, using(crate::proofs::Untold::unmade_again))]
     fn run_again(&self, script: &[u8], shown: Failing) -> Result<Run, Untested>
         ensures made { IfOk result (IsMadeAgain self.now.trials.now.source.now (sites_of self.now.trials.now.sites.now) self.now.trials.now.limit script.now) }
@@ -38,7 +41,7 @@ impl<R: Threads + Sync> Tester<'_, '_, R> {
     }
 
     // Of the way that shows a failure the lines that have a range, with the numbers of the range with which the claim fails. Empty if failures aren't
-    // explained.
+    // explained, or there is no such case, which doesn't come. The error is refused memory.
     fn ranges_of(
         &self,
         cases: &[CaseScripts],
@@ -62,8 +65,8 @@ impl<R: Threads + Sync> Tester<'_, '_, R> {
         }
     }
 
-    // Those lines of a way of this case: every way that was tried is run again with this claim alone, to see in which ones it fails. Empty if no line
-    // of the way has a range.
+    // The lines of `ranges_of` for this way of this case, from 0: every way that was tried is run again with this claim alone, to see in which ones
+    // it fails. Empty if no line of the way has a range. The error is refused memory.
     fn failing_ranges(
         &self,
         case: &CaseScripts,
@@ -74,7 +77,7 @@ impl<R: Threads + Sync> Tester<'_, '_, R> {
         if !ways.has_range(way) {
             return Ok(Vec::new(self.alloc));
         }
-        // This claim alone, as a list.
+        // This claim alone, as a list; empty if there is no such claim, and then `failing_ways` gives an error.
         let claims = self
             .trials
             .claims
@@ -92,7 +95,8 @@ impl<R: Threads + Sync> Tester<'_, '_, R> {
         ways.failing_ranges(self.alloc, way, fails.as_slice())
     }
 
-    // What explains a failure: these lines of ranges, and the picture of the run that shows it. Empty if failures aren't explained.
+    // What explains a failure: the lines of `ranges`, and the picture of the run that shows it. Empty if failures aren't explained. The error is
+    // refused memory.
     fn explanation(&self, script: &[u8], ranges: &[u8], run: Run) -> Result<Vec<u8>, Untested>
         ensures unasked { IfOk result (λ text. self.now.explains ≡ false → text.items ≡ []) }
         ensures cause { IfErr result IsNoText }
@@ -134,7 +138,8 @@ impl<R: Threads + Sync> Tester<'_, '_, R> {
         }
     }
 
-    // What stands below a claim that fails: what isn't usual in the way that shows it, where it fails there, and what explains it.
+    // What stands below a claim that fails in the run of an order: the unusual lines of the way that shows it, where it fails there, and what
+    // explains it. The error is that of the run, or refused memory.
     #[tactic(auto, using(crate::proofs::Untold::text_unshown))]
     fn details_of_trial(
         &self,
@@ -161,7 +166,8 @@ impl<R: Threads + Sync> Tester<'_, '_, R> {
         Ok(text)
     }
 
-    // What stands below a claim that a schedule breaks which no order showed: what isn't usual in its way, and what the claim saw there.
+    // What stands below a claim that a schedule breaks which no order showed: the unusual lines of its way, and what the claim saw there. The error
+    // is refused memory.
     fn details_of_schedule(
         &self,
         test: &Test<'_>,
@@ -192,7 +198,7 @@ impl<R: Threads + Sync> Tester<'_, '_, R> {
         }
     }
 
-    // What stands below the failure with this number, from 1.
+    // What stands below the failure with this number. The error is that of a run that is made again, or refused memory.
     #[tactic(auto, using(crate::proofs::Untold::of_script, crate::proofs::Untold::memory_unshown, crate::proofs::Untold::texts_unshown))]
     fn details_of(
         &self,

@@ -1,4 +1,6 @@
 //! What explains a failure, or how a run ended, where that is asked for.
+//!
+//! An explanation that can't be made, as where memory is refused, is left out. The job's result and its output are as without it.
 
 ghost use Rattle.std.specs.Prelude.{◌≡◌, false, if◌then◌else◌, OnOk};
 ghost use Rattle.std.specs.Io.KnownBytes.{Appends};
@@ -36,7 +38,7 @@ pub enum Explained {
     Text(String),
 }
 
-// What `orc_explain_fault` explains of a fault; None where another explanation is made, or where the fault's line says all.
+// The fault for `orc_explain_fault`, which explains it; None where another explanation is made, or where the fault's line says all.
 fn fault_of(fault: RunFault) -> Option<Fault> {
     match fault {
         RunFault::Syntax(fault) => Some(Fault::Syntax(fault)),
@@ -45,12 +47,12 @@ fn fault_of(fault: RunFault) -> Option<Fault> {
         // `Explained::test` explains it, which has the test's text.
         RunFault::Test(_) => None,
         RunFault::Journal(fault) => Some(Fault::Journal(fault)),
-        // `refusal` explains it.
+        // `Explained::refusal` explains it, which has the journal.
         RunFault::Check(_) => None,
         RunFault::Engine(EngineFault::Range) => Some(Fault::Range),
         RunFault::Engine(EngineFault::Memory) => Some(Fault::Begin),
         RunFault::Engine(EngineFault::Broken) => Some(Fault::Broken),
-        // No command line has sites of its own.
+        // Doesn't come: no command line has sites of its own.
         RunFault::Engine(EngineFault::Site(_)) => None,
         RunFault::Write(_) => Some(Fault::Write),
     }
@@ -119,6 +121,7 @@ impl Explained {
         if !self.is_asked() {
             return;
         }
+        // The script was read before: only memory can be refused here.
         if let Ok(others) = read_script(alloc, script) {
             self.tell(explain_test(alloc, test, &others, fault));
         }
@@ -150,7 +153,7 @@ impl Explained {
         write_text(err, self.as_str().as_bytes())
     }
 
-    // Explains why an entry of the journal is refused.
+    // Explains why an entry of the journal is refused. Nothing is said where `subject` has no journal, as where `draw` makes the run itself.
     fn refusal(&mut self, alloc: Global, subject: &Subject, fault: CheckFault) {
         if let Some(journal) = subject.journal {
             let source = subject.source.text;

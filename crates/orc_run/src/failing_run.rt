@@ -28,7 +28,7 @@ use orc_tally::happenings_of;
 use std::alloc::{AllocError, Global};
 use std::io::Write;
 
-// Whether a claim fails. None is the verdict of a claim that isn't there.
+// Whether a claim fails by this verdict. None is the verdict of a claim that isn't there.
 fn is_failing(verdict: Option<Verdict>) -> bool
     ensures { result ≡ true → (v : AVerdict) × (verdict ≡ Some v) × (says_so v ≡ false) }
 {
@@ -38,7 +38,7 @@ fn is_failing(verdict: Option<Verdict>) -> bool
     }
 }
 
-// Whether the claim at this place fails in a run of a way that has this journal and ended so. The error is refused memory.
+// Whether the claim at this place, from 0, fails in a run of a way that has this journal and ended so. The error is refused memory.
 fn fails_in(
     alloc: Global,
     trials: &Trials<'_, '_>,
@@ -63,8 +63,8 @@ fn fails_in(
     Ok(is_failing(verdict))
 }
 
-// Writes the journal of a run of the way of this script, if the claim at this place fails in it: whether it does. Nothing is written where it
-// doesn't. The fault is refused memory, or one of the output.
+// Writes the journal of a run of the way of this script, if the claim at this place, from 0, fails in it: whether it does. Nothing is written where
+// it doesn't. The fault is refused memory, or one of the output.
 fn write_failing<W: Write>(
     alloc: Global,
     trials: &Trials<'_, '_>,
@@ -83,7 +83,7 @@ fn write_failing<W: Write>(
     ensures cause { IfErr result (IsUnshown trials.now.source.now 1 trials.now.limit script.now) }
     ensures sound { IfErr result (λ f. IsOwnFault f → ⊥) }
 {
-    // Each caller's run keeps its journal.
+    // Not reached: each caller's run keeps its journal.
     let Some(journal) = &played.journal else {
         return Ok(false);
     };
@@ -99,8 +99,8 @@ fn write_failing<W: Write>(
     }
 }
 
-/// Writes the journal of the run in this order in which the claim at this place fails, in the way of this script. That run was made before, and is
-/// the same each time, so the fault is refused memory, or one of the output.
+/// Writes the journal of the run in this order in which the claim at this place, from 0, fails, in the way of this script. That run was made before,
+/// and is the same each time, so the fault is refused memory, or one of the output.
 pub(crate) fn write_in_order<W: Write>(
     alloc: Global,
     trials: &Trials<'_, '_>,
@@ -117,6 +117,7 @@ pub(crate) fn write_in_order<W: Write>(
     let Ok(way) = Way::load(alloc, trials, script) else {
         return Err(NO_MEMORY);
     };
+    // `true`: the run keeps its journal.
     let Ok(played) = run_alone(
         alloc,
         &way.loaded.program,
@@ -127,6 +128,7 @@ pub(crate) fn write_in_order<W: Write>(
     ) else {
         return Err(NO_MEMORY);
     };
+    // A run that memory cut short isn't the one that was made before.
     if played.summary.end == End::Memory {
         return Err(NO_MEMORY);
     }
@@ -152,7 +154,7 @@ fn witness_in(
     let ClaimSearched::Fails(seen) = way.search(alloc, claim, most, limit)? else {
         return Ok(None);
     };
-    // None: a search can't watch for this claim, so that it found nothing above either.
+    // Not reached: a search that can't watch for this claim has found nothing above.
     let Some(watch) = Watch::of_claim(alloc, claim)? else {
         return Ok(None);
     };
@@ -161,13 +163,14 @@ fn witness_in(
         sites: way.sites.as_slice(),
         seen: &seen,
     };
+    // `witness` looks at places of the numbered term, of which there are more than states.
     let places = most.saturating_mul(PLACES_A_STATE);
     witness(alloc, &way.loaded, &sighting, places, limit)
 }
 
-/// Writes the journal of a run in which the claim at this place fails, in the way of this script: whether one was found. It searches through so many
-/// states at most. Where none was found, or there is no such claim, nothing is written. Runs of the way were made before, so that it loads: the fault
-/// is refused memory, or one of the output.
+/// Writes the journal of a run in which the claim at this place, from 0, fails, in the way of this script: whether one was found. The search for what
+/// the claim sees of such a run looks at `most` states at most. Where none was found, or there is no such claim, nothing is written. Runs of the way
+/// were made before, so that it loads: the fault is refused memory, or one of the output.
 pub(crate) fn write_witness<W: Write>(
     alloc: Global,
     trials: &Trials<'_, '_>,

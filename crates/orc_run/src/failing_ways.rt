@@ -5,11 +5,11 @@ use orc_orders::{CaseTold, Trials, try_ways};
 use std::alloc::{AllocError, Global};
 use std::thread::Threads;
 
-/// So many ways are tried at once. Only the number of those in which the claim fails is known then: if it is neither none nor all, each is tried
+/// How many ways are tried at once. Only the number of those in which the claim fails is known then: if it is neither none nor all, each is tried
 /// alone.
 const BATCH: usize = 64;
 
-/// How a claim is judged on the ways of a case; `trials` has this one claim alone.
+/// How a claim is judged on the ways of a case. `trials` has this one claim alone, and `workers` threads make the runs.
 #[derive(Drop)]
 struct Held<'s, 'a, R> {
     rt: &'s R,
@@ -32,16 +32,17 @@ impl<R: Threads + Sync> Held<'_, '_, R> {
         );
         match (tried, told.told.first()) {
             (Ok(()), Some(told)) => Ok(told.failing),
+            // Memory was refused; or there is no claim, which `failing_ways` answers as that.
             _ => Err(AllocError),
         }
     }
 
-    // Notes of each of these ways whether the claim fails in it.
+    // Adds for each of these ways, in their order, whether the claim fails in it. The error is refused memory.
     fn add(&self, scripts: &[Vec<u8>], fails: &mut Vec<bool>) -> Result<(), AllocError> {
         let failing = self.count(scripts)?;
-        // Whether the claim fails in none or in all of these ways, so that no way need be tried alone.
+        // Whether it is the same for all of these ways, so that no way need be tried alone.
         let is_one = failing == 0 || failing == scripts.len() as u64;
-        // A list of one way each, as `count` takes it.
+        // Each piece is a list of one way, as `count` takes it.
         for way in scripts.chunks(1) {
             let does_fail = if is_one {
                 failing > 0

@@ -12,7 +12,7 @@ use orc_rules::limits::MOST_ROWS;
 use std::fmt;
 use std::io::Write;
 
-/// Why a job was not done.
+/// Why a job was not done. Failures of a test and outcomes of a program have numbers from 1.
 #[derive(Clone, Copy)]
 pub enum Failure<'a> {
     /// The file at this path could not be read.
@@ -25,9 +25,9 @@ pub enum Failure<'a> {
     NoFailure(u64),
     /// A program has no outcome with this number.
     NoOutcome(u64),
-    /// No run was found that has the outcome with this number.
+    /// The program has an outcome with this number, but no run was found that has it.
     NoRun(u64),
-    /// No order showed the failure with this number, and no run of it was found.
+    /// The test has a failure with this number, but no order showed it, and no run of it was found.
     NoJournal(u64),
 }
 
@@ -36,6 +36,7 @@ impl fmt::Display for Failure<'_> {
 
     fn fmt<W: fmt::Write>(&self, f: &mut fmt::Formatter<W>) -> fmt::Result {
         match *self {
+            // Refused memory isn't the file's fault, so no path is named.
             Failure::Unread(_, ReadFault::Memory) => write!(f, "orc: memory"),
             Failure::Unread(path, ReadFault::Failed(_)) => write!(f, "orc: read {path}"),
             Failure::Fault(fault) => write!(f, "{fault}"),
@@ -53,7 +54,7 @@ impl fmt::Display for Failure<'_> {
 }
 
 impl Failure<'_> {
-    /// The process's status.
+    /// The process's status: 1 where what is to be shown isn't there or has too many rows, else that of the fault.
     pub fn status(&self) -> u8
         ensures { result ≡ failure_status self.now }
     {
@@ -69,8 +70,8 @@ impl Failure<'_> {
     }
 }
 
-/// Reports a job that was not done: writes the failure's line, and below it what explains it, if that was asked for. At a fault of the stream some of
-/// that may be missing at the end.
+/// Reports a job that was not done: writes the failure's line, and below it what explains it, if that was asked for. The error is that the stream
+/// didn't take all; some of the end may be missing then.
 pub fn report<V: Write>(
     err: &mut V,
     failure: &Failure<'_>,

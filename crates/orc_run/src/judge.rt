@@ -19,7 +19,8 @@ use orc_verdict::{TextFault, check_journal, check_lines};
 use std::alloc::{AllocError, Global};
 use std::io::{Read, Write};
 
-/// The line that a check writes of an accepted journal: `ok N STATE`. The error is refused memory.
+/// The line that a check writes of an accepted journal: `ok N STATE`, with the number of its entries, cancels counted, and where the run stands. The
+/// error is refused memory.
 pub(crate) fn line_of(alloc: Global, entries: usize, state: State) -> Result<Vec<u8>, AllocError>
     ensures { IfOk result (λ t. t.items ≡ verdict_line entries state) }
 {
@@ -107,7 +108,7 @@ fn judge_lines<R: Read + Drop>(
     ensures beyond { (text : List ℕ) (s : RunSummary) → R.remaining journal ≡ Some text → IsOfRun source.now script.now text s → IfErr result MayFail }
 {
     let loaded = load(alloc, source, script)?;
-    // For the prover, as in `judge`.
+    // As in `judge`, this shows the prover that the table's names differ.
     loaded.answers.are_apart();
     match check_lines(alloc, &loaded.program, &loaded.answers, journal) {
         Ok(checked) => Ok(Brought {
@@ -173,7 +174,7 @@ pub fn check_text<W: Write>(
     match check_read(alloc, source, script, journal, out) {
         Ok(()) => Ok(()),
         Err(Unchecked::Fault(fault)) => Err(fault),
-        // Bytes in memory can always be read to their end.
+        // Doesn't come: bytes in memory can always be read to their end.
         Err(Unchecked::Unread) => Err(RunFault::Journal(JournalFault::Memory)),
     }
 }

@@ -23,7 +23,7 @@ use std::io::Write;
 use std::thread::Threads;
 
 // Loads the program that a source spells, with the built-in sites and those of a script, and runs it in all orders that the options ask for: the
-// program, and each outcome once, by the least of its orders' numbers.
+// program, and each outcome once, by the least of its orders' numbers. The fault is one of the texts, or of the engine, as `survey_text` has them.
 pub(crate) fn surveyed<R: Threads + Sync>(
     rt: &R,
     alloc: Global,
@@ -105,7 +105,8 @@ fn says_all(found: &Schedules) -> bool
     }
 }
 
-// Adds a line for each outcome that a search found and that came up in no order. The error is refused memory.
+// Adds a line for each outcome that a search found and that came up in none of the `orders` orders, whose outcomes are `seen`. The error is refused
+// memory.
 fn write_more(
     alloc: Global,
     text: &mut Vec<u8>,
@@ -124,8 +125,8 @@ fn write_more(
     Ok(())
 }
 
-// The last line where a search found all outcomes, in so many states. A program may have none: each of its runs goes on for ever. The error is
-// refused memory.
+// The last line where a search found all outcomes, looking at so many states. A program may have none: each of its runs goes on for ever. The error
+// is refused memory.
 fn line_of_all(alloc: Global, found: &[Ended], states: usize) -> Result<Vec<u8>, AllocError>
     ensures { IfOk result (λ t. t.items ≡ line_of_all found.now states) }
 {
@@ -139,7 +140,7 @@ fn line_of_all(alloc: Global, found: &[Ended], states: usize) -> Result<Vec<u8>,
     Ok(line.into_bytes())
 }
 
-// The last line: whether a search of so many states at most found all outcomes, and where not, why. The error is refused memory.
+// The last line: whether a search through `most` states at most found all outcomes, and where not, why. The error is refused memory.
 fn last_line(alloc: Global, most: u64, found: &Schedules) -> Result<Vec<u8>, AllocError>
     ensures { IfOk result (λ t. t.items ≡ last_line most found.now) }
 {
@@ -156,8 +157,8 @@ fn last_line(alloc: Global, most: u64, found: &Schedules) -> Result<Vec<u8>, All
     }
 }
 
-// The whole text: what came up in so many orders, the other outcomes that a search through `most` states at most found, and the last line. The error
-// is refused memory.
+// The whole text: what came up in so many orders (`seen`), the other outcomes that a search through `most` states at most found, and the last line.
+// The error is refused memory.
 fn text_of(
     alloc: Global,
     orders: u64,

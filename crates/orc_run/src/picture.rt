@@ -28,7 +28,8 @@ pub enum Undrawn {
     Rows,
 }
 
-// The picture of a journal that was checked. Refused memory is a fault of the output, as it is of each text that was to be written.
+// The picture of a journal that was checked, with `name` as its title. Refused memory is a fault of the output, as it is of each text that was to be
+// written.
 fn picture_of<'a>(
     alloc: Global,
     name: &'a str,
@@ -59,11 +60,11 @@ fn picture_of<'a>(
     })
 }
 
-/// Draws a journal's text, which is first checked against the program that a source spells, with the built-in sites and those of a script,
-/// and writes the picture, which is called by the name.
+/// Draws a journal's text, which is first checked against the program that a source spells, with the built-in sites and those of a script, and writes
+/// the picture, whose title is `name`.
 ///
-/// A fault is answered where `check_text` answers it, and the same one; where memory for the picture is refused or the output isn't taken
-/// whole; and where the picture would have over `MOST_ROWS` rows. Nothing is written then, but at a fault of the output a prefix of a picture.
+/// A fault is answered where `check_text` answers it, and the same one; where memory for the picture is refused or the output isn't taken whole; and
+/// where the picture would have over `MOST_ROWS` rows. Nothing is written then, but at a fault of the output a prefix of a picture.
 pub fn draw_text<W: Write>(
     alloc: Global,
     name: &str,
@@ -105,7 +106,8 @@ fn with_journal(options: &RunOptions) -> RunOptions
     }
 }
 
-// The text of a run's journal. A run for which memory was refused once it had begun is a fault here, so that no part of a run is drawn as the whole.
+// The text of a run's journal. A run for which memory was refused once it had begun is a fault here, so that no part of a run is drawn as the whole;
+// so is refused memory for the text.
 fn journal_of<R: Threads + Wait + Sync>(
     rt: &R,
     alloc: Global,
@@ -119,6 +121,7 @@ fn journal_of<R: Threads + Wait + Sync>(
     ensures sound { IfErr result (λ u. IsOwnUndrawn u → ⊥) }
 {
     let mut text = Vec::new(alloc);
+    // `false`: no explanation asks for the journal. It is kept since it is what is wanted of the run.
     match run_source(
         rt,
         alloc,

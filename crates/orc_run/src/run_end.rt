@@ -15,7 +15,7 @@ pub fn explain_run(
     played: &Played,
 ) -> Result<String, AllocError> {
     if played.summary.end == End::Memory {
-        // What was refused is memory; of refused entries `orc_explain_refusal` has a function of this name.
+        // Such a run is explained by its summary alone, without its journal.
         return explain_refused_memory(alloc, played.summary);
     }
     let Some(journal) = &played.journal else {

@@ -19,7 +19,7 @@ use crate::faults::RunFault;
 use crate::times::write_times;
 use crate::unordered::run_unordered;
 use orc_cli::{Options, Order, Wanted};
-// The engine. Another one with the same contract takes its place here.
+// The engine that runs programs. Another one with the same contract takes its place here.
 use orc_engine::{EngineFault, run_alone, run_parallel};
 use orc_load::{Loaded, load};
 use orc_outcome::{Played, Summary};
@@ -31,7 +31,7 @@ use std::sync::Wait;
 use std::thread::Threads;
 
 // Runs a program. The journal is kept where what is wanted of the run asks for it, or where `keeps` does. An order's number is for one worker; the
-// command line asks for no other.
+// command line asks for no other. The fault is as `run_text` says.
 fn play<R: Threads + Wait + Sync>(
     rt: &R,
     alloc: Global,
@@ -58,6 +58,7 @@ fn play<R: Threads + Wait + Sync>(
         Order::Numbered(number) => Some(number),
         Order::Fixed => None,
     };
+    // One worker takes the numbered order or its own. Several share the calls of definitions, in an order of theirs.
     if options.workers == 1 {
         return run_alone(alloc, program, answers, number, keeps, limit);
     }
@@ -104,7 +105,8 @@ pub(crate) fn write_run<W: Write>(
     }
 }
 
-/// Runs the program of a source as [`run_text`] does, and answers it with its run, whose journal is kept where `keeps`.
+/// Runs the program of a source and writes what is wanted of the run, as [`run_text`] does with the same faults; answers the program with its run,
+/// whose journal is kept where `keeps`.
 pub(crate) fn run_source<R: Threads + Wait + Sync, W: Write>(
     rt: &R,
     alloc: Global,

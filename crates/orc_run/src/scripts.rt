@@ -20,12 +20,14 @@ use std::alloc::Global;
 /// The scripts of the ways of a case that are tried: the first ones, in the order of the ways.
 #[derive(Drop)]
 pub struct CaseScripts {
-    /// How many ways the case has, also those that aren't tried.
+    /// How many ways the case has, with those that aren't tried.
     pub count: u64,
+    /// One for each way that is tried; way 0 is at place 0.
     pub scripts: Vec<Vec<u8>>,
 }
 
-/// The ways of each case. The fault is of the first case that has too many, or refused memory.
+/// The ways of each case, in the order of the cases. The fault is that of the first case with more ways than `orc_cases` numbers (its `MOST_WAYS`),
+/// or refused memory.
 #[tactic(auto, using(crate::proofs::Scripting::one_case, crate::proofs::Untold::first_many))]
 pub(crate) fn ways_of(alloc: Global, test: &Test<'_>) -> Result<Vec<Ways>, Untested>
     ensures ways { IfOk result (λ ws. AreWays (test_of test.now) 0 ws.items × (length ws.items ≡ length test.now.cases.items)) }
@@ -33,6 +35,7 @@ pub(crate) fn ways_of(alloc: Global, test: &Test<'_>) -> Result<Vec<Ways>, Untes
     ensures sound { IfErr result (λ f. IsOwnFault f → ⊥) }
 {
     let mut all = Vec::new(alloc);
+    // The place of the case.
     let mut at = 0;
     // Not a `for`: the loop's invariant speaks of the rest of the list.
     let mut rest = test.cases.as_slice();
@@ -56,7 +59,8 @@ pub(crate) fn ways_of(alloc: Global, test: &Test<'_>) -> Result<Vec<Ways>, Untes
     }
 }
 
-// The scripts of a case's first ways, so many at most, each with these lines behind it: those of the script beside the test.
+// The scripts of a case's first ways, `most` of them at most, each with the lines `behind` after its own: those of the script beside the test. The
+// fault is refused memory.
 fn scripts_of(alloc: Global, ways: &Ways, most: u64, behind: &[u8]) -> Result<CaseScripts, Untested>
     ensures scripts { IfOk result (AreScripts most behind.now ways.now) }
     ensures cause { IfErr result IsNoMemory }
@@ -71,7 +75,7 @@ fn scripts_of(alloc: Global, ways: &Ways, most: u64, behind: &[u8]) -> Result<Ca
     }
 }
 
-/// The scripts of each case's first ways, so many of a case at most, each with these lines behind it. The fault is refused memory.
+/// The scripts of each case's first ways, `most` of a case at most, each with the lines `behind` after its own. The fault is refused memory.
 #[tactic(auto, using(crate::proofs::Scripting::one_written))]
 pub(crate) fn all_scripts(
     alloc: Global,
@@ -84,7 +88,7 @@ pub(crate) fn all_scripts(
     ensures sound { IfErr result (λ f. IsOwnFault f → ⊥) }
 {
     let mut all = Vec::new(alloc);
-    // As in `ways_of`.
+    // Not a `for`, as in `ways_of`.
     let mut rest = ways;
     loop {
         match rest {
@@ -100,8 +104,7 @@ pub(crate) fn all_scripts(
     }
 }
 
-/// The script of the way in which a failure is. A failure is always in a way that was tried, so the fault, which says that there is no text, doesn't
-/// come.
+/// The script of the way in which a failure is. A failure is always in a way that was tried, so the fault, `NO_TEXT`, doesn't come.
 pub(crate) fn script_at(cases: &[CaseScripts], found: Counterexample) -> Result<&[u8], Untested>
     ensures script { IfOk result (λ text. IsScript cases.now found text.now) }
     ensures among { IfOk result (λ text. IsAmong (all_texts cases.now) text.now) }

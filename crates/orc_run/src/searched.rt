@@ -20,7 +20,8 @@ use orc_tally::{Broken, CaseReport, ClaimSite, Searched, is_held, is_open};
 use orc_ways::test::Test;
 use std::alloc::{AllocError, Global};
 
-/// All searches of a command together look at so many times as many states as one of them may at most.
+/// All searches of a command together look at so many times as many states as one of them may at most. This bounds the command's time, however many
+/// claims and ways the test has; docs/orc.md, *Limits*, has the number.
 const SEARCHES: u64 = 20;
 
 /// A way whose program is loaded: the source with the way's script.
@@ -103,7 +104,8 @@ impl<'w> Way<'w> {
     }
 }
 
-// What is said of a claim, which was whole so far, after a search in the way at this place.
+// What is said of a claim, which was whole so far, after a search in the way at this place. `No` where the search gave up, or can't watch for the
+// claim.
 fn said_of(place: Broken, found: &ClaimSearched) -> Searched
     ensures { result ≡ said_of place found.now }
 {
@@ -116,8 +118,8 @@ fn said_of(place: Broken, found: &ClaimSearched) -> Searched
     }
 }
 
-// At about so many states a search has looked. Only one that ends with `Holds` says how many; each other one counts as if it had looked at all that
-// it may.
+// About how many of the states that it may look at, `most`, a search has looked at. Only one that ends with `Holds` says how many; one that can't
+// watch for its claim looks at none, and each other one counts as if it had looked at all.
 fn cost_of(found: &ClaimSearched, most: usize) -> u64 {
     match found {
         ClaimSearched::Holds(states) => *states as u64,
@@ -133,7 +135,7 @@ pub(crate) struct Searcher<'s, 'a> {
     pub(crate) trials: &'s Trials<'s, 'a>,
     pub(crate) test: &'s Test<'a>,
     pub(crate) cases: &'s [CaseScripts],
-    /// One for each case.
+    /// One for each case, in their order.
     pub(crate) reports: &'s [CaseReport],
     /// One search looks at so many states at most; 0 for no search.
     pub(crate) most: u64,
@@ -142,13 +144,14 @@ pub(crate) struct Searcher<'s, 'a> {
 /// What a search sees of a run that breaks a claim.
 #[derive(Drop)]
 pub struct Sighted {
+    /// The occurrences that the claim names, in order with their times, and how and when the run ended.
     pub seen: Seen,
-    /// The claim doesn't tell times apart that are later than this; 0 where it asks for none.
+    /// All times from this one on are the same to the claim; 0 where it asks for no time.
     pub latest: u64,
 }
 
 impl Searcher<'_, '_> {
-    // The place of the case in which a claim stands; None for one below `always`.
+    // The place, from 0, of the case in which a claim stands. None for one below `always`, and for the claim that runs end, which has no line.
     fn section(&self, claim: usize) -> Option<usize>
         ensures { result ≡ section_of (slice_get self.now.test.now.claim_lines.items claim) }
     {
@@ -197,7 +200,7 @@ impl Searcher<'_, '_> {
         false
     }
 
-    // How many ways there are, from this case on, in which a claim of this section is judged.
+    // In how many of the tried ways of this case and those behind it a claim of this section is judged.
     fn ways_from(&self, case: usize, section: Option<usize>) -> u64 {
         let mut number: u64 = 0;
         for at in case..self.cases.len() {
@@ -208,8 +211,8 @@ impl Searcher<'_, '_> {
         number
     }
 
-    // Whether a search of so many states in each way that is to come would need more than are left. It is asked at the first way of a case alone:
-    // then the claim is given up at once, and not after the states have been spent on some of its ways.
+    // Whether a search of so many `states` in each way that is to come, this one among them, would need more than the `left` ones. It is asked at the
+    // first way of a case alone: then the claim is given up at once, and not after the states have been spent on some of its ways.
     fn is_too_much(&self, place: Broken, section: Option<usize>, states: usize, left: u64) -> bool {
         place.way == 0
             && self
@@ -218,7 +221,8 @@ impl Searcher<'_, '_> {
                 > left
     }
 
-    // Searches the way at this place for a claim of this section, and takes the states at which it looked from those that are left.
+    // Searches the way at this place for a run that breaks this claim of this section, and takes the states at which it looked from those that are
+    // `left`. A claim that holds in the way is given up too (`TooMany`) if the other ways would need too many states. The error is refused memory.
     fn find(
         &self,
         way: &Way<'_>,
@@ -239,6 +243,7 @@ impl Searcher<'_, '_> {
         let before = *left;
         *left = before.saturating_sub(cost_of(&found, most));
         if let ClaimSearched::Holds(states) = &found {
+            // With what was left before this search, since the ways that are counted include this one.
             if self.is_too_much(place, section, *states, before) {
                 return Ok(ClaimSearched::TooMany);
             }
@@ -246,7 +251,8 @@ impl Searcher<'_, '_> {
         Ok(found)
     }
 
-    // What is said after the way at this place of a claim that was whole before it. The claim stays whole if it is one of another case.
+    // What is said after the way at this place of a claim that was whole before it. The claim stays whole if it is one of another case. The error is
+    // refused memory, here and in the functions that call this one.
     #[tactic(auto, using(crate::proofs::Schedules::untouched_word, crate::proofs::Schedules::unknown_word))]
     fn say_again(
         &self,
@@ -270,6 +276,7 @@ impl Searcher<'_, '_> {
                 let found = self.find(way, explorer, place, section, claim, left)?;
                 Ok(said_of(place, &found))
             }
+            // Not reached: the test has a claim for each of its lines.
             None => Ok(Searched::No),
         }
     }
@@ -296,7 +303,7 @@ impl Searcher<'_, '_> {
         }
     }
 
-    // What is said of each claim after this way, at this place.
+    // What is said of each claim after the way that is loaded here, at this place. `explorer` serves all of these searches.
     #[tactic(auto, using(crate::proofs::Schedules::nothing_said))]
     fn say_of_claims(
         &self,
@@ -318,7 +325,7 @@ impl Searcher<'_, '_> {
         Ok(after)
     }
 
-    // What is said of each claim after the way of this script, at this place.
+    // What is said of each claim after the way of this script, at this place. The way is loaded only if a claim is to be searched for in it.
     #[tactic(auto, using(crate::proofs::Schedules::all_untouched))]
     fn say_of_way(
         &self,
@@ -338,7 +345,7 @@ impl Searcher<'_, '_> {
         Ok(after)
     }
 
-    // What is said of each claim after the ways of the case at this place, whose scripts `its` has.
+    // What is said of each claim after the ways of the case at this place, from 0. `its` has the scripts of these ways.
     fn say_of_case(
         &self,
         case: usize,
@@ -365,7 +372,7 @@ impl Searcher<'_, '_> {
     pub(crate) fn search(&self) -> Result<Vec<Searched>, AllocError>
         ensures { IfOk result (λ said. AreSaid self.now.trials.now self.now.test.now.claim_lines.items self.now.cases.now self.now.reports.now said.items) }
     {
-        // At so many states all searches together may still look.
+        // How many states all searches together may still look at. It is 0 where no search is asked for; then `begin` says `No` of each claim.
         let mut left = self.most.saturating_mul(SEARCHES);
         let mut said = self.begin()?;
         for case in 0..self.cases.len() {
@@ -374,7 +381,8 @@ impl Searcher<'_, '_> {
         Ok(said)
     }
 
-    /// What a search alone sees of a run that breaks a claim, in the way of this script; None where it finds none. The error is refused memory.
+    /// What a search alone sees of a run that breaks a claim, in the way of this script. None where it finds no such run, where there is no such
+    /// claim, or where a search can't watch for it. The error is refused memory.
     pub(crate) fn see(&self, script: &[u8], claim: usize) -> Result<Option<Sighted>, AllocError>
         ensures { IfOk result (λ found. IfSome found (IsSighted self.now.trials.now script.now claim)) }
     {
@@ -392,6 +400,7 @@ impl Searcher<'_, '_> {
                 seen,
                 latest: watch.latest(),
             })),
+            // The claim holds, or the search gave up.
             _ => Ok(None),
         }
     }

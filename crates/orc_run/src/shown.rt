@@ -25,32 +25,33 @@ use std::io::Write;
 use std::thread::Threads;
 
 /// How many places a search for a run may look at for each state that a search through all schedules may: places tell apart more than states do, so
-/// there are more of them.
+/// there are more of them. How many more isn't known; the number bounds the search.
 pub(crate) const PLACES_A_STATE: usize = 16;
 
-/// Memory for a search was refused.
+/// Memory for a search was refused: status 5.
 const NO_MEMORY: Unshown = Unshown::Fault(RunFault::Engine(EngineFault::Memory));
 
 /// Why no outcome is shown.
 #[derive(Clone, Copy, Debug, PartialEq, Eq)]
 pub enum Unshown {
+    /// A text is at fault, no run could be made, or the output wasn't taken whole.
     Fault(RunFault),
-    /// There are fewer outcomes than this number.
+    /// There are fewer outcomes than this number, which counts from 1.
     NoOutcome(u64),
     /// No run was found that has the outcome with this number.
     NoRun(u64),
 }
 
-// How a run is to end, and what it is to publish.
+// How a run is to end, and what it is to publish, in order.
 #[derive(Clone, Copy)]
 struct Outcome<'o> {
     end: End,
     values: &'o [Value],
 }
 
-// `seen` counts the values that were published so far, each as wanted.
+// `seen` counts the values that were published so far, each as wanted. The search gives up a way where `after` gives None.
 impl Wanted for Outcome<'_> {
-    // To an outcome all times are the same.
+    // An outcome has no times, so all of them are one to the search.
     fn time(&self, _now: u64) -> u64 {
         0
     }
@@ -79,7 +80,7 @@ fn has(played: &Played, outcome: Outcome<'_>) -> bool
     played.summary.end == outcome.end && are_same(played.published.as_slice(), outcome.values)
 }
 
-// The outcome at this place, from 0, among those that a search found and no order came to.
+// The outcome at this place, from 0, among those that a search found and no order came to. None if there are fewer.
 fn unseen_at<'f>(seen: &[Seen], found: &'f [Ended], place: usize) -> Option<&'f Ended>
     ensures { IfSome result (λ e. IsUnseen seen.now e.now) }
 {
@@ -116,12 +117,13 @@ fn found_run(
     ) {
         Ok(found) => Ok(found),
         Err(PlayFault::Memory) => Err(EngineFault::Memory),
-        // Without a journal that the rules take there is no run to show.
+        // Not expected: the rules refuse the run that was found, so there is no run to show.
         Err(PlayFault::Broken) => Ok(None),
     }
 }
 
-// Writes the journal of a run, if it has the outcome with this number.
+// Writes the journal of a run, if it has the outcome with this number; if not, the fault is `NoRun`. It is looked at here since the search that finds
+// a run doesn't promise its outcome.
 fn write_shown<W: Write>(
     alloc: Global,
     loaded: &Loaded,
@@ -180,6 +182,7 @@ fn show_unseen<W: Write>(
     ensures err { IfErr result (LeavesUnseen loaded.now.program loaded.now.answers seen.now (W.contents out.old) (W.contents out.new)) }
     ensures cause { IfErr result (IsUnshownBy number) }
 {
+    // Counted from 0, behind the outcomes of the orders; the number counts from 1.
     let place = (number as usize)
         .saturating_sub(seen.len())
         .saturating_sub(1);
@@ -224,6 +227,7 @@ pub fn show_text<R: Threads + Sync, W: Write>(
 {
     let (loaded, seen) = surveyed(rt, alloc, source, script, &options.survey)?;
     let seen = seen.as_slice();
+    // An outcome that came up in an order is shown by the first of these.
     if let Some(one) = seen.get((options.number as usize).saturating_sub(1)) {
         let played = run_in_order(alloc, &loaded, one.first, options.survey.limit)?;
         let outcome = Outcome {

@@ -52,7 +52,7 @@ use std::alloc::{AllocError, Global};
 use std::io::Write;
 use std::thread::Threads;
 
-/// Why a test's table, or what shows one of its failures, was not written.
+/// Why a test's table, or what shows one of its failures, was not written. Failures have numbers from 1, in the order of the table's rows.
 #[derive(Clone, Copy, Debug, PartialEq, Eq)]
 pub enum Untested {
     /// A text is at fault, no run could be made, or the output wasn't taken whole.
@@ -63,7 +63,7 @@ pub enum Untested {
     NoJournal(u64),
 }
 
-/// The texts of a test: the program's source, the test, and the script of the sites that the test doesn't name.
+/// The texts of a test: the program's source, the test, and the script of the sites that the test doesn't name; it is empty where there is none.
 #[derive(Clone, Copy)]
 pub struct TestTexts<'t> {
     pub source: &'t [u8],
@@ -82,10 +82,13 @@ pub(crate) const NO_MEMORY: Untested = Untested::Fault(RunFault::Engine(EngineFa
 pub(crate) struct Tester<'s, 'a, R> {
     pub(crate) rt: &'s R,
     pub(crate) alloc: Global,
+    /// For the commands that the table shows.
     names: &'s Names<'s>,
+    /// The program, the claims, and the orders and the limit of each run.
     pub(crate) trials: &'s Trials<'s, 'a>,
+    /// How many threads make the runs of the trials.
     pub(crate) workers: usize,
-    /// A search through all schedules looks at so many states at most.
+    /// How many states one search through all schedules looks at, at most; 0 for no search.
     pub(crate) states: u64,
     /// Whether failures are explained: the numbers of ranges that fail, and a picture of the run that shows it.
     pub(crate) explains: bool,
@@ -109,7 +112,8 @@ pub(crate) fn run_fault(fault: TrialFault) -> RunFault
 }
 
 impl<R: Threads + Sync> Tester<'_, '_, R> {
-    // Tries the ways of a case, each in all orders: how many there were, and the counts of each claim.
+    // Tries the ways of a case, each in all orders: how many there were, and what is reported of each claim. The fault is one of the source's names
+    // or of the engine.
     fn try_case(&self, scripts: &CaseScripts) -> Result<CaseReport, Untested>
         ensures tried { IfOk result (IsTried self.now.trials.now scripts.now) }
         ensures cause { IfErr result (AreUntried self.now.trials.now.source.now self.now.workers self.now.trials.now.limit (texts scripts.now.scripts.items)) }
@@ -141,7 +145,7 @@ impl<R: Threads + Sync> Tester<'_, '_, R> {
         })
     }
 
-    // Tries the ways of each case.
+    // Tries the ways of each case. The result has a report for each case, in their order.
     #[tactic(auto, using(crate::proofs::Testing::one_tried, crate::proofs::Untold::memory_untried, crate::proofs::Untold::untried_case))]
     fn try_cases(&self, cases: &[CaseScripts]) -> Result<Vec<CaseReport>, Untested>
         ensures tried { IfOk result (λ reports. AllZip (IsTried self.now.trials.now) cases.now reports.items) }
@@ -165,7 +169,7 @@ impl<R: Threads + Sync> Tester<'_, '_, R> {
         }
     }
 
-    // Searches all schedules for the claims that failed in no run.
+    // Searches all schedules for the claims that failed in no run. The fault is refused memory.
     fn search_all(
         &self,
         test: &Test<'_>,
@@ -204,13 +208,13 @@ fn write_whole<W: Write>(out: &mut W, text: &[u8]) -> Result<(), Untested>
     }
 }
 
-// The place, from 0, of the claim that fails in the failure with this number, from 1. It is 0 too if there is no such failure, which the caller
-// rules out.
+// The place, from 0, of the claim that fails in the failure with this number, from 1. It is 0 too if there is no such failure: a caller asks
+// `failure_at` first whether there is.
 fn failing_claim(rows: &[Row], number: u64) -> usize
     ensures { result ≡ failing_claim number rows.now }
 {
     let mut number = number;
-    // As in `try_cases`.
+    // Not a `for`, as in `try_cases`.
     let mut rest = rows;
     loop {
         match rest {
@@ -229,7 +233,8 @@ fn failing_claim(rows: &[Row], number: u64) -> usize
 }
 
 impl<R: Threads + Sync> Tester<'_, '_, R> {
-    // Writes the table of a test.
+    // Writes the table of a test: its rows, below each failure what shows it, and the commands that show the first failure. The fault is that of a
+    // run that is made again, refused memory, or one of the output.
     #[tactic(auto, using(crate::proofs::Testing::unwritten, crate::proofs::Untold::texts_unshown))]
     fn write_table<W: Write>(
         &self,
@@ -261,7 +266,8 @@ impl<R: Threads + Sync> Tester<'_, '_, R> {
         write_whole(out, text.as_slice())
     }
 
-    // Writes the script that shows the failure with this number.
+    // Writes the script of the way in which the failure with this number, from 1, is. The fault is that there is no such failure, or one of the
+    // output.
     #[tactic(auto, using(crate::proofs::Testing::unwritten, crate::proofs::Untold::texts_unshown, crate::proofs::Untold::unshown_unwritten))]
     fn write_script<W: Write>(
         &self,
@@ -283,7 +289,8 @@ impl<R: Threads + Sync> Tester<'_, '_, R> {
         Ok(())
     }
 
-    // Writes the journal of a run that breaks a claim, where a search says that a schedule does and no order showed it.
+    // Writes the journal of a run that breaks a claim, where a search says that a schedule does and no order showed it. The failure's number is for
+    // the fault that no such run is found.
     fn write_found<W: Write>(
         &self,
         script: &[u8],
@@ -303,7 +310,8 @@ impl<R: Threads + Sync> Tester<'_, '_, R> {
         }
     }
 
-    // Writes the journal of the run that shows the failure with this number.
+    // Writes the journal of the run that shows the failure with this number, from 1. The fault is that there is no such failure, or no run of it is
+    // found; refused memory; or one of the output.
     #[tactic(auto, using(crate::proofs::Testing::unwritten, crate::proofs::Untold::of_script, crate::proofs::Untold::texts_unshown, crate::proofs::Untold::unshown_unwritten))]
     fn write_journal<W: Write>(
         &self,
@@ -331,7 +339,8 @@ impl<R: Threads + Sync> Tester<'_, '_, R> {
         }
     }
 
-    // Writes what is wanted of a test whose ways were tried, of which these are the rows.
+    // Writes what `options` want of a test whose ways were tried: the table, or the script or the journal of one failure. `rows` are those of
+    // `report`.
     #[tactic(auto, using(crate::proofs::Untold::unshown_unwritten))]
     fn write_shown<W: Write>(
         &self,
@@ -355,7 +364,7 @@ impl<R: Threads + Sync> Tester<'_, '_, R> {
         }
     }
 
-    // Writes what is wanted of a test whose ways were tried, and answers how many claims fail.
+    // Writes what is wanted of a test whose ways were tried, as `write_shown` does, and answers how many claims fail.
     #[tactic(auto, using(crate::proofs::Testing::unwritten))]
     fn write_test<W: Write>(
         &self,
@@ -398,7 +407,7 @@ fn remarks<'t, 'a, R: Threads + Sync>(
     page.finish()
 }
 
-// Explains what looks like a mistake, where the table is wanted and explanations are asked for. It makes the test's runs again.
+// Explains what looks like a mistake, where the table is wanted and explanations are asked for; else it does nothing. It makes the test's runs again.
 fn tell_remarks<'t, 'a, R: Threads + Sync>(
     rt: &R,
     alloc: Global,
@@ -418,8 +427,8 @@ fn tell_remarks<'t, 'a, R: Threads + Sync>(
     }
 }
 
-// Tries the ways of a test's cases, and writes what is wanted of it: how many claims fail. `explains` says whether failures are
-// explained.
+// Tries the ways of a test's cases, searches all schedules, and writes what is wanted of the test: how many claims fail. `explains` says whether
+// failures are explained.
 #[tactic(auto, using(crate::proofs::Testing::unwritten, crate::proofs::Untold::untried_untold, crate::proofs::Untold::memory_untold))]
 fn try_and_write<'t, 'a, R: Threads + Sync, W: Write>(
     rt: &'t R,
@@ -462,7 +471,8 @@ fn try_and_write<'t, 'a, R: Threads + Sync, W: Write>(
     Ok(number)
 }
 
-// Adds the claim that a run ends by itself, halted or quiet, at whatever time. It is the last claim, and has no line. The error is refused memory.
+// Adds the claim that a run ends by itself, halted (the first `true`) or quiet (the second), at whatever time (None). It has no line in the test, so
+// it comes last: the others keep the places of their lines. The error is refused memory.
 fn add_end(alloc: Global, test: &mut Test<'_>) -> Result<(), AllocError>
     ensures { OnOk result (IsJudged test.old test.new) }
 {
@@ -474,7 +484,8 @@ fn add_end(alloc: Global, test: &mut Test<'_>) -> Result<(), AllocError>
     Ok(())
 }
 
-// Judges the claims of a test that was read, to which `add_end` has added one, in these ways of its cases: how many fail.
+// Judges the claims of a test that was read, to which `add_end` has added one, in these ways of its cases: how many fail. `script` is the script
+// beside the test. The remarks come last, once the table has been written.
 #[tactic(auto, using(crate::proofs::Testing::unwritten))]
 fn hold<'t, 'a, R: Threads + Sync, W: Write>(
     rt: &R,
@@ -512,7 +523,7 @@ fn hold<'t, 'a, R: Threads + Sync, W: Write>(
     Ok(number)
 }
 
-// The table of the built-in sites and those of the script beside the test.
+// The table of the built-in sites and those of the script beside the test. The fault is one of the script's text.
 fn others_of(alloc: Global, script: &[u8]) -> Result<Answers, Untested>
     ensures says { IfOk result (Says script.now) }
     ensures cause { IfErr result (IsNoScript script.now) }
@@ -524,7 +535,7 @@ fn others_of(alloc: Global, script: &[u8]) -> Result<Answers, Untested>
     }
 }
 
-// The test that a text says, beside the sites of a script.
+// The test that a text says, beside the sites of a script, which need no service in it. The fault is one of the test's text.
 fn known_of<'a>(alloc: Global, text: &'a [u8], others: &Answers) -> Result<Test<'a>, Untested>
     ensures says { IfOk result (λ t. SaysTest text.now others.now (test_of t)) }
     ensures cause { IfErr result (IsNoTest text.now others.now) }

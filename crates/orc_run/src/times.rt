@@ -31,19 +31,21 @@ fn times_of(alloc: Global, journal: &Journal) -> Result<Vec<u8>, AllocError>
     let mut now = 0;
     for at in 0..journal.len() {
         let Some(entry) = journal.get(at) else {
+            // `at` is a place of the journal.
             unreachable!()
         };
         match entry {
             Entry::Publish(_, value) => write_line(alloc, &mut lines, value, now)?,
             Entry::Tick(time) => now = time,
+            // No other entry publishes, or lets time pass.
             _ => {}
         }
     }
     Ok(lines)
 }
 
-/// Writes a line for each value that a run published, with its logical time, from its journal. At a fault a prefix of that was written: nothing,
-/// where memory for it was refused.
+/// Writes a line for each value that a run published, with its logical time, from its journal. The error is refused memory for the lines, and then
+/// nothing was written; or the output's, and then a prefix was.
 pub fn write_times<W: Write>(
     alloc: Global,
     journal: &Journal,

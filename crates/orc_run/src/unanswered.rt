@@ -15,7 +15,7 @@ use orc_site::read_script;
 use orc_ways::test::{Service, Test};
 use std::alloc::{AllocError, Global};
 
-/// So many calls of a case are named.
+/// How many calls of a case are named. If there are more, a last line says so.
 const SHOWN: usize = 4;
 
 // Whether a service's patterns take these arguments.
@@ -32,7 +32,7 @@ fn is_service(test: &Test<'_>, name: &[u8]) -> bool {
     test.services.iter().any(|line| line.service.name == name)
 }
 
-// Whether a site of the table halts at its first call with these arguments; false where it has no such site.
+// Whether a site of the table halts at its first call with these arguments, without a delay; false where it has no such site.
 fn halts(answers: &Answers, name: &[u8], args: &Args) -> bool {
     match answers.site_named(name) {
         Some(site) => matches!(answers.find(site, args, 1), Found::After(Answer::Halt, 0)),
@@ -40,7 +40,8 @@ fn halts(answers: &Answers, name: &[u8], args: &Args) -> bool {
     }
 }
 
-// Adds a line that answers all calls of a site with so many arguments, `A(_, _) = 0`. It begins with an LF, which the last line before it may lack.
+// Adds a line that answers all calls of a site with so many arguments, `A(_, _) = 0`; any answer but a halt would do. It begins with an LF, which the
+// last line before it may lack. The error is refused memory.
 fn write_catch_all(text: &mut Vec<u8>, name: &[u8], arguments: usize) -> Result<(), AllocError> {
     text.extend_from_slice(b"\n")?;
     text.extend_from_slice(name)?;
@@ -75,13 +76,15 @@ fn sites_behind(alloc: Global, test: &Test<'_>, script: &[u8]) -> Result<Answers
     }
 }
 
-/// The calls of a case that no line answers, each named once.
+/// The calls of one case that no line answers, each named once.
 #[derive(Drop)]
 struct Calls<'t, 'a> {
     test: &'t Test<'a>,
     /// The sites of `sites_behind`.
     behind: &'t Answers,
+    /// The place of the case, from 0.
     case: usize,
+    /// The calls that are named, as they are written.
     texts: Vec<String>,
     // Whether there are more of them than are named.
     has_more: bool,
@@ -103,7 +106,7 @@ impl Calls<'_, '_> {
             && !halts(self.behind, name, args)
     }
 
-    // Names a call, unless it was named before. From the fifth on only that there are more. The error is refused memory.
+    // Names a call, unless it was named before. Once `SHOWN` are named, it only notes that there are more. The error is refused memory.
     fn add(&mut self, alloc: Global, name: &[u8], args: &[Value]) -> Result<(), AllocError> {
         let mut page = Page::new(alloc);
         page.say_word("`", name, "");
@@ -121,8 +124,7 @@ impl Calls<'_, '_> {
         Ok(())
     }
 
-    // Notes the calls that no line answers in the run of a way in the first order. All of these runs were made before, so the error is refused
-    // memory.
+    // Notes the calls that no line answers in the run of a way in order 0. The trials made this run before, so the error is refused memory.
     fn note(
         &mut self,
         alloc: Global,
@@ -136,6 +138,7 @@ impl Calls<'_, '_> {
             return Err(AllocError);
         };
         let answers = loaded.into_answers();
+        // None doesn't come: `try_again` keeps the journal.
         let Some(journal) = run.played.journal.as_ref() else {
             return Ok(());
         };
@@ -150,7 +153,7 @@ impl Calls<'_, '_> {
         Ok(())
     }
 
-    // A line for each, and one if there are more; a head before the first line of the page.
+    // Writes a line for each, and one if there are more; a head before the first line of the page.
     fn say(&self, page: &mut Page) {
         let name = match self.test.cases.get(self.case) {
             Some(case) => case.name,
@@ -192,6 +195,7 @@ pub fn calls_never_answered(
             has_more: false,
         };
         for script in &scripts.scripts {
+            // Once there are more than are named, other ways add nothing.
             if !calls.has_more {
                 calls.note(alloc, trials, script.as_slice())?;
             }

@@ -17,8 +17,8 @@ use std::alloc::Global;
 use std::sync::Wait;
 use std::thread::Threads;
 
-// A gate that holds no call back, but doesn't say so: with an open gate `run_pool` would make the run in its fixed order. And since a call may be
-// held, as far as the workers know, each new token finds a worker soon, so that tokens race even in a short run.
+// A gate that holds no call back, but doesn't say so (`is_open`): with an open gate `run_pool` would make the run in its fixed order. And since a
+// call may be held, as far as the workers know, each new token finds a worker soon, so that tokens race even in a short run.
 #[derive(Clone, Copy)]
 struct Unheld;
 

@@ -24,7 +24,7 @@ pub(crate) struct Sighting<'o> {
     pub(crate) seen: &'o Seen,
 }
 
-// Whether the same happened.
+// Whether the same happened to the same site, or the same value was published. Times aren't compared.
 fn is_alike(one: &Occurrence, other: &Occurrence) -> bool {
     match (one, other) {
         (Occurrence::Call(site, args, phase), Occurrence::Call(called, values, became)) => {
@@ -38,8 +38,8 @@ fn is_alike(one: &Occurrence, other: &Occurrence) -> bool {
 }
 
 impl Sighting<'_> {
-    // After this occurrence. One that the claim doesn't name changes nothing; one that it names has to be the next, at its time, or the run is
-    // another one.
+    // How many occurrences are met after this one, `seen` of them before. One that the claim doesn't name changes nothing; one that it names has to
+    // be the next, at its time. None: the run isn't the one that is looked for.
     fn after_what(&self, seen: usize, time: u64, what: &Occurrence) -> Option<usize> {
         if !self.watch.names(what) {
             return Some(seen);
@@ -52,7 +52,8 @@ impl Sighting<'_> {
         }
     }
 
-    // After something became of a call of a site, which has its number in the table here. A site that no claim names gets a number that no claim has.
+    // As `after_what`, once something became of a call of a site. `site` is the site's number in the program's table; a site that no claim names gets
+    // a number behind those of the claims.
     fn after_call(
         &self,
         seen: usize,
@@ -100,8 +101,8 @@ impl Wanted for Sighting<'_> {
     }
 }
 
-/// A run of which a claim sees just that, looked for through so many places at most. None where none is found within the limit of entries. The error
-/// is refused memory.
+/// A run of which a claim sees what `sighting` says, looked for through so many places at most. None where none is found within the limit of entries.
+/// The error is refused memory.
 pub(crate) fn witness(
     alloc: Global,
     loaded: &Loaded,
@@ -121,6 +122,7 @@ pub(crate) fn witness(
     ) {
         Ok(found) => Ok(found),
         Err(PlayFault::Memory) => Err(AllocError),
+        // Not expected: the rules refuse the run that was found.
         Err(PlayFault::Broken) => Ok(None),
     }
 }
