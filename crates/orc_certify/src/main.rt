@@ -103,5 +103,6 @@ fn main(rt: HostRuntime) -> ExitCode {
     let Some(asked) = read_words(words.as_slice()) else {
         return ExitCode::from(WRONG_WORDS);
     };
+    // An error is a file that couldn't be read.
     ExitCode::from(answer(&rt, &asked).unwrap_or(UNCERTIFIED))
 }

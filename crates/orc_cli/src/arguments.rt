@@ -1,7 +1,7 @@
 //! The arguments that each command takes, and what the help says of them: a table, from which `commands.rt` makes what `clap` reads.
 //!
-//! Numbers of a range are `i64`, as `clap` has them. The limits of this file are those of the command line alone; docs/orc.md, *Limits*, has them
-//! too.
+//! Numbers of a range are `i64`, as `clap` has them. A limit of the command line alone is defined here, with its option; all others are in
+//! `orc_rules::limits`.
 
 use orc_rules::limits::{DEFAULT_ENTRIES, DEFAULT_WORKERS, MOST_ENTRIES, MOST_WORKERS};
 
@@ -11,7 +11,7 @@ const MOST_ORDERS: i64 = 1_000_000;
 /// The orders of `outcomes` where no number is asked for.
 const DEFAULT_ORDERS: u64 = 100;
 
-/// The most states of a search of `outcomes --all`, or of one search of `test`.
+/// The most states of a search of `outcomes --all`, or of one search of `test`; also the greatest number that `--show` takes.
 const MOST_STATES: i64 = 10_000_000;
 
 /// The states of such a search where no number is asked for.

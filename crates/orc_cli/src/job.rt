@@ -208,6 +208,7 @@ pub struct SurveyOptions {
 /// How all schedules of a program are searched too: the options of `outcomes --all`.
 #[derive(Clone, Copy, Debug, PartialEq, Eq)]
 pub struct SearchOptions {
+    /// How the program is run in many orders, before the search.
     pub survey: SurveyOptions,
     /// The search looks at so many states at most.
     pub states: u64,
@@ -216,6 +217,7 @@ pub struct SearchOptions {
 /// Which outcome is shown: the options of `outcomes --show`.
 #[derive(Clone, Copy, Debug, PartialEq, Eq)]
 pub struct ShowOptions {
+    /// How the program is run in many orders, whose outcomes come first.
     pub survey: SurveyOptions,
     /// At so many states a search of all schedules looks at most; None for no search.
     pub states: Option<u64>,
@@ -267,7 +269,9 @@ pub struct Options {
 /// How a run is made and drawn: the options of `draw` without a journal.
 #[derive(Clone, Copy, Debug)]
 pub struct DrawRunOptions {
+    /// How the run is made.
     pub run: Options,
+    /// How its journal is drawn.
     pub drawing: orc_draw::Options,
 }
 

@@ -43,7 +43,7 @@ fn order_of(given: &ArgMatches) -> Order {
     }
 }
 
-// How a program is run. A numbered order is one worker's, so `clap` refuses a number of workers beside it; the default isn't asked then.
+// How a program is run. A numbered order is one worker's, so `clap` refuses a number of workers beside it, and the default number isn't read.
 fn options_of(given: &ArgMatches) -> Option<Options> {
     let order = if is_given(given, "unordered") {
         Order::Unordered

@@ -29,7 +29,7 @@ const LINES: u64 = 8;
 /// How many calls are shown in one line at most; the others are only counted.
 const IN_A_LINE: u64 = 4;
 
-// How many calls are pending.
+// How many of these calls are pending.
 fn count_out(calls: &[Made]) -> u64 {
     let mut count: u64 = 0;
     for call in calls {
@@ -133,15 +133,15 @@ impl Scene<'_, '_> {
         page.say("\n");
     }
 
-    // What could give a cell its value. `inside` says of each step whether it is in the right side of the cell's pruning: the pending calls there,
-    // or, if there are none, a token there that waits itself.
+    // What could give a cell its value: the pending calls in the right side of the cell's pruning, or, if there are none, a token there that waits
+    // itself. `inside` says of each step whether it is in that side.
     fn giver(&self, page: &mut Page, moves: &Moves, inside: &[bool]) {
         if !self.calls_inside(page, inside) {
             self.waiting_inside(page, moves, inside);
         }
     }
 
-    // The first pending calls inside these steps, and how many there are more; answers whether there are any.
+    // The first pending calls in the steps that `inside` flags, and how many there are more; answers whether there are any.
     fn calls_inside(&self, page: &mut Page, inside: &[bool]) -> bool {
         let mut all: u64 = 0;
         let mut number: u64 = 0;
@@ -158,7 +158,7 @@ impl Scene<'_, '_> {
         all > 0
     }
 
-    // The first token that waits inside these steps, by its mark, or `nothing` where none does.
+    // The place of the first token, by its mark, that waits in the steps that `inside` flags, or `nothing` where none does.
     fn waiting_inside(&self, page: &mut Page, moves: &Moves, inside: &[bool]) {
         for token in &moves.waiting {
             let step = self.replay.token(*token).step;
@@ -178,7 +178,7 @@ impl Scene<'_, '_> {
         page.help("a time limit is `x <x< (f | Rwait(10) >> 0)`");
     }
 
-    // The line with the first entries that could come next. None can where the limit was reached by the last entry of all.
+    // The line with the first entries that could come next. There is none if the run had just ended when it reached its limit.
     fn next(&self, page: &mut Page, moves: &Moves) {
         if moves.count == 0 {
             page.note("nothing could go on: it has just ended\n");

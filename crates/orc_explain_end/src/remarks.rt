@@ -1,9 +1,9 @@
 //! What looks like a mistake in a run that has halted, though the language allows it: calls that halted, lines of the script that answered no call,
 //! and definitions with the name of a built-in site.
 //!
-//! Each function here with a `page` writes what its comment names at the end of that page. Calls count from 1, in the order in which they were made;
-//! lines of the script count from 1 in its text, and from 0 in the list of `ScriptLines`, where they have a *place*. A spot is a numbered place of
-//! the program's tree.
+//! Each function here with a `page` writes what its comment names at the end of that page. `note` begins a line there, which the function ends;
+//! `rest` writes a last line `and N more`. Calls count from 1, in the order in which they were made; lines of the script count from 1 in its text,
+//! and from 0 in the list of `ScriptLines`, where they have a *place*. A spot is a numbered place of the program's tree.
 
 use crate::replay::{Loss, Made};
 use crate::scene::{Scene, begin, name_of};
@@ -225,7 +225,7 @@ impl Remarks {
         made: Made,
         number: u64,
     ) -> Result<(), AllocError> {
-        // Always a call's entry.
+        // Not reached: a call was made by an entry `call`.
         let Some(Entry::Call(_, _, site, args)) = scene.ended.journal.get(made.entry) else {
             return Ok(());
         };
@@ -355,6 +355,7 @@ impl Scene<'_, '_> {
         if let Some(Entry::Call(_, _, site, args)) = self.ended.journal.get(entry) {
             let name = name_of(self.ended.answers, site);
             page.say_word("`", name, "` takes ");
+            // `wanted` gives a text: the call was put into this group since it does.
             page.say(wanted(name, args.as_slice()).unwrap_or("other values"));
         }
     }
@@ -378,6 +379,7 @@ impl Scene<'_, '_> {
                 Some(place) => {
                     page.say_number("line ", lines.number(place), " of the script says halt");
                 }
+                // No line of the script: the site is built in.
                 None => page.say(why_built_in_halted(name).unwrap_or("its site says halt")),
             }
         }
@@ -413,6 +415,7 @@ impl Scene<'_, '_> {
     fn unused_lines(&self, page: &mut Page, remarks: &Remarks, lines: &ScriptLines) {
         let mut shown: u64 = 0;
         for (place, line) in lines.list.iter().enumerate() {
+            // `used` has a flag for each line, so the default doesn't come.
             if !remarks.used.get(place).copied().unwrap_or(true) && shown < SHOWN {
                 shown = shown.saturating_add(1);
                 page.note("line ");

@@ -1,7 +1,8 @@
 //! A journal that is replayed on a program's sketch: where its tokens, its calls and its cells stand in the source.
 //!
-//! A spot is a numbered place of the program's tree, and a step leads from the running term into one of its sides (`orc_source_map`). Each token and
-//! call has a spot and a step.
+//! A spot is a numbered place of the program's tree, and a step leads from the running term into one of its sides (`orc_source_map`); step 0 is the
+//! whole term. Each token and call has a spot and a step. A look-up of what isn't there, which the journal of a run rules out, gives a default, often
+//! 0.
 
 use crate::ended::Ended;
 use orc_checker::Marked;
@@ -40,6 +41,7 @@ pub(crate) struct Loss {
 /// A cell, whose pruning stands at a spot.
 #[derive(Clone, Copy)]
 pub(crate) struct Cell<'a> {
+    /// What the cell's value is for.
     pub purpose: Purpose<'a>,
     pub spot: usize,
 }
@@ -156,7 +158,7 @@ impl<'a> Replay<'a> {
         Ok(())
     }
 
-    // A call, from 1, is pending no longer.
+    // A call, from 1, is pending no longer. `has_halted` says that it has returned with halt.
     fn end_call(&mut self, call: u64, has_halted: bool) {
         if let Some(made) = self.calls.get_mut((call as usize).saturating_sub(1)) {
             made.is_out = false;
@@ -166,6 +168,7 @@ impl<'a> Replay<'a> {
 
     // Counts a token that ends, since a value that it needs was lost, among those of its spot.
     fn add_loss(&mut self, program: &Program, token: u64) -> Result<(), AllocError> {
+        // A token that bears a call's answer needs no value, so this one is at a spot.
         let spot = self.token(token).spot.unwrap_or(0);
         let place = self.loss_places.get(&spot).copied();
         match place {

@@ -52,6 +52,7 @@ impl Refused<'_> {
     /// Shows the entry, and says why it is refused.
     pub(crate) fn say(&self, page: &mut Page, alloc: Global, why: RuleFault) {
         let cancel = cancel_in(self.allowed);
+        // It is shown only where a cancel is due, so 0 isn't.
         let cancelled = Fill::Number(cancel.unwrap_or(0));
         let Some(entry) = self.entry else {
             // Without an entry: the journal ends where a cancel is due.
@@ -98,6 +99,7 @@ impl Refused<'_> {
 
     // The token can't make this entry: says which entry it can make, or that it waits.
     fn say_form(&self, page: &mut Page, alloc: Global, entry: &Entry) {
+        // An entry that names no token gets mark 0, which no token has.
         let mark = mark_named(entry).unwrap_or(0);
         match entry_of(&self.replay.marked, self.program, mark) {
             Some(other) if other.kind().word() == entry.kind().word() => {

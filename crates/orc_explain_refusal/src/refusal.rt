@@ -100,7 +100,7 @@ impl<'s> Case<'s> {
         );
         page.margin();
         page.say("\n");
-        // The entry before it, whole from its first column on, if there is one.
+        // The entry before it, if there is one, from its first column on.
         if let Some(before) = place.checked_sub(1) {
             let line = line_of(alloc, &self.answers, self.journal.get(before).as_ref())?;
             page.row(line_number(before), line.as_slice(), 0, 0);

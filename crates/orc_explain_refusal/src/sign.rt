@@ -10,14 +10,18 @@ pub(crate) enum Sign {
     Opened(u64),
 }
 
-/// How tightly a sign binds (`own`; a greater number binds more tightly), and how tightly its left and its right part have to bind to need no
-/// brackets; and the variable that it binds in either part, None where it binds none.
+/// How tightly a sign binds; a greater number binds more tightly.
 #[derive(Clone, Copy)]
 pub(crate) struct Levels {
+    /// The sign's own level.
     pub own: usize,
+    /// The least level at which its left part needs no brackets.
     pub left: usize,
+    /// The least level at which its right part needs no brackets.
     pub right: usize,
+    /// The number of the variable that the sign binds in its left part. None if it binds none there.
     pub bound_left: Option<u32>,
+    /// The number of the variable that it binds in its right part. None if it binds none there.
     pub bound_right: Option<u32>,
 }
 

@@ -21,15 +21,15 @@ const LONGEST_PART: usize = 28;
 /// which is 76 (`Window`).
 pub(crate) const AHEAD: usize = 300;
 
-/// A mark's number, and the column below which it is written.
+/// A mark's number, and the column, from 0, of the term below which it is written.
 #[derive(Clone, Copy)]
 pub(crate) struct Note {
     pub column: usize,
     pub mark: u64,
 }
 
-/// A part that is being written, and that becomes `..` if it is long: its first column, how many nodes of the program were visited in it, and whether
-/// it is in a part that is long already.
+/// A part that is being written, and that becomes `..` if it is long: its first column, from 0, how many nodes of the program were visited in it
+/// (`seen`), and whether it is in a part that is long already.
 #[derive(Clone, Copy)]
 struct Part {
     start: usize,
@@ -37,7 +37,7 @@ struct Part {
     is_long: bool,
 }
 
-/// Where what is named stands in the line, in columns.
+/// Where what is named stands in the line: from column `start`, from 0, on and before column `end`.
 #[derive(Clone, Copy)]
 pub(crate) struct Stretch {
     pub start: usize,
@@ -50,7 +50,9 @@ pub(crate) struct Strip<'r, 's> {
     pub replay: &'r Replay,
     pub journal: &'r Journal,
     pub names: &'r Names<'r, 's>,
+    /// The way from what the refused entry names up to the whole.
     pub way: &'r Way,
+    /// Which parts are written as `stop`, or left out beside a `|`.
     pub spent: &'r Spent,
     /// The term, as far as it is written.
     pub page: Page,
@@ -198,6 +200,7 @@ impl<'r, 's> Strip<'r, 's> {
 
     // Ends the innermost part. If it has become long (`is_long`), it is taken back, with the notes in it, and `..` is written.
     fn close(&mut self, is_long: bool) {
+        // Each `Close` has its `Open`, so a part is there.
         let Some(part) = self.parts.pop() else {
             return;
         };

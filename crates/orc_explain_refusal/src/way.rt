@@ -68,6 +68,7 @@ impl Way {
         let (label, place) = match (why, entry) {
             (RuleFault::Halted, Some(entry)) => (None, side_of(marked, entry)),
             _ if label.is_some() => (label, place_of(marked, named)),
+            // A cell, an otherwise or nothing is named: no part is pointed at.
             _ => (None, None),
         };
         let mut way = Way {

@@ -3,8 +3,9 @@
 //! A run in an order shows a failure (`Trial`), or only the search through all schedules found it (`Schedule`). What is shown is made again from the
 //! failure's script and order: the runs of the trials aren't kept.
 //!
-//! In the functions here `lines` are the unusual lines of a failure's way (`unusual_lines`), `ranges` those with the numbers of a range with which
-//! the claim fails (`ranges_of`), `number` is the failure's, from 1, and `claim` the claim's place among the test's, from 0.
+//! In the functions here `cases` has the scripts of each case's tried ways, and `ways` all ways of each case. `script` is that of the failure's way,
+//! `lines` are the unusual lines of that way (`unusual_lines`), and `ranges` those with the numbers of a range with which the claim fails
+//! (`ranges_of`). `number` is the failure's, from 1, and `claim` the claim's place among the test's, from 0.
 
 ghost use Rattle.std.specs.Prelude.{◌≡◌, [], IfErr, IfOk, false};
 ghost use Rattle.orc_orders.specs.Trials.{IsMadeAgain, texts};
@@ -106,6 +107,7 @@ impl<R: Threads + Sync> Tester<'_, '_, R> {
         if !self.explains {
             return Ok(text);
         }
+        // Each of these lines is written behind `fails with`.
         if write_each(b"         fails with ", ranges, &mut text).is_err() {
             return Err(NO_TEXT);
         }

@@ -152,6 +152,7 @@ pub fn run_text<R: Threads + Wait + Sync, W: Write>(
     ensures range { IfErr result (λ f. f ≡ RunFault.Engine EngineFault.Range → IsInRange options.now.workers options.now.limit → ⊥) }
     ensures sound { IfErr result (λ f. IsOwnOf f → ⊥) }
 {
+    // `false`: nobody asks for the journal besides the options.
     match run_source(rt, alloc, source, script, options, false, out) {
         Ok((_loaded, played)) => Ok(played.summary),
         Err(fault) => Err(fault),

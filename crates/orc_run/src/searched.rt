@@ -26,7 +26,9 @@ const SEARCHES: u64 = 20;
 
 /// A way whose program is loaded: the source with the way's script.
 pub(crate) struct Way<'w> {
+    /// The way's script.
     pub(crate) script: &'w [u8],
+    /// The program, and the table that the script makes.
     pub(crate) loaded: Loaded,
     /// The sites that claims name, by their numbers in the program's table.
     pub(crate) sites: Vec<ClaimSite>,
@@ -132,12 +134,14 @@ fn cost_of(found: &ClaimSearched, most: usize) -> u64 {
 #[derive(Drop)]
 pub(crate) struct Searcher<'s, 'a> {
     pub(crate) alloc: Global,
+    /// The program, the claims, and the limit of each run.
     pub(crate) trials: &'s Trials<'s, 'a>,
     pub(crate) test: &'s Test<'a>,
+    /// The scripts of the tried ways of each case.
     pub(crate) cases: &'s [CaseScripts],
     /// One for each case, in their order.
     pub(crate) reports: &'s [CaseReport],
-    /// One search looks at so many states at most; 0 for no search.
+    /// How many states one search looks at, at most; 0 for no search.
     pub(crate) most: u64,
 }
 

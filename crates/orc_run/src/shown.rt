@@ -84,6 +84,7 @@ fn has(played: &Played, outcome: Outcome<'_>) -> bool
 fn unseen_at<'f>(seen: &[Seen], found: &'f [Ended], place: usize) -> Option<&'f Ended>
     ensures { IfSome result (λ e. IsUnseen seen.now e.now) }
 {
+    // How many of these outcomes still come before the one that is looked for.
     let mut left = place;
     for ended in found {
         if place_of(seen, ended.end, ended.values.as_slice()).is_none() {
@@ -166,8 +167,8 @@ fn run_in_order(alloc: Global, loaded: &Loaded, order: u64, limit: u64) -> Resul
     .map_err(RunFault::Engine)
 }
 
-// Writes the journal of a run that has an outcome to which no order came. Such outcomes have the numbers that follow those of the orders' outcomes,
-// in the order in which a search through so many states finds them.
+// Writes the journal of a run that has an outcome to which no order came. `seen` has the outcomes of the orders. Those that only the search finds
+// have the numbers that follow, in the order in which a search through so many states finds them.
 #[tactic(auto, using(crate::proofs::Showing::unwritten_unshown))]
 fn show_unseen<W: Write>(
     alloc: Global,

@@ -1,6 +1,9 @@
 //! From a test's text to the table of its claims, or to the script or the journal that shows one failure.
 //!
 //! A trial is a run in one way and one order. All trials come first; then all schedules are searched for the claims that failed in none of them.
+//!
+//! In the functions here `cases` has the scripts of each case's tried ways, and `ways` all ways of each case. A claim is its place among the test's,
+//! from 0.
 
 ghost use Rattle.std.specs.Prelude.{◌≡◌, List, ℕ, Some, IfOk, IfErr, OnOk, length};
 ghost use Rattle.std.specs.List.{AllZip};
@@ -289,8 +292,8 @@ impl<R: Threads + Sync> Tester<'_, '_, R> {
         Ok(())
     }
 
-    // Writes the journal of a run that breaks a claim, where a search says that a schedule does and no order showed it. The failure's number is for
-    // the fault that no such run is found.
+    // Writes the journal of a run that breaks a claim, where a search says that a schedule does and no order showed it. `script` is that of the
+    // failure's way. The failure's number is for the fault that no such run is found.
     fn write_found<W: Write>(
         &self,
         script: &[u8],
@@ -389,7 +392,8 @@ impl<R: Threads + Sync> Tester<'_, '_, R> {
     }
 }
 
-// What looks like a mistake in a test: services that no run asked, and calls that no line answers. The error is refused memory.
+// What looks like a mistake in a test: services that no run asked, and calls that no line answers. `script` is the script beside the test. The error
+// is refused memory.
 fn remarks<'t, 'a, R: Threads + Sync>(
     rt: &R,
     alloc: Global,
@@ -408,6 +412,7 @@ fn remarks<'t, 'a, R: Threads + Sync>(
 }
 
 // Explains what looks like a mistake, where the table is wanted and explanations are asked for; else it does nothing. It makes the test's runs again.
+// `script` is the script beside the test.
 fn tell_remarks<'t, 'a, R: Threads + Sync>(
     rt: &R,
     alloc: Global,

@@ -144,6 +144,7 @@ impl Calls<'_, '_> {
         };
         for at in 0..journal.len() {
             if let Some(Entry::Call(_, _, site, args)) = journal.get(at) {
+                // Each call's site is in the table.
                 let name = answers.name(site).unwrap_or(b"");
                 if self.is_unanswered(&answers, name, &args) {
                     self.add(alloc, name, args.as_slice())?;

@@ -58,6 +58,7 @@ pub(crate) fn run_unordered<R: Threads + Wait + Sync>(
     match run_pool(rt, alloc, program, answers, &sites, &Unheld, options) {
         Ok(played) => Ok(played),
         Err(EngineFault::Broken | EngineFault::Site(_)) => {
+            // None: in the scheduler's own order.
             run_alone(alloc, program, answers, None, keeps, limit)
         }
         Err(fault) => Err(fault),
