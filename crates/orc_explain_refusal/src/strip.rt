@@ -17,8 +17,8 @@ use std::alloc::Global;
 /// A part off the way to what is named becomes `..` if it takes more columns than this, so that what is named stays in sight.
 const LONGEST_PART: usize = 28;
 
-/// How many columns are written behind the beginning of what is named, or from the beginning of the term where nothing is: more than are ever shown,
-/// which is 76 (`Window`).
+/// How many columns are written behind the beginning of what is named, or from the beginning of the term where nothing is: more than the 76 that are
+/// ever shown (`Window`).
 pub(crate) const AHEAD: usize = 300;
 
 /// A mark's number, and the column, from 0, of the term below which it is written.

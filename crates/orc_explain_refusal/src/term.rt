@@ -188,7 +188,7 @@ impl<'r, 's> Strip<'r, 's> {
                 call @ (TermNode::Site(_, list) | TermNode::Call(_, list)) => {
                     let operands = self.program.operands(list);
                     for (place, value) in given.iter().enumerate() {
-                        // The argument's place by its variable: an expression stands where its variable does.
+                        // The place of the argument whose variable stands here: where an expression was given it has to be this place.
                         let own = match operands.get(place) {
                             Some(Operand::Name(name)) => self.names.argument(*name),
                             _ => None,
@@ -234,6 +234,7 @@ impl<'r, 's> Strip<'r, 's> {
             Operand::Name(name) if self.bound.contains(&name) => {
                 self.names.say_variable(&mut self.page, name);
             }
+            // A literal, or a name that the scope says.
             _ => match self.replay.marked.param(operand, scope) {
                 Param::Is(value) => self.page.value(value),
                 Param::Cell(cell) => self.names.say_cell(&mut self.page, cell),

@@ -96,6 +96,7 @@ impl Way {
                 return Ok(());
             };
             let parent = slot.node().parent as usize;
+            // Each parent is a node, so neither `else` is reached.
             let Some(above) = marked.nodes().get(parent) else {
                 return Ok(());
             };

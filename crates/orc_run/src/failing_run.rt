@@ -64,7 +64,7 @@ fn fails_in(
 }
 
 // Writes the journal of a run of the way of this script, if the claim at this place, from 0, fails in it: whether it does. Nothing is written where
-// it doesn't. The fault is refused memory, or one of the output.
+// it doesn't. `script` is the way's, and only the contract names it. The fault is refused memory, or one of the output.
 fn write_failing<W: Write>(
     alloc: Global,
     trials: &Trials<'_, '_>,
