@@ -1,8 +1,8 @@
 //! A journal that is replayed on a program's sketch: where its tokens, its calls and its cells stand in the source.
 //!
-//! A spot is a numbered place of the program's tree, and a step leads from the running term into one of its sides (`orc_source_map`); step 0 is the
-//! whole term. Each token and call has a spot and a step. A look-up of what isn't there, which the journal of a run rules out, gives a default, often
-//! 0.
+//! A spot is a numbered place of the program's tree, and a program's *sketch* has its spots. A step leads from the running term into one of its
+//! sides; step 0 is the whole term. A *trail* says at which spot and in which step each token stands. All of these are of `orc_source_map`. A look-up
+//! of what isn't there, which the journal of a run rules out, gives a default, often 0.
 
 use crate::ended::Ended;
 use orc_checker::Marked;

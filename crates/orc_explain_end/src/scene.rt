@@ -1,7 +1,7 @@
 //! A run that is explained, and how its calls, entries and terms are written.
 //!
 //! Each function here with a `page` writes what its comment names at the end of that page; `note` begins a line there. A spot is a numbered place of
-//! the program's tree (`orc_source_map`). Cells and marks count from 1.
+//! the program's tree, and a program's *sketch* has its spots (`orc_source_map`). Cells and marks count from 1.
 
 use crate::ended::Ended;
 use crate::replay::Replay;

@@ -141,7 +141,7 @@ pub(crate) fn write_in_order<W: Write>(
 }
 
 // A run of at most `limit` entries that breaks a claim: the search through the way's schedules, through `most` states at most, says what the claim
-// sees of such a run, and then a run is looked for of which it sees just that. None where none is found. The error is refused memory.
+// sees of such a run, and then a run is looked for of which it sees just that. None where either finds none. The error is refused memory.
 fn witness_in(
     alloc: Global,
     way: &Way<'_>,
@@ -163,7 +163,7 @@ fn witness_in(
         sites: way.sites.as_slice(),
         seen: &seen,
     };
-    // `witness` looks at places of the numbered term, of which there are more than states.
+    // `witness` looks at positions, of which there are more than states.
     let places = most.saturating_mul(PLACES_A_STATE);
     witness(alloc, &way.loaded, &sighting, places, limit)
 }

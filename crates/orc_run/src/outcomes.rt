@@ -1,4 +1,7 @@
 //! From a source text to what came of its program in many orders, and to what may come of it in all schedules.
+//!
+//! A *state* of a search through all schedules is a term without numbers, with the calls that were made and what was published so far
+//! (`orc_schedules`).
 
 ghost use Rattle.std.specs.Prelude.{◌≡◌, ◌++◌, List, IfOk, IfErr, OnOk};
 ghost use Rattle.orc_engine.specs.Ranges.{IsInRange};

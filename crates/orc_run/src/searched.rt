@@ -2,6 +2,10 @@
 //!
 //! It begins with the claims that failed in no run (`Searched::Whole`), and goes through the ways of the cases one after another. A claim stays whole
 //! as long as no schedule of a way breaks it (`Breaks`) and no search has to give up (`No`).
+//!
+//! A *state* of a search is a term without numbers, with the calls that were made and what was seen so far (`orc_schedules`). `most` is how many
+//! states a search looks at, at most, and `left` how many are left to all searches. A claim's *section* is the place of its case, from 0, or None
+//! below `always`. A *place* of type `Broken` is a way in its case.
 
 ghost use Rattle.std.specs.Prelude.{◌≡◌, ◌⊎◌, IfOk, IfSome, OnOk, Some, false, suc, true};
 ghost use Rattle.std.specs.List.{slice_get};

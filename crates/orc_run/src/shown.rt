@@ -24,8 +24,8 @@ use std::alloc::Global;
 use std::io::Write;
 use std::thread::Threads;
 
-/// How many places a search for a run may look at for each state that a search through all schedules may: places tell apart more than states do, so
-/// there are more of them. How many more isn't known; the number bounds the search.
+/// How many positions a search for one run (`orc_reference`) may look at for each state that a search through all schedules (`orc_schedules`) may.
+/// Positions tell apart more than states do, so there are more of them. How many more isn't known; the number bounds the search.
 pub(crate) const PLACES_A_STATE: usize = 16;
 
 /// Memory for a search was refused: status 5.
@@ -97,8 +97,8 @@ fn unseen_at<'f>(seen: &[Seen], found: &'f [Ended], place: usize) -> Option<&'f 
     None
 }
 
-// A run that has an outcome, looked for through so many places at most; None if none is found. No limit of entries holds: an outcome of the search
-// may need more of them than the command's limit. The error is refused memory.
+// A run that has an outcome, looked for through so many positions at most (`places`); None if none is found. No limit of entries holds: an outcome of
+// the search may need more of them than the command's limit. The error is refused memory.
 fn found_run(
     alloc: Global,
     loaded: &Loaded,

@@ -101,8 +101,8 @@ impl Wanted for Sighting<'_> {
     }
 }
 
-/// A run of which a claim sees what `sighting` says, looked for through so many places at most. None where none is found within the limit of entries.
-/// The error is refused memory.
+/// A run of which a claim sees what `sighting` says, looked for through so many positions at most (`places`). None where none is found within the
+/// limit of entries. The error is refused memory.
 pub(crate) fn witness(
     alloc: Global,
     loaded: &Loaded,
