@@ -8,7 +8,8 @@ use orc_rules::entry::Entry;
 use orc_source_map::Purpose;
 use std::alloc::{AllocError, Global};
 
-/// How many columns are shown of an otherwise's left side that is longer than `LONGEST`.
+/// How many columns are shown of an otherwise's left side that is longer than `LONGEST`. With `..` and ` ; ..` behind them the label has 25 columns,
+/// of the 30 that a picture as text has for labels at most.
 const SHOWN: usize = 18;
 
 /// The longest left side that is shown whole, in columns.
@@ -26,9 +27,10 @@ impl Texts<'_, '_> {
     pub(crate) fn label(&self, kind: Kind) -> Result<String, AllocError> {
         let mut page = Page::new(self.alloc);
         match kind {
-            // The site and its arguments, as the journal has them.
+            // The site and its arguments, as the journal has them: `at` is the place of a `call`.
             Kind::Call(called) => {
                 if let Some(Entry::Call(_, _, site, args)) = self.subject.journal.get(called.at) {
+                    // The journal was checked, so its sites have names.
                     let name = self.subject.answers.name(site).unwrap_or(b"?");
                     page.tell("%%", &[Fill::Word(name), Fill::Values(args.as_slice())]);
                 }
@@ -49,7 +51,8 @@ impl Texts<'_, '_> {
         page.finish()
     }
 
-    // Writes the source of an otherwise's left side, with one blank for each run of blanks and line ends. If it is long, its end becomes `..`.
+    // Writes the source of an otherwise's left side, with one blank for each run of blanks and line ends, and comments as they stand. If it is over
+    // `LONGEST` columns long, its end becomes `..`.
     fn left_side(&self, page: &mut Page, place: Span) {
         let mut line = Page::new(self.alloc);
         let text = self
@@ -57,8 +60,10 @@ impl Texts<'_, '_> {
             .source
             .get(place.start..place.end)
             .unwrap_or(b"");
+        // Whether blanks stand between the last byte that was written and the next one.
         let mut is_apart = false;
         for byte in text {
+            // What is too long already is cut below.
             if line.len() > LONGEST {
                 break;
             }

@@ -9,7 +9,7 @@ use crate::text::say_small;
 use orc_report::Page;
 use std::alloc::Global;
 
-/// Where the next sign is written: across in parts, down in pixels, and how wide the sheet is.
+/// Where the next sign is written: across in parts, down in pixels, and how wide the sheet is, in parts.
 #[derive(Clone, Copy)]
 pub(crate) struct Legend {
     across: u64,
@@ -38,7 +38,8 @@ enum Sign {
     Resumed,
 }
 
-/// The signs that are explained only where they occur, with the SVG of each, and what they mean.
+/// The signs that are explained only where they occur, in this order, with the SVG of each, and what they mean. The SVG has pixels, from the middle
+/// of the sign's left edge on.
 const SIGNS: [(Sign, &str, &str); 8] = [
     (
         Sign::Answered,
@@ -109,7 +110,7 @@ fn occurs(picture: &Picture, sign: Sign) -> bool {
 }
 
 impl Legend {
-    /// A legend whose first line of letters is this far down, on a sheet of this width.
+    /// A legend whose first line of letters is this far down, in pixels, on a sheet of this width, in parts.
     pub(crate) fn new(down: u64, width: u64) -> Legend {
         Legend {
             across: 12 * PARTS,
@@ -118,13 +119,13 @@ impl Legend {
         }
     }
 
-    /// The lower edge of the sheet below the legend, in pixels.
+    /// The lower edge of the sheet, in pixels: 14 below the legend's last line.
     pub(crate) fn bottom(&self) -> u64 {
         self.down.saturating_add(14)
     }
 
-    // Adds a sign by its SVG, which may be empty, and what it means, in a new line where the sheet has no room for it in this one. A letter is taken
-    // to be 6.65 pixels wide.
+    // Adds a sign by its SVG (`template`), which may be empty, and what it means (`text`), in a new line where the sheet has no room for it in this
+    // one. A letter is taken to be 6.65 pixels wide. The left margin is 12 pixels, the right one 8, and a line is 18 high.
     fn add(&mut self, page: &mut Page, template: &str, text: &str) {
         // 48 pixels are for the sign and the gap behind the text.
         let room = (text.len() as u64)
@@ -134,6 +135,7 @@ impl Legend {
             self.across = 12 * PARTS;
             self.down = self.down.saturating_add(18);
         }
+        // The middle of a sign is 4 pixels above the letters' base line. A sign takes 28 pixels, with the gap behind it.
         let middle = self.down.saturating_mul(PARTS).saturating_sub(4 * PARTS);
         let sign = if template.is_empty() { 0 } else { 28 };
         if !template.is_empty() {
@@ -150,7 +152,7 @@ impl Legend {
         self.across = self.across.saturating_add(room);
     }
 
-    /// Writes what the signs of a picture mean, how many calls aren't drawn, and that its times aren't to scale unless `is_true`.
+    /// Writes what the signs of a picture mean, how many calls aren't drawn, and, unless `is_true`, that its times aren't to scale.
     pub(crate) fn write(
         &mut self,
         alloc: Global,
@@ -168,6 +170,7 @@ impl Legend {
             "<circle class=\"pub\" cx=\"11\" r=\"5\"/>",
             "published",
         );
+        // With more instants there are no bands to explain.
         if picture.slots.instants.len() <= MOST_BANDS {
             let sign = "<rect class=\"instant\" y=\"-7\" width=\"22\" height=\"14\"/>";
             self.add(page, sign, "one time, entries in order");

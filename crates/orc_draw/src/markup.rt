@@ -8,8 +8,8 @@ pub(crate) trait Markup {
     /// Writes a text that stands between tags: `<`, `>` and `&` are escaped.
     fn escaped(&mut self, text: &str);
 
-    /// Writes a template in ASCII. Each `%` in it is the next number, a length in parts, as pixels with one decimal; each `@` is the next number as
-    /// it stands. Without a number it is 0.
+    /// Writes a template in ASCII. Each `%` in it is the next of `numbers`, a length in parts, as pixels with one decimal; each `@` is the next one
+    /// as it stands. Behind the last number a sign is 0.
     fn form(&mut self, template: &str, numbers: &[u64]);
 }
 
@@ -26,6 +26,7 @@ impl Markup for Page {
     }
 
     fn form(&mut self, template: &str, numbers: &[u64]) {
+        // The place in `numbers` of the next one.
         let mut next: usize = 0;
         for byte in template.as_bytes() {
             let number = numbers.get(next).copied().unwrap_or(0);

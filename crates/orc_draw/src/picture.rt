@@ -29,7 +29,7 @@ pub enum Theme {
 pub enum Form {
     /// As SVG, in these colours.
     Svg(Theme),
-    /// As rows of text of about so many columns. However few they are, the plot has one of them at least, so that lines may become longer.
+    /// As rows of text of about so many columns. However few they are, the plot has one column at least, so lines may become longer.
     Text(u64),
 }
 
@@ -115,6 +115,7 @@ pub fn draw_rows(alloc: Global, subject: &Subject, width: u64) -> Result<String,
 }
 
 impl<'a> Picture<'a> {
+    // The picture of a subject, with all calls if `all`, as `Options` has it. The faults are those of [`draw`].
     fn new(alloc: Global, subject: &Subject<'a>, all: bool) -> Result<Picture<'a>, DrawFault> {
         let sketch = Sketch::new(alloc, &subject.ast)?;
         let story = Story::new(alloc, &sketch, &subject.answers, &subject.journal, all)?;
@@ -133,7 +134,7 @@ impl<'a> Picture<'a> {
         })
     }
 
-    /// The span of a row.
+    /// The span of a row; never None for a row of this picture.
     pub(crate) fn span(&self, row: &Row) -> Option<Span<'a>> {
         self.story.spans.get(row.span).copied()
     }
@@ -155,7 +156,7 @@ impl<'a> Picture<'a> {
 // How many values the summary shows at most. Of one time all values are shown if they are no more than this, otherwise only how many they are.
 const FEW: u64 = 6;
 
-// The summary: how many entries there are, the state of the run and its time, and the first values that were published.
+// The summary: how many entries there are, the state of the run and its time, and the first values that were published. The error is refused memory.
 fn summary(alloc: Global, subject: &Subject, story: &Story) -> Result<String, AllocError> {
     let mut page = Page::new(alloc);
     page.tell(
@@ -188,15 +189,15 @@ fn summary(alloc: Global, subject: &Subject, story: &Story) -> Result<String, Al
 /// The publications of one time.
 #[derive(Drop)]
 pub(crate) struct Publications {
-    /// When the first of them was.
+    /// The entry of the first of them: the picture shows them all there.
     pub first: Moment,
     pub count: u64,
-    // The first few values, with commas between them.
+    // The first `FEW` values, with commas between them.
     values: Page,
 }
 
 impl Publications {
-    // One publication more.
+    // Adds a publication of the same time.
     fn add(&mut self, value: Value) {
         if self.count < FEW {
             if self.count > 0 {
@@ -229,7 +230,7 @@ impl Publications {
     }
 }
 
-// The publications, those of each time together.
+// The publications, those of each time together, the earliest time first. The error is refused memory.
 fn publications_by_time(alloc: Global, events: &[Event]) -> Result<Vec<Publications>, AllocError> {
     let mut all: Vec<Publications> = Vec::new(alloc);
     for event in events {

@@ -1,4 +1,7 @@
 //! The rows of a picture, from top to bottom: the spans that are shown, each below the one that it stands in.
+//!
+//! The `place` of a span is its number among the story's spans, from 0. A look-up by such a place always finds one: its other branch only spares a
+//! proof.
 
 ghost use Rattle.std.specs.Prelude.{◌≤◌, length, IfOk};
 ghost use Rattle.orc_rules.specs.declared.limits.TheConstants.{MOST_ROWS};
@@ -9,7 +12,7 @@ use crate::story::{End, Kind, Span};
 use orc_rules::limits::MOST_ROWS;
 use std::alloc::{AllocError, Global};
 
-/// A row: the place of its span among the story's, how many rows it stands in, and its label.
+/// A row: the place of its span, how many rows it stands in (`depth`, by which it is indented), and its label.
 #[derive(Drop)]
 pub(crate) struct Row {
     pub span: usize,
@@ -33,7 +36,7 @@ struct Tree {
     first: Option<usize>,
 }
 
-// A span to which the walk over the tree is still to come, and how many rows it stands in.
+// The place of a span to which the walk over the tree is still to come, and how many rows the span stands in.
 #[derive(Clone, Copy)]
 struct Ahead {
     span: usize,
@@ -51,7 +54,7 @@ fn kept_spans(alloc: Global, spans: &[Span]) -> Result<Vec<bool>, AllocError> {
             Kind::Otherwise(_) => false,
         })?;
     }
-    // A span comes behind the one that it stands in, so what is in it was seen before it here.
+    // From the last span to the first: a span comes behind the one that it stands in, so all that is in a span was seen before it.
     for place in (0..spans.len()).rev() {
         if kept.get(place).copied().unwrap_or(false) {
             if let Some(outer) = spans.get(place).and_then(|span| span.outer) {
@@ -64,7 +67,7 @@ fn kept_spans(alloc: Global, spans: &[Span]) -> Result<Vec<bool>, AllocError> {
     Ok(kept)
 }
 
-// Whether a span ended at a later time than it began.
+// Whether a span ended at a later time than it began. False if it hasn't ended.
 fn ends_later(span: &Span) -> bool {
     match span.end {
         Some((_, at)) => at.time != span.began.time,
@@ -72,7 +75,7 @@ fn ends_later(span: &Span) -> bool {
     }
 }
 
-// Whether a span that is worth a row has one: an otherwise only if its right side began.
+// Whether a span that is worth a row has one: an otherwise only if its right side began, and any other span.
 fn is_row(span: &Span) -> bool {
     match (span.kind, span.end) {
         (Kind::Otherwise(_), Some((End::Resumed, _))) => true,
@@ -103,7 +106,8 @@ impl Tree {
         Ok(tree)
     }
 
-    // Puts a span before all others in its outer span, or before all that are in no other. Gives the one that was the first there.
+    // Puts a span before all others in its outer span, or before all that are in no other. Gives the one that was the first there, None if it was
+    // alone.
     fn put_first(&mut self, outer: Option<usize>, span: usize) -> Option<usize> {
         match outer {
             None => self.first.replace(span),
@@ -114,12 +118,12 @@ impl Tree {
         }
     }
 
-    // The first span in this one.
+    // The first span directly in this one. None where there is none.
     fn inner(&self, span: usize) -> Option<usize> {
         self.inner.get(span).copied().flatten()
     }
 
-    // The next span that stands in the same one.
+    // The next span directly in the same one, or in none as this one. None behind the last.
     fn next(&self, span: usize) -> Option<usize> {
         self.next.get(span).copied().flatten()
     }
@@ -148,7 +152,7 @@ impl Rows {
     }
 
     // Adds the rows of the spans that are ahead, of those in them and of those behind them. The next one is on top of `ahead`: what is in a span
-    // comes before what is behind it.
+    // comes before what is behind it. Each span is ahead once, so there are no more turns than spans. The faults are those of `new`.
     fn walk(
         &mut self,
         ahead: &mut Vec<Ahead>,
@@ -168,6 +172,7 @@ impl Rows {
                 ahead.push(Ahead { span: next, depth })?;
             }
             let is_kept = kept.get(span).copied().unwrap_or(false);
+            // A span without a row indents nothing: what is in it has the depth of its place.
             let is_shown = is_kept && self.add(spans, span, depth, texts)?;
             if let Some(inner) = tree.inner(span) {
                 ahead.push(Ahead {
@@ -179,7 +184,7 @@ impl Rows {
         Ok(())
     }
 
-    // Adds the row of a span that is worth one, and says whether it has one.
+    // Adds the row, with this depth, of a span that is worth one, and says whether it has one. The faults are those of `new`.
     fn add(
         &mut self,
         spans: &[Span],
@@ -211,7 +216,7 @@ impl Rows {
         Ok(true)
     }
 
-    /// The place of a span's row, if it has one.
+    /// The number of a span's row, from 0 at the top. None if it has no row.
     pub(crate) fn row_of(&self, span: usize) -> Option<usize> {
         self.of_span.get(span).copied().flatten()
     }

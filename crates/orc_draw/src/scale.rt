@@ -1,6 +1,6 @@
 //! The width of a picture, shared among its times.
 //!
-//! A time is a band as wide as its slots; between two bands is a gap. If the longest time between is at most 25 times the shortest, gaps are in
+//! An instant is a band as wide as its slots; between two bands is a gap. If the longest time between is at most 25 times the shortest, gaps are in
 //! proportion to the time between; otherwise to the number of its binary digits and one more.
 
 ghost use Rattle.std.specs.Prelude.{◌≤◌};
@@ -24,7 +24,7 @@ pub struct Measure {
     pub margin: u64,
 }
 
-/// Where each instant's band begins, how wide a slot is, and where the last band ends, all in parts.
+/// Where each instant's band begins (`begins`), how wide a slot is, and where the last band ends, all in parts from the plot's left edge.
 #[derive(Drop)]
 pub struct Scale {
     pub begins: Vec<u64>,
@@ -44,7 +44,7 @@ fn share(a: u64, b: u64, c: u64) -> u64 {
     }
 }
 
-// The time between each instant and the next one.
+// The time between each instant and the next one: one gap less than instants. The error is refused memory.
 fn gaps_of(alloc: Global, instants: &[Instant]) -> Result<Vec<u64>, AllocError> {
     let mut gaps = Vec::new(alloc);
     let mut before: Option<u64> = None;
@@ -58,7 +58,7 @@ fn gaps_of(alloc: Global, instants: &[Instant]) -> Result<Vec<u64>, AllocError> 
 }
 
 impl Measure {
-    // The width of a slot, where there are so many: all of them take six tenths of the plot at most.
+    // The width of a slot, in parts, where there are `total` of them: all together take six tenths of the plot at most.
     fn slot(&self, total: u64) -> u64
         ensures { result ≤ self.now.slot }
     {
@@ -84,6 +84,7 @@ impl Scale {
             longest = longest.max(*gap);
         }
         let is_true = longest <= shortest.saturating_mul(25);
+        // From here on a gap is its share: the time between, or the number of digits. `whole` is the sum of the shares.
         let mut whole: u64 = 0;
         for gap in gaps.iter_mut() {
             if !is_true {
@@ -111,6 +112,7 @@ impl Scale {
             scale.begins.push(scale.end)?;
             let gap = match gaps.get(i) {
                 Some(gap) => least.max(share(free, *gap, whole)),
+                // No gap follows the last instant.
                 None => 0,
             };
             let band = slot.saturating_mul(instant.width());
@@ -119,7 +121,7 @@ impl Scale {
         Ok(scale)
     }
 
-    /// Where the band of the instant at this place begins, in parts from the left edge of the plot.
+    /// Where the band of the instant at this place, from 0, begins, in parts from the left edge of the plot. 0 where there is no such instant.
     pub fn begin(&self, instant: usize) -> u64 {
         self.begins.get(instant).copied().unwrap_or(0)
     }
@@ -129,7 +131,7 @@ impl Scale {
         self.slot.saturating_mul(slot.place)
     }
 
-    /// Makes the whole as narrow as this width, in parts, if it is wider.
+    /// Makes the whole as narrow as this width, in parts, if it is wider: bands and gaps shrink alike.
     pub fn squeeze(&mut self, width: u64) {
         let whole = self.end;
         if whole > width {

@@ -1,4 +1,6 @@
 //! Where each entry stands from left to right: its time, and its slot among the entries of that time.
+//!
+//! There is an instant for time 0, for each time with an entry that is drawn, and for the last time of the run.
 
 use crate::rows::Rows;
 use crate::slot::{Instant, Slot};
@@ -48,7 +50,8 @@ impl Slots {
         Ok(())
     }
 
-    // Adds the slot of an event to the last instant. A cancel shares the slot of its bind, which is right before it.
+    // Adds the slot of an event to the last instant. A cancel shares the slot of the entry that was drawn before it at its time, mostly of its bind;
+    // it has a new one only where nothing was.
     fn add(&mut self, event: &Event) -> Result<(), AllocError> {
         let is_cancel = matches!(event.shown, Shown::Cancel);
         let instant = self.instants.len().saturating_sub(1);
@@ -79,7 +82,7 @@ impl Slots {
                 return *slot;
             }
         }
-        // The last instant that isn't later.
+        // No entry up to this one is drawn at its time: the instant of the time, or the last one before it if the time has none.
         let later = self
             .instants
             .partition_point(|instant| instant.time <= at.time);
@@ -90,7 +93,7 @@ impl Slots {
         }
     }
 
-    /// How many slots wide all bands are together, at least one for each time.
+    /// How many slots wide all bands are together: an instant without slots counts as one.
     pub(crate) fn total(&self) -> u64 {
         let mut total: u64 = 0;
         for instant in &self.instants {

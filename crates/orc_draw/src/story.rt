@@ -1,7 +1,11 @@
 //! What happened in a run: its calls, prunings and otherwises, from when to when, one inside the other.
 //!
 //! Each of them is a span. The journal is followed on the program's sketch (`orc_source_map`): the step of a token says in which pruning or otherwise
-//! a new span stands. A `bind`, a `lost` or a `right` ends a span and drops all in it.
+//! a new span stands. A `bind`, a `lost` or a `right` ends a span and drops all in it. In entries `s` is the mark of a token or an otherwise, `k` the
+//! number of a call and `c` that of a cell; a `Place` is a part of the source, in bytes.
+//!
+//! The journal was checked, so the tokens, steps and cells that it names are there: the branch for one that isn't only spares a proof. Only a call
+//! that isn't shown has no span.
 
 use crate::fault::DrawFault;
 use orc_calls::{Counts, due_time};
@@ -15,7 +19,7 @@ use orc_source_map::{Purpose, Shape, Sketch, Trail, Way};
 use std::alloc::Global;
 use std::collections::HashMap;
 
-/// An entry of the journal, counted from 1, and the time at it.
+/// An entry of the journal, counted from 1, and the logical time at it, from 0.
 #[derive(Clone, Copy, PartialEq, Eq)]
 pub(crate) struct Moment {
     pub time: u64,
@@ -29,7 +33,7 @@ pub(crate) struct Called {
     pub number: u64,
     /// The place of its entry in the journal, from 0.
     pub at: usize,
-    /// Its due time; None where it is never due.
+    /// The logical time at which it is due; None where it is never due.
     pub due: Option<u64>,
     /// Whether it is a call of Rwait.
     pub is_pause: bool,
@@ -41,7 +45,7 @@ pub(crate) enum Kind<'a> {
     Call(Called),
     /// A pruning, with what its value is for.
     Pruning(Purpose<'a>),
-    /// An otherwise, with the place of its left side in the source.
+    /// An otherwise, with the part of the source that is its left side.
     Otherwise(Place),
 }
 
@@ -54,7 +58,7 @@ pub(crate) enum End {
     Halted,
     /// A call is dropped with the side in which it stands.
     Cancelled,
-    /// A pruning's cell is bound to this value; with the span of the call whose answer the value is, if that call is shown.
+    /// A pruning's cell is bound to this value; with the place, among the story's spans, of the call whose answer the value is, if that is shown.
     Bound(Value, Option<usize>),
     /// A pruning's right side has halted without a value.
     Lost,
@@ -73,7 +77,8 @@ pub(crate) struct Span<'a> {
     pub began: Moment,
     /// None as long as it hasn't ended.
     pub end: Option<(End, Moment)>,
-    /// The place of the innermost span that it stands in: of a pruning, in its right side, or of an otherwise. None where it stands in none.
+    /// The place, among the story's spans, of the innermost one that it stands in: of a pruning, in its right side, or of an otherwise. None where it
+    /// stands in none.
     pub outer: Option<usize>,
     // The spans directly in this one are a linked list from the newest back: `newest` is the list's head, and `before` links this span to the one
     // before it in the list of its outer span. Dropped spans are taken out of their list.
@@ -84,7 +89,8 @@ pub(crate) struct Span<'a> {
 /// What a picture shows of an entry.
 #[derive(Clone, Copy)]
 pub(crate) enum Shown {
-    /// That this span begins or ends.
+    /// That the call at this place among the story's spans begins, or that the span at it ends. The beginnings of prunings and otherwises aren't
+    /// events.
     Span(usize),
     /// A publication of the whole program.
     Publication(Value),
@@ -103,25 +109,26 @@ pub(crate) struct Event {
 pub(crate) struct Story<'a> {
     pub spans: Vec<Span<'a>>,
     pub events: Vec<Event>,
-    /// The time behind the last entry.
+    /// The logical time after the last entry that was read.
     pub now: u64,
-    /// How many calls of built-in sites that take no time aren't shown.
+    /// How many calls aren't shown, all of built-in sites that take no time.
     pub small: u64,
-    // How many calls are shown.
+    // How many calls are shown so far. `read` gives up once they are over `MOST_ROWS`.
     calls: u64,
-    // Whether all calls are shown.
+    // Whether all calls are shown, also those of built-in sites that take no time.
     is_whole: bool,
     // How often each site was called with the same arguments, by which the table answers.
     counts: Counts,
     // Where the tokens are.
     trail: Trail,
-    // The spans of the calls that are shown, of the open prunings by their cells, and of the otherwises by their marks.
+    // The places in `spans` of the calls that are shown, by their numbers; of the prunings whose cells are neither bound nor lost,
+    // by these cells; and of all otherwises, by their marks.
     shown: HashMap<u64, usize>,
     cells: HashMap<u64, usize>,
     others: HashMap<u64, usize>,
-    // The spans that are still to be dropped. Empty between two entries.
+    // The places of the spans that `drop_inside` has still to drop. Empty between two entries.
     dropping: Vec<usize>,
-    // Whether memory was refused while an entry was followed.
+    // Whether memory was refused while an entry was noted. `read` ends with that entry.
     is_refused: bool,
 }
 
@@ -195,6 +202,7 @@ impl<'a> Story<'a> {
             } else {
                 self.tell(sketch, &entry, moment);
             }
+            // Each call that is shown has a row, so the picture would have too many.
             if self.calls > MOST_ROWS {
                 return Err(DrawFault::Rows);
             }
@@ -206,7 +214,7 @@ impl<'a> Story<'a> {
         Ok(())
     }
 
-    // Notes what an entry other than a call begins, ends or shows. Entries that only move tokens show nothing.
+    // Notes what an entry other than a call begins, ends or shows, and sets the time. Where memory is refused it sets `is_refused`.
     fn tell(&mut self, sketch: &Sketch<'a>, entry: &Entry, at: Moment) {
         match entry {
             Entry::Tick(time) => {
@@ -235,6 +243,7 @@ impl<'a> Story<'a> {
             }
             Entry::Bind(s, c, value) => {
                 self.leave(*s, at);
+                // The call on whose answer the token stands. None where it stands on another value, or that call isn't shown.
                 let answered = self.trail.token(*s).and_then(|token| token.call);
                 let answer = answered.and_then(|call| self.shown.get(&call).copied());
                 let span = self.cells.remove(c);
@@ -245,6 +254,7 @@ impl<'a> Story<'a> {
                 self.close(span, End::Lost, at)
             }
             Entry::Right(s, _) => {
+                // The otherwise stays among `others`: what the right side makes stands in its span.
                 let span = self.others.get(s).copied();
                 self.close(span, End::Resumed, at)
             }
@@ -252,19 +262,20 @@ impl<'a> Story<'a> {
                 self.leave(*s, at);
                 self.note(Shown::Publication(*value), at)
             }
-            // A bind has dropped the call. Where the journal has cancels, its span ends at the entry of its cancel, and else at the bind.
+            // The bind before it has ended the call's span. The end is moved to the cancel; a journal of version 1 has no cancels, so it stays there.
             Entry::Cancel(k) => {
                 if let Some(span) = self.shown.get(k).copied() {
                     self.set_end(span, End::Cancelled, at);
                 }
                 self.note(Shown::Cancel, at)
             }
+            // `end`, `fork`, `seq`, `def` and `void` only move tokens, which a picture doesn't show. Of a `call` `read` takes care.
             _ => {}
         }
     }
 
-    // Begins the span of a call, if it is shown, and finds when it is due. The mark is that of the token that makes it. The answers of calls that
-    // aren't shown don't depend on how many there were.
+    // Begins the span of a call, if it is shown, and finds when it is due. `mark` is that of the token that makes it. A call that isn't shown isn't
+    // added to `counts`: no answer of a built-in site depends on how often it was called.
     fn call(
         &mut self,
         answers: &Answers,
@@ -282,8 +293,10 @@ impl<'a> Story<'a> {
             return;
         }
         self.calls = self.calls.saturating_add(1);
+        // Asked before this call is counted: `next_call` speaks of the one after those that were counted.
         let found = self.counts.next_call(answers, site, args).found;
         self.is_refused = self.counts.add(answers, site, args).is_err() || self.is_refused;
+        // A moment counts entries from 1, the place in the journal from 0.
         let called = Called {
             number,
             at: (at.entry as usize).saturating_sub(1),
@@ -297,16 +310,17 @@ impl<'a> Story<'a> {
 
     // ---- steps
 
-    // The step of the token of a mark, 0 for the whole.
+    // The number of the step in which the token of a mark stands, 0 where it stands in none.
     fn step_of(&self, mark: u64) -> usize {
         self.trail.token(mark).map_or(0, |token| token.step)
     }
 
     // A publication of a token goes outwards to the nearest `>x>` or right side of a pruning, or out of the whole. On the way it ends each otherwise
-    // whose left side it leaves.
+    // whose left side it leaves. Each turn of the loop goes one step outwards, so there are no more turns than steps.
     fn leave(&mut self, mark: u64, at: Moment) {
         let mut number = self.step_of(mark);
         for _step in 0..self.trail.steps().len() {
+            // There is no step 0: the publication leaves the whole.
             let Some(step) = self.trail.step(number) else {
                 return;
             };
@@ -319,6 +333,7 @@ impl<'a> Story<'a> {
                         Some(span) if self.end_of(span).is_none() => {
                             self.set_end(span, End::Left, at);
                         }
+                        // An earlier publication has ended it.
                         _ => {}
                     }
                 }
@@ -327,15 +342,17 @@ impl<'a> Story<'a> {
         }
     }
 
-    // The innermost span in which a step stands. An otherwise whose left side has published doesn't count: what is left of that side stands in the
-    // span that encloses the otherwise.
+    // The place of the innermost span in which a step stands, None where it stands in none. An otherwise whose left side has published doesn't count:
+    // what is left of that side stands in the span that encloses the otherwise. Each turn goes outwards.
     fn span_round(&self, from: usize) -> Option<usize> {
         let mut number = from;
         for _step in 0..self.trail.steps().len() {
+            // Neither step 0 nor a step without a home has a span round it.
             let home = self.trail.step(self.trail.step(number)?.home)?;
             let span = match home.way {
                 Way::PruneRight(cell) => self.cells.get(&cell).copied(),
                 Way::OtherwiseLeft(mark) | Way::Then(mark) => self.others.get(&mark).copied(),
+                // `home` leads past the left sides of `>x>`.
                 Way::SeqLeft(_) => None,
             };
             match (home.way, span) {
@@ -379,7 +396,7 @@ impl<'a> Story<'a> {
         span
     }
 
-    // Makes `newest` the head of a span's list, and gives the head that was.
+    // Makes `newest` the head of the list of the spans in `span`, and gives the head that was. None is the empty list.
     fn set_newest(&mut self, span: usize, newest: Option<usize>) -> Option<usize> {
         match self.spans.get_mut(span) {
             Some(outer) => {
@@ -391,19 +408,19 @@ impl<'a> Story<'a> {
         }
     }
 
-    // Ends a span, whether or not it had ended.
+    // Sets how and when a span ended, also where it had ended before.
     fn set_end(&mut self, span: usize, end: End, at: Moment) {
         if let Some(span) = self.spans.get_mut(span) {
             span.end = Some((end, at));
         }
     }
 
-    // Notes an event.
+    // Adds an event. Where memory is refused it sets `is_refused`.
     fn note(&mut self, shown: Shown, at: Moment) {
         self.is_refused = self.events.push(Event { shown, at }).is_err() || self.is_refused;
     }
 
-    // Ends a span, if there is one, and drops all in it.
+    // Ends a span with an event, and drops all in it. None is the span of a call that isn't shown.
     fn close(&mut self, span: Option<usize>, end: End, at: Moment) {
         if let Some(span) = span {
             self.drop_inside(span, at);
@@ -412,7 +429,7 @@ impl<'a> Story<'a> {
         }
     }
 
-    // Drops all spans in a span, at whatever depth.
+    // Drops all spans in a span, at whatever depth, with a stack in place of a recursion.
     fn drop_inside(&mut self, span: usize, at: Moment) {
         let newest = self.set_newest(span, None);
         self.drop_later(newest);
@@ -435,7 +452,7 @@ impl<'a> Story<'a> {
         }
     }
 
-    // Ends a span as dropped, unless it has ended, and gives the one before it in its list.
+    // Ends a span as cancelled or dropped, unless it has ended, takes it out of its list, and gives the one before it there. None at the list's end.
     fn drop_one(&mut self, span: usize, at: Moment) -> Option<usize> {
         let dropped = self.spans.get_mut(span)?;
         if dropped.end.is_none() {

@@ -1,8 +1,9 @@
 //! A picture as SVG.
 //!
 //! Places across are in parts (`scale::PARTS` to a pixel), so that the width can be shared among the times; places down are in pixels where their
-//! names or comments don't say parts. In a template, `%` is a length in parts and `@` a number as it stands (`Markup::form`). Letters have about the
-//! same width, so the room for a text is its length times a number of parts.
+//! comments don't say parts. In a template, `%` is a length in parts and `@` a number as it stands (`Markup::form`). Letters have about the same
+//! width, so the room for a text is its length times a number of parts. The `place` of a row is its number from 0 at the top, and a text's `y` is its
+//! base line.
 
 use crate::legend::Legend;
 use crate::markup::Markup;
@@ -30,7 +31,7 @@ pub(crate) const MOST_BANDS: usize = 40;
 // With more publications than these, they have no lines down through the rows.
 const MOST_LINES: u64 = 12;
 
-/// How large rows are, in pixels: their height, that of a bar, and that of a letter.
+/// How large rows are, in pixels: the height of a row, of a bar, and of a letter.
 #[derive(Clone, Copy)]
 struct Size {
     row: u64,
@@ -45,9 +46,9 @@ struct Size {
 struct Sheet<'a> {
     picture: &'a Picture<'a>,
     size: Size,
-    // The width of the labels, where the plot's frame begins.
+    // The width of the labels and numbers, behind which the plot's frame begins.
     gutter: u64,
-    // The left and the right edge of the plot.
+    // Where the first band begins, and the right edge of the plot.
     left: u64,
     right: u64,
     // The width of the whole sheet.
@@ -60,12 +61,15 @@ struct Sheet<'a> {
 /// Writes a picture as SVG. The error is refused memory.
 pub(crate) fn write(alloc: Global, picture: &Picture, theme: Theme) -> Result<String, AllocError> {
     let sheet = Sheet::new(alloc, picture)?;
+    // The body is written before the head, which says how high the sheet is: only the legend shows that. What is written later covers what is
+    // earlier.
     let mut body = Page::new(alloc);
     sheet.times(&mut body);
     sheet.publications(&mut body);
     sheet.boxes(&mut body);
     sheet.rows(&mut body);
     sheet.winners(&mut body);
+    // 24 pixels below the last row.
     let mut legend = Legend::new(sheet.bottom().saturating_add(24), sheet.width);
     legend.write(alloc, &mut body, picture, sheet.scale.is_true);
     let mut page = Page::new(alloc);
@@ -80,8 +84,8 @@ fn pixels(count: u64) -> u64 {
     count.saturating_mul(PARTS)
 }
 
-// The size of rows where there are so many, the deepest of which stands in `depth` others: many rows are lower, and deep ones are less indented, so
-// that no row is indented by more than 112 pixels, 8 times 14.
+// The size of rows where there are so many, the deepest of which stands in `depth` others: over 60 rows, and again over 150, they are lower, so that
+// the sheet doesn't grow too high. Deep ones are less indented, so that no row is indented by more than 112 pixels, 8 times 14.
 fn size_of_rows(rows: u64, depth: u64) -> Size {
     let (row, bar, letter) = if rows <= 60 {
         (24, 13, 12)
@@ -116,6 +120,7 @@ fn gutter_of(picture: &Picture, size: &Size) -> u64 {
             0
         };
         let letters = (row.label.len() as u64).saturating_add(number);
+        // 16 pixels: the 12 before a label that isn't indented (`indent`), and 4 between label and number.
         let label = pixels(16)
             .saturating_add(row.depth.saturating_mul(size.indent))
             .saturating_add(letters.saturating_mul(size.letter).saturating_mul(602_000));
@@ -125,7 +130,7 @@ fn gutter_of(picture: &Picture, size: &Size) -> u64 {
 }
 
 impl<'a> Sheet<'a> {
-    // Measures the sheet of a picture: over 60 rows the plot is wider. The error is refused memory.
+    // Measures the sheet of a picture: over 60 rows, where they are lower, the plot is wider. The error is refused memory.
     fn new(alloc: Global, picture: &'a Picture<'a>) -> Result<Sheet<'a>, AllocError> {
         let rows = &picture.rows.rows;
         let count = rows.len() as u64;
@@ -134,7 +139,7 @@ impl<'a> Sheet<'a> {
             deepest = deepest.max(row.depth);
         }
         let size = size_of_rows(count, deepest);
-        // In pixels: 760, and 4 more for each row over 60.
+        // In pixels: 760, and 4 more for each row over 60, up to 1,400.
         let plot = count
             .saturating_sub(60)
             .saturating_mul(4)
@@ -147,10 +152,12 @@ impl<'a> Sheet<'a> {
         };
         let slots = &picture.slots;
         let scale = Scale::new(alloc, &slots.instants, slots.total(), measure)?;
+        // 10 pixels stay free before the first band, and 6 behind the last one.
         let gutter = gutter_of(picture, &size);
         let left = gutter.saturating_add(pixels(10));
         let right = left.saturating_add(scale.end).saturating_add(pixels(6));
-        // The line of letters at the top: those of the title are 8.6 pixels wide, those of the summary 6.7.
+        // The line of letters at the top: those of the title are 8.6 pixels wide, those of the summary 6.7. Of the 40 pixels more, 26 are before the
+        // summary (`head`), and 14 behind it.
         let name = (picture.name.len() as u64).saturating_mul(8_600_000);
         let summary = (picture.summary.len() as u64).saturating_mul(6_700_000);
         let title = pixels(40).saturating_add(name).saturating_add(summary);
@@ -160,11 +167,12 @@ impl<'a> Sheet<'a> {
             gutter,
             left,
             right,
-            // Behind the plot there is room for the words at the ends of bars.
+            // 168 pixels behind the plot are for the words at the ends of bars.
             width: right.saturating_add(pixels(168)).max(title),
             scale,
             wins: Vec::new(alloc),
         };
+        // `find_wins` can't be refused memory then.
         for _row in rows {
             sheet.wins.push(0)?;
         }
@@ -214,12 +222,12 @@ impl<'a> Sheet<'a> {
             .saturating_add(self.scale.slot / 2)
     }
 
-    // Where a span begins.
+    // Where a span begins: the middle of its slot.
     fn begin(&self, span: &Span) -> u64 {
         self.across(span.began)
     }
 
-    // Where a span ends, or the right edge.
+    // Where a span ends: the middle of its slot, or the plot's right edge where it hasn't ended.
     fn end(&self, span: &Span) -> u64 {
         match span.end {
             Some((_, at)) => self.across(at),
@@ -232,6 +240,7 @@ impl<'a> Sheet<'a> {
     // Writes the beginning of the SVG, down to this lower edge: its size, its title, its style sheet, its background, and the line of letters at the
     // top.
     fn head(&self, page: &mut Page, theme: Theme, bottom: u64) {
+        // Rounded to whole pixels.
         let width = self.width.saturating_add(PARTS / 2) / PARTS;
         page.form(
             "<svg xmlns=\"http://www.w3.org/2000/svg\" width=\"@\" height=\"@\" viewBox=\"0 0 @ @\" role=\"img\"><title>",
@@ -255,7 +264,7 @@ impl<'a> Sheet<'a> {
             "</style><rect class=\"bg\" width=\"100%\" height=\"100%\"/><text class=\"title\" x=\"12\" y=\"20\">",
         );
         page.escaped(self.picture.name);
-        // The summary stands behind the title, whose letters are 8.6 pixels wide.
+        // The summary stands behind the title, whose letters are 8.6 pixels wide: 12 pixels are before the title, and 14 between the two.
         let tenths = (self.picture.name.len() as u64).saturating_mul(86);
         let behind = tenths.saturating_add(5) / 10;
         page.form(
@@ -266,12 +275,13 @@ impl<'a> Sheet<'a> {
         page.say("</text>");
     }
 
-    // Writes the band of each time, and the line of times above. Where there are too many times, each that has a label has a line in place of a band.
+    // Writes the band of each time, and the line of times, 6 pixels above. Where there are too many times, each that has a label has a line in place
+    // of a band.
     fn times(&self, page: &mut Page) {
         let instants = &self.picture.slots.instants;
         let are_bands = instants.len() <= MOST_BANDS;
         let height = self.bottom().saturating_sub(HEAD);
-        // Where the last label ends. A label that would come near to it is left out.
+        // Where the last label ends, 0 before the first. A label that would come near to it is left out.
         let mut last: u64 = 0;
         for (i, instant) in instants.iter().enumerate() {
             let begin = self.band(i);
@@ -317,7 +327,8 @@ impl<'a> Sheet<'a> {
 
     // ---- publications
 
-    // Writes the dot of each publication, with a line down through the rows where there are few, and the values below the dots.
+    // Writes the dot of each publication, with a line down through the rows where there are few, and the values below the dots. The word at the left
+    // is 4 pixels lower than the dots' middle, so that it stands beside them.
     fn publications(&self, page: &mut Page) {
         page.form(
             "<text class=\"lab\" x=\"12\" y=\"@\">publishes</text>\n",
@@ -328,6 +339,7 @@ impl<'a> Sheet<'a> {
         for some in all {
             count = count.saturating_add(some.count);
         }
+        // A dot is up to 2 pixels wider than its slot at either side, where slots are narrow.
         let radius = (self.scale.slot / 2)
             .saturating_add(pixels(2))
             .min(pixels(5));
@@ -349,6 +361,7 @@ impl<'a> Sheet<'a> {
             }
         }
         for (i, some) in all.iter().enumerate() {
+            // 10 pixels stay free before the next values, or at the right edge of the sheet.
             let next = match all.get(i.saturating_add(1)) {
                 Some(next) => self.across(next.first),
                 None => self.width,
@@ -358,6 +371,7 @@ impl<'a> Sheet<'a> {
     }
 
     // Writes the values of a time if they end before this limit, or else how many there are, if more than one and 60 pixels are free, or nothing.
+    // They begin 4 pixels left of the first dot's middle, and stand 20 pixels below it.
     fn values(&self, page: &mut Page, some: &Publications, limit: u64) {
         let place = self.across(some.first);
         // These letters are 7.3 pixels wide.
@@ -381,7 +395,8 @@ impl<'a> Sheet<'a> {
 
     // ---- rows
 
-    // Writes for each pruning the tinted box round its row and the rows of what stands in it.
+    // Writes for each pruning the tinted box round its row and the rows of what stands in it, 2 pixels within their edges. A pruning in which no row
+    // stands has none. A box is 2 pixels wide at least, so that it is seen.
     fn boxes(&self, page: &mut Page) {
         let rows = &self.picture.rows.rows;
         for (i, row) in rows.iter().enumerate() {
@@ -420,12 +435,13 @@ impl<'a> Sheet<'a> {
             .saturating_add(self.size.letter.saturating_mul(350_000))
     }
 
-    // Where the label of a row begins.
+    // Where the label of a row begins, in parts: 12 pixels from the left, and its indent.
     fn indent(&self, row: &Row) -> u64 {
         pixels(12).saturating_add(row.depth.saturating_mul(self.size.indent))
     }
 
-    // Writes the row of a call, at this place: its label, its number, its bar, and how it ended.
+    // Writes the row of a call, at this place: its label, its number, its bar, and how it ended. The number ends 6 pixels before the frame. The bar
+    // is 3 pixels wide at least, and that of an Rwait half as high as others.
     fn call(&self, page: &mut Page, place: usize, row: &Row, span: &Span, called: Called) {
         let class = class_of(span);
         page.say("<g><title>");
@@ -460,7 +476,8 @@ impl<'a> Sheet<'a> {
     }
 
     // Writes the sign at a call's end, and the words behind it, whose tag the caller closes. A call that halted has an upright mark, at either end a
-    // pixel longer than bars are high; one that was cancelled has a cross, and any other none.
+    // pixel longer than bars are high; one that was cancelled has a cross, and any other
+    // none. The words stand 6 pixels behind the end, or 8 where there is a cross.
     fn call_end(&self, page: &mut Page, place: usize, row: &Row, span: &Span, called: Called) {
         let end = self.end(span);
         let class = class_of(span);
@@ -481,6 +498,7 @@ impl<'a> Sheet<'a> {
                     self.size.bar.saturating_add(2),
                 ],
             ),
+            // Cancelled. The cross reaches over 0.42 of a bar's height each way.
             Some(_) => {
                 self.cross(
                     page,
@@ -490,17 +508,19 @@ impl<'a> Sheet<'a> {
                 );
                 behind = end.saturating_add(pixels(8));
             }
+            // Still pending.
             None => {}
         }
         page.say("<text class=\"end ");
         page.say(class);
         page.form("t\" x=\"%\" y=\"%\">", &[behind, self.line(place)]);
-        // In a picture of many rows the label is far from the bar, so it is written behind that too.
+        // In a picture of many rows, which is wide, the label of a bar that begins far to the right is written behind the bar too.
         let is_crowded = self.picture.rows.rows.len() > 60;
         if is_crowded && self.begin(span) > self.gutter.saturating_add(pixels(400)) {
             page.escaped(row.label.as_str());
             page.say(" ");
         }
+        // When the call was due stands in its title (`say_tip`).
         if is_crowded && class == "cut" {
             page.say("cancelled");
         } else {
@@ -508,7 +528,7 @@ impl<'a> Sheet<'a> {
         }
     }
 
-    // Writes a cross round a point, all in parts.
+    // Writes a cross round a point, which goes so far to each side (`reach`), all in parts.
     fn cross(&self, page: &mut Page, x: u64, y: u64, reach: u64) {
         let (left, right) = (x.saturating_sub(reach), x.saturating_add(reach));
         let (up, down) = (y.saturating_sub(reach), y.saturating_add(reach));
@@ -518,7 +538,7 @@ impl<'a> Sheet<'a> {
         );
     }
 
-    // How far a sign reaches from its middle, in parts.
+    // How far the sign at the end of a pruning or an otherwise reaches from its middle, in parts: half a bar, but 6 pixels at most.
     fn reach(&self) -> u64 {
         (pixels(self.size.bar) / 2).min(pixels(6))
     }
@@ -556,7 +576,8 @@ impl<'a> Sheet<'a> {
         page.say("</text>\n");
     }
 
-    // Writes the sign at the end of a pruning or an otherwise, in parts at x and y, and opens the tag of the words behind it, whose class it finds.
+    // Writes the sign at the end of a pruning or an otherwise, in parts at x and y, and opens the tag of the words behind it, whose class it finds. A
+    // value is a diamond, `lost` a ring a pixel smaller, the right side of an otherwise a triangle, and a drop a cross of four fifths.
     fn side_end(&self, page: &mut Page, place: usize, span: &Span, x: u64, y: u64) {
         let reach = self.reach();
         let (left, right) = (x.saturating_sub(reach), x.saturating_add(reach));
@@ -585,6 +606,7 @@ impl<'a> Sheet<'a> {
                 );
                 "rightt"
             }
+            // Dropped: an otherwise whose left side has published has no row, and the other ends are of calls.
             Some((_, at)) => {
                 page.form(
                     "<g><title>entry @: dropped at time @</title>",
@@ -594,6 +616,7 @@ impl<'a> Sheet<'a> {
                 page.say("</g>");
                 "cutt"
             }
+            // Still open: no sign.
             None => "nevt",
         };
         // How many pixels behind the end the words begin: behind the sign.
@@ -610,7 +633,8 @@ impl<'a> Sheet<'a> {
         );
     }
 
-    // Writes the green line from each answer that won to the pruning whose value it became.
+    // Writes the green line from each answer that won to the pruning whose value it became: across in the call's row to the time of the bind, then up
+    // to the lower tip of the diamond in the pruning's row, which is above it.
     fn winners(&self, page: &mut Page) {
         for (i, row) in self.picture.rows.rows.iter().enumerate() {
             if let Some((won, call, at)) = self.picture.winner(row) {
@@ -628,7 +652,7 @@ impl<'a> Sheet<'a> {
     }
 }
 
-// How many rows stand in the row at a place: those behind it that are deeper.
+// How many rows stand in the row at `at`, which has this depth: those behind it up to the next one that is no deeper.
 fn inner_rows(rows: &[Row], at: usize, depth: u64) -> u64 {
     let mut count: u64 = 0;
     for row in rows.iter().skip(at.saturating_add(1)) {
@@ -640,7 +664,8 @@ fn inner_rows(rows: &[Row], at: usize, depth: u64) -> u64 {
     count
 }
 
-// The class in the style sheet of a call's bar, by how the call ended. The class of the words behind the bar has one more `t`.
+// The class in the style sheet of a call's bar: answered, halted, cancelled, or still pending. The class of the words behind the bar has one more
+// `t`.
 fn class_of(span: &Span) -> &'static str {
     match span.end {
         Some((End::Answered(_), _)) => "ok",

@@ -1,4 +1,7 @@
 //! A picture as rows of text. Left of the plot each row has its label and the number of its call; columns of the plot are counted from 0.
+//!
+//! A row is its label, one blank, its number, two blanks, the plot, and the words on how its span ended. Depth indents a label by two columns for
+//! each row that it stands in. Names and texts are ASCII here, so a byte is a column.
 
 use crate::picture::Picture;
 use crate::rows::Row;
@@ -7,16 +10,17 @@ use crate::story::{Called, End, Kind, Moment, Span};
 use orc_report::{Fill, Page, digits};
 use std::alloc::{AllocError, Global};
 
-// The widest label, in columns. A longer one is cut.
+// The widest label, in columns. A longer one is cut: of 80 columns a plot keeps 28 or so.
 const WIDEST: u64 = 30;
 
 // The narrowest column of labels: `publishes` has nine letters.
 const NARROWEST: u64 = 9;
 
-// The columns that belong to no label, number or plot: blanks between them, and what stands behind a bar.
+// The columns that belong to no label, number or plot: three blanks round the number, two for a bar's last sign and the blank behind it, and 16 for
+// the words there, which may be longer.
 const APART: u64 = 21;
 
-// How many columns the labels and the numbers of calls take, and how the plot is shared among the times.
+// How many columns the labels and the numbers of calls take (`label`, `number`), and how the plot is shared among the times.
 #[derive(Drop)]
 struct Columns<'a> {
     picture: &'a Picture<'a>,
@@ -25,7 +29,7 @@ struct Columns<'a> {
     scale: Scale,
 }
 
-// What a bar or a line is drawn with: its first sign, what fills it, and its last sign.
+// What a bar or a line is drawn with: its first sign, what fills it, and its last sign. One of a single column has the last sign alone.
 #[derive(Clone, Copy)]
 struct Stroke {
     first: char,
@@ -53,7 +57,7 @@ pub(crate) fn write(alloc: Global, picture: &Picture, width: u64) -> Result<Stri
     page.finish()
 }
 
-/// Writes the rows of a picture alone. The error is refused memory.
+/// Writes the rows of a picture of about so many columns, without its title and what it leaves out. The error is refused memory.
 pub(crate) fn write_rows(
     alloc: Global,
     picture: &Picture,
@@ -71,6 +75,7 @@ fn columns_of(parts: u64) -> u64 {
 }
 
 impl<'a> Columns<'a> {
+    // Measures the labels and numbers, and gives the plot what they leave of `width` columns, one at least. The error is refused memory.
     fn new(alloc: Global, picture: &'a Picture<'a>, width: u64) -> Result<Columns<'a>, AllocError> {
         let mut label = NARROWEST;
         let mut number = 1;
@@ -84,6 +89,7 @@ impl<'a> Columns<'a> {
         let label = label.min(WIDEST);
         let taken = label.saturating_add(number).saturating_add(APART);
         let room = width.saturating_sub(taken).max(1).saturating_mul(PARTS);
+        // Where there is room a slot is one column wide, and so are the least gap and the margin.
         let measure = Measure {
             width: room,
             slot: PARTS,
@@ -92,6 +98,7 @@ impl<'a> Columns<'a> {
         };
         let slots = &picture.slots;
         let mut scale = Scale::new(alloc, &slots.instants, slots.total(), measure)?;
+        // A scale may be wider than it was asked for, but text has no columns to spare.
         scale.squeeze(room);
         Ok(Columns {
             picture,
@@ -111,7 +118,7 @@ impl<'a> Columns<'a> {
         columns_of(self.scale.begin(instant))
     }
 
-    // The column of a moment.
+    // The column of a moment's slot.
     fn column(&self, at: Moment) -> u64 {
         let slot = self.picture.slots.slot(at);
         let within = columns_of(self.scale.within(slot));
@@ -127,7 +134,7 @@ impl<'a> Columns<'a> {
         }
     }
 
-    // Writes a label, indented, in the columns of labels; one that is too long ends with `..`.
+    // Writes a label, behind `indent` blanks, in the columns of labels; one that is too long ends with `..`, which takes two of them.
     fn head(&self, page: &mut Page, label: &str, indent: u64) {
         let length = indent.saturating_add(label.len() as u64);
         let is_cut = length > self.label;
@@ -144,7 +151,7 @@ impl<'a> Columns<'a> {
         }
     }
 
-    // Writes the number of a call, or blanks, in its columns.
+    // Writes the number of a call, with its last digit in the last of its columns, or blanks where there is none.
     fn number(&self, page: &mut Page, number: Option<u64>) {
         page.say(" ");
         match number {
@@ -169,6 +176,7 @@ impl<'a> Columns<'a> {
             let begin = self.begin(i);
             let end = begin.saturating_add(digits(instant.time));
             let is_apart = i == last || self.begin(last) > end.saturating_add(1);
+            // The first number is always written.
             if written == 0 || (is_apart && begin > written.saturating_add(1)) {
                 page.fill(' ', begin.saturating_sub(written));
                 page.number(instant.time);
@@ -182,6 +190,7 @@ impl<'a> Columns<'a> {
     fn publications(&self, page: &mut Page) {
         let all = &self.picture.publications;
         if all.is_empty() {
+            // Without values the line ends behind its label.
             page.say("publishes\n");
             return;
         }
@@ -196,7 +205,9 @@ impl<'a> Columns<'a> {
                 None => self.right().saturating_add(40),
             };
             let width = some.width();
+            // Two columns more are the `*` and the blank behind it, and one stays free before the next `*`.
             let fits = begin.saturating_add(width).saturating_add(2) < next;
+            // In a narrow plot two times may share a column: then the first one has the `*`.
             if i == 0 || begin >= written {
                 page.fill(' ', begin.saturating_sub(written));
                 page.say("*");
@@ -241,6 +252,7 @@ impl<'a> Columns<'a> {
             None => self.right(),
         };
         page.fill(' ', begin);
+        // The last sign stands in the column of the end, so a bar that ends where it begins has no other.
         if end > begin {
             page.sign(stroke.first);
             page.fill(stroke.fill, end.saturating_sub(begin).saturating_sub(1));
@@ -259,6 +271,7 @@ fn stroke_of(span: &Span) -> Stroke {
         Some((End::Bound(_, _), _)) => (' ', '#'),
         Some((End::Lost, _)) => (' ', 'o'),
         Some((End::Resumed, _)) => (' ', ';'),
+        // Cancelled or dropped. An otherwise whose left side has published has no row.
         Some(_) => (if is_call { '-' } else { ' ' }, 'x'),
         None => (if is_call { '.' } else { ' ' }, '.'),
     };
@@ -269,13 +282,14 @@ fn stroke_of(span: &Span) -> Stroke {
     }
 }
 
-/// Writes how many calls aren't drawn.
+/// Writes how many calls aren't drawn, which are of built-in sites and take no time.
 pub(crate) fn say_small(page: &mut Page, small: u64) {
     page.tell("% of no time", &[Fill::Count(small, "built-in call")]);
 }
 
-/// Writes how a call ended: its value, `halt`, or when it was due.
+/// Writes how a call ended: its value, `halt`, or that it was cancelled and when it was due; of a pending one, when it is due.
 pub(crate) fn say_fate(page: &mut Page, span: &Span, called: Called) {
+    // The 0 is never written: only the arms with a due time use it.
     let due = Fill::Number(called.due.unwrap_or(0));
     match (span.end, called.due) {
         (Some((End::Answered(value), _)), _) => page.value(value),
@@ -287,13 +301,14 @@ pub(crate) fn say_fate(page: &mut Page, span: &Span, called: Called) {
     }
 }
 
-/// Writes how a pruning or an otherwise ended.
+/// Writes how a pruning or an otherwise with a row ended.
 pub(crate) fn say_end(page: &mut Page, span: &Span) {
     match span.end {
         Some((End::Bound(value, _), _)) => page.tell("= %", &[Fill::Value(value)]),
         Some((End::Lost, _)) => page.say("lost"),
         Some((End::Resumed, _)) => page.say("right side"),
         Some(_) => page.say("dropped"),
+        // A pruning: an otherwise has a row only once its right side has begun.
         None => page.say("no value yet"),
     }
 }
