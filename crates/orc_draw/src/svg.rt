@@ -476,8 +476,8 @@ impl<'a> Sheet<'a> {
     }
 
     // Writes the sign at a call's end, and the words behind it, whose tag the caller closes. A call that halted has an upright mark, at either end a
-    // pixel longer than bars are high; one that was cancelled has a cross, and any other
-    // none. The words stand 6 pixels behind the end, or 8 where there is a cross.
+    // pixel longer than bars are high; one that was cancelled has a cross, and any other none. The words stand 6 pixels behind the end, or 8 where
+    // there is a cross.
     fn call_end(&self, page: &mut Page, place: usize, row: &Row, span: &Span, called: Called) {
         let end = self.end(span);
         let class = class_of(span);

@@ -32,7 +32,7 @@ pub(crate) struct Bindings<'a> {
     parts: Vec<Span>,
 }
 
-/// What is taken where nothing is pending, which a parsed program never does.
+/// What `take` gives where no part is left. In a parsed program one always is.
 const NOWHERE: Span = Span { start: 0, end: 0 };
 
 impl<'a> Bindings<'a> {
@@ -104,6 +104,7 @@ impl<'a> Bindings<'a> {
         self.parts.pop().unwrap_or(NOWHERE)
     }
 
+    // Adds a variable. The error is refused memory, as in all functions above.
     fn add(&mut self, name: Name<'a>, binder: Binder, scope: Span) -> Result<(), AllocError> {
         self.list.push(Binding {
             name,
@@ -113,7 +114,7 @@ impl<'a> Bindings<'a> {
         Ok(())
     }
 
-    /// The first variable of this name in the text.
+    /// The variable of this name that is named first in the text; the list isn't in that order. None where there is none.
     pub(crate) fn first(&self, name: &[u8]) -> Option<Binding<'a>> {
         let mut found: Option<Binding<'a>> = None;
         for binding in self.list.iter() {
@@ -128,7 +129,7 @@ impl<'a> Bindings<'a> {
         found
     }
 
-    /// The innermost variable of this name that is known at this byte: the one with the narrowest scope.
+    /// The innermost variable of this name that is known at this byte: the one with the narrowest scope. None where none is known there.
     pub(crate) fn known(&self, name: &[u8], at: usize) -> Option<Binding<'a>> {
         let mut found: Option<Binding<'a>> = None;
         for binding in self.list.iter() {
@@ -146,6 +147,7 @@ impl<'a> Bindings<'a> {
     }
 }
 
+// How many bytes a span has.
 fn width(span: Span) -> usize {
     span.end.saturating_sub(span.start)
 }

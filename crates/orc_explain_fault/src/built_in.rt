@@ -48,7 +48,7 @@ impl Taken {
     }
 }
 
-/// The built-in site of that name, if there is one.
+/// The built-in site of that name. None where there is none.
 pub fn built_in_named(name: &[u8]) -> Option<Builtin> {
     for site in Builtin::ALL.iter() {
         if site.name() == name {

@@ -1,4 +1,6 @@
 //! The explanation of each fault, and of files that can't be read.
+//!
+//! A function `say_..` writes what its comment names at the end of `page`.
 
 use crate::journal::say_journal;
 use crate::scope::say_scope;

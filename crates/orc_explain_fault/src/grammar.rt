@@ -1,48 +1,74 @@
 //! What may stand where in a line of a test: a table of places, and the walk over a line by it.
 //!
-//! The grammar is that of docs/testing.md. It is written down as a machine: at a place, the first entry of the tables whose test the next piece
-//! passes says at which place the walk goes on. If none does, the piece can't stand there, and the place says what could.
+//! The grammar is that of docs/testing.md, *The text*. It is written down as a machine: at a place, the first entry of the tables whose test the next
+//! piece passes says at which place the walk goes on. If none does, the piece can't stand there, and the place says what could. A piece is a name, a
+//! number or a sign (`script.rt`); the line keeps which one is looked at.
 
 use crate::script::{Kind, Line, Piece, is_in_range};
 use crate::words::{CONSTANTS, is_one_of};
 use orc_report::Near;
 use orc_site::line::is_reserved_word;
 
-/// A place in a line, between two pieces. Most are named by what may stand there next (`Bracket`, `Pattern`), those that end in `End` by what has
-/// been read (`PatternEnd`: a pattern); `wanted` says in words what may follow at each.
+/// A place in a line, between two pieces; `wanted` says in words what may follow at each.
 #[derive(Clone, Copy, PartialEq, Eq)]
 pub(crate) enum Place {
+    /// The beginning of a line without a `=`.
     Line,
+    /// Behind `case`: its name.
     CaseName,
+    /// Behind a case's name: the end of the line.
     CaseEnd,
+    /// Behind a whole line: its end.
     LineEnd,
     // Services.
+    /// The beginning of a line with a `=`: the name of a site.
     Service,
+    /// Behind a service's name: its `(`.
     Bracket,
+    /// Behind a service's `(`: a pattern or `)`.
     Patterns,
+    /// Behind a pattern.
     PatternEnd,
+    /// Behind the `,` between two patterns.
     Pattern,
+    /// Behind a service's `)`: its `=`.
     Equals,
+    /// Behind `=`, `then` or `|`: an answer.
     Answer,
+    /// Behind an answer that may have a time.
     Delay,
+    /// Behind `after`: a number of units of time.
     Time,
+    /// Behind the number of `after`: the `..` of a range, or what follows an answer.
     Range,
+    /// Behind `..`: the range's second number.
     RangeEnd,
+    /// Behind an answer with its time.
     AnswerEnd,
+    /// Behind `in`: `each of N calls`.
     Each,
+    /// Behind `in each`.
     EachOf,
+    /// Behind `in each of`: the number of calls.
     Calls,
+    /// Behind that number: `calls`.
     CallsEnd,
     // Claims.
+    /// The beginning of a claim, also of the one behind `then` of a condition.
     Claim,
+    /// Behind the `at` that begins a claim: `most` or `least`.
     Bound,
     /// Behind `at most`: a number.
     Most,
+    /// Behind `at most N` and its event.
     MostEnd,
+    /// Behind `at most N`, its event and `at`: `once`.
     Once,
+    /// Behind `exactly` or `at least`: a number.
     Count,
     /// Behind `exactly N` or `at least N` and its event; also behind `ends Halted or Quiet`, where the same may follow.
     CountEnd,
+    /// Behind `by` or `within`: a number of units of time.
     Units,
     /// Behind `no` and its event.
     NoneEnd,
@@ -50,33 +76,52 @@ pub(crate) enum Place {
     EachEnd,
     /// Behind `each .. then` and its second event.
     WithinEnd,
+    /// Behind an event that begins a claim: `only after`.
     Only,
+    /// Behind that `only`.
     OnlyAfter,
+    /// Behind `if`: an event, or `no` and an event.
     Condition,
+    /// Behind a condition: `then`.
     Then,
+    /// Behind `ends`.
     Ends,
     /// Behind `ends Halted or`, or `ends Quiet or`: a second end.
     EndsMore,
+    /// Behind `ends Halted` or `ends Quiet`.
     EndsEnd,
+    /// Behind `publishes`.
     Values,
+    /// Behind a value of `publishes`.
     ValuesEnd,
+    /// Behind `publishes one`.
     OneOf,
+    /// Behind `publishes one of`: its first value.
     Literals,
+    /// Behind a value of `publishes one of`.
     LiteralsEnd,
+    /// Behind the `in` of `in any order`.
     AnyOrder,
+    /// Behind the `any` of `in any order`.
     Order,
     // Events.
+    /// The beginning of an event, and behind the `or` between two.
     Event,
     /// Behind the word `published`.
     Published,
     /// Behind the name of a site: its `(`.
     Open,
+    /// Behind that `(`: a slot or `)`. A slot is a value, `_` or a variable.
     Slots,
+    /// Behind a slot.
     SlotEnd,
+    /// Behind the `,` between two slots.
     Slot,
+    /// Behind the `)` of a site: what happens to its call.
     CallEnd,
     /// Behind the word `answered`.
     Answered,
+    /// Behind an event to which only `or` can be added.
     EventEnd,
 }
 
@@ -120,11 +165,13 @@ enum Next {
     Done,
 }
 
-/// An entry of the tables: a place, what may stand there, and where the walk goes on behind it.
+/// An entry of the tables: a place, what may stand there, and where the walk goes on behind it. Entries of one place are tried in their order.
 type Way = (Place, Test, Next);
 
+/// What a slot may be, in words.
 const VALUE: &str = "a value, `_` or a variable";
 
+/// What may stand where `Test::Digits` is, in words.
 const NUMBER: &str = "a number: digits without a sign";
 
 /// Words that may follow a value, so that no variable has their name.
@@ -143,7 +190,7 @@ const FOLLOWING: [&[u8]; 12] = [
     b"cancelled",
 ];
 
-/// What may stand at the places in a service's line.
+/// What may stand at the places in a service's line. The numbers of calls in `in each of N calls` are 2 to 4.
 const SERVICE_WAYS: [Way; 27] = [
     (Place::Bracket, Test::Is(b"("), Next::To(Place::Patterns)),
     (Place::Patterns, Test::Is(b")"), Next::To(Place::Equals)),
@@ -338,8 +385,8 @@ const LINE_WAYS: [Way; 7] = [
     (Place::LineEnd, Test::End, Next::Done),
 ];
 
-// What may follow at a place, in words. If the walk may also go on without a piece (`Test::Else`, and behind an event), the explanation adds the
-// words of the next place.
+// What may follow at a place, in words. Where the walk may also go on without a piece (`Test::Else`) they end with `, ` or `or `, and the explanation
+// writes those of the next place behind them. So those of a place behind an event begin with `or` if they have none of their own.
 fn wanted(place: Place) -> &'static str {
     match place {
         Place::Bracket | Place::Open => "`(`",
@@ -389,7 +436,7 @@ fn wanted(place: Place) -> &'static str {
     }
 }
 
-// The first entry of a table for a place whose test the piece that is looked at passes.
+// The first entry of a table for a place whose test the piece that is looked at passes. None where there is none.
 fn way_in(ways: &[Way], place: Place, line: &Line) -> Option<(Test, Next)> {
     for (from, test, next) in ways {
         if *from == place && takes(*test, line) {
@@ -399,7 +446,8 @@ fn way_in(ways: &[Way], place: Place, line: &Line) -> Option<(Test, Next)> {
     None
 }
 
-// The first entry of all tables for a place whose test the piece that is looked at passes. No place is in two tables.
+// The first entry of all tables for a place whose test the piece that is looked at passes. None where the piece can't stand there. No place is in two
+// tables, so the order of the tables doesn't matter.
 fn way(place: Place, line: &Line) -> Option<(Test, Next)> {
     way_in(LINE_WAYS.as_slice(), place, line)
         .or(way_in(SERVICE_WAYS.as_slice(), place, line))
@@ -468,13 +516,14 @@ pub(crate) struct Walk {
     pub place: Place,
     /// The place before it, if the walk went on from there without a piece (`Test::Else`): what may follow there may follow here too.
     pub before: Option<Place>,
-    // Where the walk goes on behind the event that it is in.
+    // Where the walk goes on behind the event that it is in. Not used before the first event.
     behind: Place,
 }
 
 impl Walk {
     /// Walks over a line, up to the first piece that can't stand where it stands, and leaves the line at that piece. None if each piece can.
     pub(crate) fn over(line: &mut Line) -> Option<Walk> {
+        // Services have a `=`, and no other line has.
         let has_equals = line.pieces.iter().any(|piece| piece.is(b"="));
         let mut walk = Walk {
             place: if has_equals {
@@ -495,10 +544,11 @@ impl Walk {
             }
             walk.step(line, test, next);
         }
+        // Not reached: the walk has returned by then.
         None
     }
 
-    // Goes on behind the piece that is looked at, if the test takes one, and to the next place.
+    // Goes on behind the piece that is looked at, unless the test leaves it for the next place, and to that place.
     fn step(&mut self, line: &mut Line, test: Test, next: Next) {
         self.before = match test {
             Test::Else => Some(self.place),
@@ -518,7 +568,7 @@ impl Walk {
         }
     }
 
-    /// What may follow where the walk ended, in two parts: at the place before, and at this one.
+    /// What may follow where the walk ended, in words, in two parts: at the place before, empty if the walk came here over a piece, and at this one.
     pub(crate) fn wanted(&self) -> (&'static str, &'static str) {
         let before = match self.before {
             Some(place) => wanted(place),
@@ -527,7 +577,7 @@ impl Walk {
         (before, wanted(self.place))
     }
 
-    /// The word that may stand where the walk ended and is nearest to what stands there; empty where none is near.
+    /// The word that may stand where the walk ended and is nearest to the word for which `near` searches; empty where none is near.
     pub(crate) fn near_word(&self, near: &mut Near) -> &'static [u8] {
         let nearest = match self.before {
             Some(place) => nearest_way(near, place, b""),

@@ -2,7 +2,8 @@
 
 use orc_report::{Document, Page};
 
-/// A hint's words, with what fills them: `%` stands for a name, `@` for `line L, column C` of a byte of the text, and `#` for `line L` of it.
+/// A hint's words, with what fills them: `%` stands for `name`, `@` for `line L, column C` of the byte of the text at `at`, from 0, and `#` for `line
+/// L` of it. What no sign stands for is empty or 0.
 #[derive(Clone, Copy)]
 pub(crate) struct Hint<'a> {
     words: &'static str,

@@ -1,4 +1,6 @@
 //! Faults of a journal's text (J1 to J4).
+//!
+//! A function `say_..` writes what its comment names at the end of `page`.
 
 use crate::syntax::{say_most, say_refused};
 use crate::words::said_of;
@@ -9,12 +11,15 @@ use orc_rules::limits::{LONGEST_JOURNAL, MOST_ENTRIES};
 use orc_site::read_script;
 use std::alloc::Global;
 
+/// The form of a `cancel`, which version 1 of journals doesn't have.
 const CANCEL: &str = "cancel K";
 
+/// What is said of a line that ends with CR and LF.
 const NO_RETURNS: &str =
     "lines end with a line feed alone, and this one with a carriage return before it";
 
-/// The words with which entries begin, each with the form of its entries.
+/// The words with which entries begin, each with the form of its entries as docs/orc.md, *Journals*, has it. A form is shown between two backquotes,
+/// so the one of `return` closes and opens them in its middle.
 const FORMS: [(&[u8], &str); 16] = [
     (b"end", "end S"),
     (b"fork", "fork S A B"),
@@ -34,7 +39,7 @@ const FORMS: [(&[u8], &str); 16] = [
     (b"cancel", CANCEL),
 ];
 
-// What stands before the first byte of this kind, and what behind it.
+// What stands before the first such byte, and what behind it. Without such a byte: all, and nothing.
 fn split_at_byte(text: &[u8], byte: u8) -> (&[u8], &[u8]) {
     let end = match text.iter().position(|other| *other == byte) {
         Some(end) => end,
@@ -45,7 +50,7 @@ fn split_at_byte(text: &[u8], byte: u8) -> (&[u8], &[u8]) {
     (front, back)
 }
 
-// The name of the site in the line of a `call`. None where no bracket stands behind it.
+// The name of the site in the line of a `call S K NAME(..)`. None where there is no name, or nothing stands behind a `(`.
 fn called(line: &[u8]) -> Option<&[u8]> {
     let (_word, fields) = split_at_byte(line, b' ');
     let (_mark, fields) = split_at_byte(fields, b' ');

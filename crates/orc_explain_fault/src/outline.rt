@@ -12,7 +12,7 @@ pub(crate) enum Head<'a> {
     Always,
     /// `case` and its name.
     Case(&'a [u8]),
-    /// A line with a `=`: its site, and how many patterns it has. Each line of a script is one.
+    /// A line with a `=`: its first piece, a site's name, and how many patterns it has, 0 where they can't be counted. Each line of a script is one.
     Service(&'a [u8], usize),
     /// Any other line.
     Claim,
@@ -47,7 +47,7 @@ pub(crate) fn arguments(pieces: &[Piece]) -> Option<usize> {
     }
 }
 
-// What a line with these pieces is; None of a blank one.
+// What a line with these pieces is; None of a blank one. A line that has a section's word, but not its form, counts as a claim.
 fn head_of<'a>(pieces: &[Piece<'a>]) -> Option<Head<'a>> {
     let first = pieces.first()?;
     if pieces.iter().any(|piece| piece.is(b"=")) {
@@ -69,7 +69,7 @@ impl<'a> Outline<'a> {
             lines: Vec::new(alloc),
         };
         let mut rest = Some(text);
-        // Each line but the last one has a byte at least.
+        // A turn for each line: each but the last one has a byte at least, its LF. `before` counts the lines before it.
         for before in 0..text.len().saturating_add(1) {
             let Some(lines) = rest else {
                 return Ok(outline);

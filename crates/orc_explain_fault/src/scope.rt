@@ -1,4 +1,6 @@
 //! Faults of a source's names (C1 to C9).
+//!
+//! A function `say_..` writes what its comment names at the end of `page`. A place `at` is a byte of the source, from 0.
 
 use crate::bindings::{Binder, Binding, Bindings};
 use crate::built_in::{built_in_named, purpose};
@@ -19,7 +21,7 @@ use std::alloc::Global;
 /// What other languages call a choice between two branches.
 const CHOICES: [&[u8]; 2] = [b"if", b"If"];
 
-// The first definition of this name.
+// The first definition of this name. None where there is none.
 fn definition_of<'d, 'a>(ast: &'d Ast<'a>, name: &[u8]) -> Option<&'d Definition<'a>> {
     for definition in &ast.definitions {
         if definition.name.text == name {
@@ -29,7 +31,7 @@ fn definition_of<'d, 'a>(ast: &'d Ast<'a>, name: &[u8]) -> Option<&'d Definition
     None
 }
 
-// The first parameter of this name in the definition that has a parameter at this byte.
+// The first parameter of this name in the definition that has a parameter at this byte. None where no definition has one there.
 fn first_parameter<'a>(ast: &Ast<'a>, name: &[u8], at: usize) -> Option<Name<'a>> {
     for definition in &ast.definitions {
         if definition
@@ -43,7 +45,7 @@ fn first_parameter<'a>(ast: &Ast<'a>, name: &[u8], at: usize) -> Option<Name<'a>
     None
 }
 
-// The first of some names with this text.
+// The first of some names with this text. None where none has it.
 fn named<'a>(names: &[Name<'a>], name: &[u8]) -> Option<Name<'a>> {
     for other in names {
         if other.text == name {
@@ -97,7 +99,7 @@ fn calls(ast: &Ast, name: &[u8]) -> bool {
     has_call(&ast.main, name)
 }
 
-// Whether a call in an expression has too many arguments.
+// Whether a call in an expression has over `MOST_ARGUMENTS` arguments.
 fn has_wide_call(expression: &Expr) -> bool {
     for node in &expression.nodes {
         if let Part::Call(_, count) = node.part {
@@ -109,7 +111,7 @@ fn has_wide_call(expression: &Expr) -> bool {
     false
 }
 
-// Whether a call or a definition has too many arguments or parameters.
+// Whether a call or a definition has over `MOST_ARGUMENTS` arguments or parameters.
 fn has_too_many(ast: &Ast) -> bool {
     for definition in &ast.definitions {
         if definition.parameters.len() > MOST_ARGUMENTS || has_wide_call(&definition.body) {
@@ -119,7 +121,8 @@ fn has_too_many(ast: &Ast) -> bool {
     has_wide_call(&ast.main)
 }
 
-// The nearest variable, if one is near. The three functions below continue the same search, which takes only nearer names than it took before.
+// The nearest variable, None if none is near. The three functions below continue the same search, which takes only nearer names than it took before,
+// and give None if it takes none of theirs.
 fn near_variable<'a>(near: &mut Near, bindings: &Bindings<'a>) -> Option<Name<'a>> {
     let mut nearest = None;
     for binding in bindings.list.iter() {
@@ -164,6 +167,7 @@ pub(crate) fn near_site<'a>(near: &mut Near, answers: &'a Answers) -> Option<&'a
             nearest = Some(name);
         }
     }
+    // Not reached: no table has so many sites.
     nearest
 }
 
@@ -286,7 +290,7 @@ fn say_not_value(page: &mut Page, ast: &Ast, name: &[u8]) {
     page.say("s aren't values\n");
 }
 
-// C3: a call of a definition with another number of arguments.
+// C3: a call of a definition that takes `want` arguments with `got` of them.
 fn say_arity(page: &mut Page, document: &Document, ast: &Ast, name: &[u8], want: u64, got: u64) {
     page.say("called with ");
     page.count(got, "argument");
@@ -300,7 +304,7 @@ fn say_arity(page: &mut Page, document: &Document, ast: &Ast, name: &[u8], want:
     page.say("\n");
 }
 
-// C4: a second definition of a name.
+// C4: a second definition of a name. `definition_of` gives the first.
 fn say_second_definition(page: &mut Page, document: &Document, ast: &Ast, name: &[u8]) {
     page.say("a second definition of this name\n");
     if let Some(first) = definition_of(ast, name) {
@@ -349,7 +353,7 @@ fn say_call_of_variable(
     );
 }
 
-// Where a variable is named.
+// Where a variable is named; nothing where that isn't known.
 fn say_binding(page: &mut Page, document: &Document, binding: Option<Binding>) {
     if let Some(binding) = binding {
         page.note("it is named in ");
@@ -424,7 +428,7 @@ fn say_perhaps_script(
     }
 }
 
-// The line that a script needs for a site of one's own with so many arguments.
+// The line that a script needs for a site of one's own with so many arguments. Its answer, 0 after 1, is only an example.
 fn say_own_site(page: &mut Page, subject: &Subject, name: &[u8], count: usize) {
     page.note("help: a site of your own needs a line in ");
     match subject.script {
@@ -441,7 +445,7 @@ fn say_own_site(page: &mut Page, subject: &Subject, name: &[u8], count: usize) {
     page.say(") = 0 after 1`\n");
 }
 
-// C8: an argument or a parameter too many, or else too many nodes.
+// C8: an argument or a parameter too many if `are_arguments`, or else too many nodes.
 fn say_too_many(page: &mut Page, are_arguments: bool) {
     if are_arguments {
         page.say_number(

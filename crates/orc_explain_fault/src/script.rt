@@ -1,7 +1,7 @@
 //! Faults of a script's text (L1 to L3), and the pieces of a line of a script or a test.
 //!
 //! `Line` cuts a line into pieces, and looks at one of them after the other. `Line::whole` reads them as the reader of scripts does, and stops at the
-//! first piece that can't stand where it does: there the carets go.
+//! first piece that can't stand where it does: there the carets go. A function `say_..` writes what its comment names at the end of `page`.
 
 use crate::signs::{NO_ORDER_MARK, ORDER_MARK};
 use crate::syntax::{VALUES, say_long, say_refused};
@@ -36,7 +36,7 @@ pub(crate) enum Kind {
     End,
 }
 
-/// A piece of a line: a name, a number or a sign, with its bytes in the text.
+/// A piece of a line: a name, a number or a sign, or the end, with its bytes and their places in the text.
 #[derive(Clone, Copy)]
 pub struct Piece<'a> {
     pub(crate) kind: Kind,
@@ -73,7 +73,7 @@ impl Piece<'_> {
     }
 }
 
-// What the piece is that stands first in the rest of a line.
+// What the piece is that stands first in the rest of a line, which isn't empty.
 fn kind_at(rest: &[u8]) -> Kind {
     match rest {
         [b'A'..=b'Z' | b'a'..=b'z', ..] => Kind::Name,
@@ -95,11 +95,13 @@ fn length(kind: Kind, rest: &[u8]) -> usize {
     };
     match end {
         Some(end) => end.saturating_add(1),
+        // The piece goes up to the end of the line.
         None => rest.len(),
     }
 }
 
-/// The number that a piece of a line spells by digits, with or without a `-` before them. None if it isn't a value: these are -2^63 to 2^63 - 1.
+/// The number that a piece of a line spells by digits, with or without a `-` before them. None if it isn't a
+/// value: these are -2^63 to 2^63 - 1. 0 where it has no digits.
 pub fn number_of(text: &[u8]) -> Option<i64> {
     match text {
         // The sign comes before the test of the range: -2^63 is in it, and 2^63 isn't.
@@ -124,9 +126,9 @@ pub(crate) fn is_in_range(text: &[u8]) -> bool {
 pub struct Line<'a> {
     /// From left to right, without blanks and the comment.
     pub pieces: Vec<Piece<'a>>,
-    // The place of the piece that is looked at.
+    // The place of the piece that is looked at, from 0; from the number of pieces on the end is.
     at: usize,
-    // What stands behind the last piece.
+    // What stands behind the last piece: no bytes, right behind it.
     end: Piece<'a>,
 }
 
@@ -179,7 +181,7 @@ impl<'a> Line<'a> {
         self.pieces.get(self.at).copied().unwrap_or(self.end)
     }
 
-    /// The piece behind it.
+    /// The piece behind the one that is looked at, or the end.
     pub(crate) fn next(&self) -> Piece<'a> {
         let next = self.pieces.get(self.at.saturating_add(1));
         next.copied().unwrap_or(self.end)
@@ -188,6 +190,7 @@ impl<'a> Line<'a> {
     /// Whether a `.` or a name touches the number before it, as in `1.5` and `3ms`.
     pub(crate) fn lengthens_number(&self) -> bool {
         let here = self.here();
+        // Of the first piece this is the piece itself, which doesn't end where it begins.
         match self.pieces.get(self.at.saturating_sub(1)) {
             Some(before) => {
                 before.kind == Kind::Number
@@ -208,7 +211,7 @@ impl<'a> Line<'a> {
         self.here().text == text
     }
 
-    // Goes on behind this word or sign, or says what is wrong.
+    // Goes on behind this word or sign. If another piece is looked at the error is `wrong`, and the line stays there, as in all functions below.
     fn want(&mut self, text: &[u8], wrong: Wrong) -> Result<(), Wrong> {
         if self.is_here(text) {
             self.go();
@@ -218,7 +221,7 @@ impl<'a> Line<'a> {
         }
     }
 
-    // Goes on behind a number, `true`, `false` or `signal`.
+    // Goes on behind a number, `true`, `false` or `signal`. The error is `wrong`, or Range for a number that is no value.
     fn literal(&mut self, wrong: Wrong) -> Result<(), Wrong> {
         let here = self.here();
         if !is_one_of(here.text, CONSTANTS.as_slice()) {
@@ -284,7 +287,7 @@ impl<'a> Line<'a> {
         }
     }
 
-    // Goes on behind an answer with its time. A `never` with an `after` is looked at itself.
+    // Goes on behind an answer with its time. At a `never` with an `after` it goes back to the `never`, where the carets are to go.
     fn answer(&mut self) -> Result<(), Wrong> {
         if self.is_here(b"never") {
             self.go();
@@ -364,6 +367,7 @@ fn say_script_line(page: &mut Page, alloc: Global, document: &Document, number: 
         page.refuse();
         return;
     };
+    // The reader of scripts has refused the line, so something is wrong.
     if let Err(wrong) = line.whole() {
         let here = line.here();
         page.point(document, here.span);
@@ -380,13 +384,14 @@ fn say_wrong(page: &mut Page, wrong: Wrong, here: Piece) {
             page.say_number("over ", MOST_ARGUMENTS as u64, " patterns or ");
             page.grouped(MOST_ANSWERS as u64);
         }
+        // The words are all.
         _ => {}
     }
     page.say(words(wrong));
     page.say("\n");
 }
 
-// What to write instead.
+// What to write instead of the piece that is looked at. Where a fault's words say it already nothing follows.
 fn say_advice(page: &mut Page, document: &Document, wrong: Wrong, line: &Line) {
     let here = line.here();
     match wrong {
@@ -431,7 +436,7 @@ pub(crate) fn number_advice(here: Piece) -> &'static str {
     }
 }
 
-// How a site without arguments is written.
+// How a site without arguments is written. It is the first piece of the line, which a line with a missing bracket has.
 fn say_bare_site(page: &mut Page, site: Option<Piece>) {
     if let Some(site) = site {
         page.note("help: ");
@@ -439,7 +444,7 @@ fn say_bare_site(page: &mut Page, site: Option<Piece>) {
     }
 }
 
-// A hint that goes on where a name stands in the place of a value: with a sentence in which `%` is that name.
+// A hint: these words, and where a name stands in the place of a value also a sentence in which `%` is that name.
 fn say_named(page: &mut Page, words: &str, here: Piece, sentence: &str) {
     page.note("help: ");
     page.say(words);

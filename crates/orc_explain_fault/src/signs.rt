@@ -1,4 +1,6 @@
 //! Characters that begin no token (S2).
+//!
+//! A function `say_..` writes what its comment names at the end of `page`. A place `at` is a byte of the text, from 0.
 
 use crate::hint::{Hint, say_hint};
 use orc_lex::token::Span;
@@ -63,13 +65,13 @@ const HINTS: [(&[u8], &str); 22] = [
 // Two signs that are one in other languages, so that the carets go under both.
 const SIGN_PAIRS: [&[u8]; 5] = [b"//", b"/*", b"&&", b"->", b":="];
 
-// Whether such a pair begins at this byte.
+// Whether a pair of `SIGN_PAIRS` begins at this byte.
 fn is_pair(text: &[u8], at: usize) -> bool {
     let rest = text.get(at..).unwrap_or(b"");
     SIGN_PAIRS.iter().any(|pair| rest.starts_with(*pair))
 }
 
-// The end of the character that begins at this byte: the next byte that begins one.
+// The end of the character that begins at this byte: the next byte that begins one, or the text's end.
 fn character_end(text: &[u8], at: usize) -> usize {
     let rest = text.get(at..).unwrap_or(b"");
     let more = rest.get(1..).unwrap_or(b"");
@@ -104,7 +106,7 @@ fn hint(text: &[u8], at: usize) -> Option<&'static str> {
     }
 }
 
-// A character by itself, or by its number where it can't be shown.
+// A character by itself if it is printable ASCII, 33 to 126, or else by its number.
 fn say_character(page: &mut Page, bytes: &[u8]) {
     match bytes {
         [33..=126, ..] => page.say_word("`", bytes, "`"),
@@ -120,6 +122,7 @@ fn say_unshown(page: &mut Page, bytes: &[u8]) {
             page.say("the character U+");
             page.code(code);
         }
+        // Bytes that aren't UTF-8 have no number.
         None => page.say("this character"),
     }
 }

@@ -1,4 +1,6 @@
 //! Faults of a source's text (S1 to S8).
+//!
+//! A function `say_..` writes what its comment names at the end of `page`. A place `at` is a byte of the text, from 0.
 
 use crate::hint::say_hint;
 use crate::signs::say_stray;
@@ -10,7 +12,7 @@ use orc_rules::limits::LONGEST_SOURCE;
 use orc_syntax::SyntaxFault;
 use std::alloc::Global;
 
-/// Which numbers are values.
+/// Which numbers are values, in words: those of 64 bits with a sign.
 pub(crate) const VALUES: &str = "-9223372036854775808 to 9223372036854775807";
 
 // What the parser expected. Of an operator's second sign the first one, two tokens before, says which it is.
@@ -64,7 +66,7 @@ pub(crate) fn say_out_of_range(page: &mut Page, document: &Document, span: Span)
     page.expected(VALUES);
 }
 
-// S7: a `{-` that isn't closed.
+// S7: a `{-` that isn't closed. The carets go under its two bytes.
 fn say_comment(page: &mut Page, document: &Document, at: usize) {
     let end = at.saturating_add(2);
     page.point(document, Span { start: at, end });
@@ -99,7 +101,7 @@ fn say_end(page: &mut Page, document: &Document, last: Option<Token>, at: usize)
     page.say("the text ends here\n");
 }
 
-// S5: a bracket, a `val` or an operator too many.
+// S5: a bracket, a `val` or an operator too many. The numbers are one more than `MOST_BRACKETS` and `MOST_OPERATORS` allow.
 fn say_deep(page: &mut Page, document: &Document, at: usize) {
     let span = span_at(document.text, at);
     page.point(document, span);
@@ -115,7 +117,7 @@ fn say_deep(page: &mut Page, document: &Document, at: usize) {
     }
 }
 
-/// The name of a file that is too long, and how many bytes it may have at most. The caller ends the line.
+/// The name of a file that is too long, and how many bytes it may have (`most`). The caller ends the line.
 pub(crate) fn say_most(page: &mut Page, document: &Document, most: u64) {
     page.say(" --> ");
     page.path(document.name);

@@ -1,4 +1,4 @@
-//! Faults of a test's text (T1 to T6).
+//! Faults of a test's text (T1 to T6), each explained in the file of its kind.
 
 use crate::syntax::{say_long, say_refused};
 use crate::test_line::say_line;
@@ -11,7 +11,7 @@ use orc_rules::limits::LONGEST_SOURCE;
 use orc_ways::fault::TestFault;
 use std::alloc::{AllocError, Global};
 
-// Each fault's explanation is in the file of its kind.
+// Writes the explanation of a fault at the end of the page. `others` is as in `explain_test`, and lines are counted from 1.
 fn say_test(
     page: &mut Page,
     alloc: Global,

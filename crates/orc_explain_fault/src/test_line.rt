@@ -1,4 +1,6 @@
 //! Lines of a test that have none of its forms (T1). `grammar.rt` finds where such a line goes wrong.
+//!
+//! A function `say_..` writes what its comment names at the end of `page`.
 
 use crate::grammar::{Place, Walk};
 use crate::script::{COMMENT, Kind, Line, Piece, is_in_range, number_advice};
@@ -97,7 +99,7 @@ fn say_wanted(page: &mut Page, alloc: Global, line: &Line, walk: Walk) {
     }
 }
 
-// What to write instead, if that is known: by a number before it, by the place, or else by the word.
+// What to write instead of the piece that is looked at: by a number before it, by the place, or else by the word. None where that isn't known.
 fn advice(line: &Line, walk: Walk) -> Option<&'static str> {
     let here = line.here();
     if line.lengthens_number() && !here.text.starts_with(b".") {
@@ -112,7 +114,7 @@ fn advice(line: &Line, walk: Walk) -> Option<&'static str> {
     said_of(here.text, WORDS.as_slice())
 }
 
-// What to write instead of a piece at a place where it can't stand.
+// What to write instead of a piece at a place where it can't stand. None where the place says nothing of it.
 fn place_advice(here: Piece, place: Place) -> Option<&'static str> {
     match place {
         Place::Bracket => Some(
@@ -149,7 +151,7 @@ fn is_of_range(here: Piece) -> bool {
     }
 }
 
-// The first range whose second number is less than its first.
+// The bytes of the first range whose second number is less than its first. None where there is none.
 fn backwards(pieces: &[Piece]) -> Option<Span> {
     for at in 0..pieces.len() {
         if let [low, dots, high, ..] = pieces.get(at..).unwrap_or(pieces) {
@@ -164,7 +166,7 @@ fn backwards(pieces: &[Piece]) -> Option<Span> {
     None
 }
 
-// Whether a number is less than another. False where one is out of range.
+// Whether a number is less than another. False where one has over 64 bits.
 fn is_less(one: &[u8], other: &[u8]) -> bool {
     match (digits_at(one), digits_at(other)) {
         (Some((one, _)), Some((other, _))) => one < other,
@@ -172,7 +174,7 @@ fn is_less(one: &[u8], other: &[u8]) -> bool {
     }
 }
 
-// The first piece that is this word or sign.
+// The first piece that is this word or sign. None where there is none.
 fn first_of<'a>(line: &Line<'a>, word: &[u8]) -> Option<Piece<'a>> {
     for piece in line.pieces.iter() {
         if piece.is(word) {

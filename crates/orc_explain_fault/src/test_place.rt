@@ -1,4 +1,7 @@
 //! Lines of a test that can't stand where they do (T4): in the wrong section, a second section of a name, or one line too many.
+//!
+//! A function `say_..` writes what its comment names at the end of `page`. The numbers of lines too many are one more than those of
+//! `orc_ways::limits`.
 
 use crate::outline::{Head, Outline, Outlined};
 use crate::script::{Line, Piece};
@@ -19,6 +22,7 @@ pub(crate) fn say_place(page: &mut Page, alloc: Global, document: &Document, num
         page.refuse();
         return;
     };
+    // Not None: a blank line has no fault.
     let Some(head) = outline.at(number) else {
         return;
     };
@@ -37,7 +41,7 @@ pub(crate) fn say_place(page: &mut Page, alloc: Global, document: &Document, num
     }
 }
 
-/// The bytes of a line's pieces, from the first to the last.
+/// The bytes of a line's pieces, from the first to the last; an empty span at the text's beginning where there are none.
 pub(crate) fn span_of(pieces: &[Piece]) -> Span {
     match pieces {
         [only] => only.span,
@@ -75,7 +79,7 @@ fn say_misplaced(page: &mut Page, head: Head, section: Option<Outlined>) {
     page.help(help);
 }
 
-// A second section of its name, or a case too many.
+// A second section of its name, if an earlier line begins one; otherwise a case too many.
 fn say_second_section(page: &mut Page, outline: &Outline, number: usize, head: Head) {
     match outline.first(head) {
         Some(first) if first < number => {

@@ -1,4 +1,6 @@
 //! Sites in a claim for which no service of the test answers, nor the script beside it (T5).
+//!
+//! A function `say_..` writes what its comment names at the end of `page`. `others` is the table of the built-in sites and the script.
 
 use crate::outline::{Head, Outline, arguments};
 use crate::scope::near_site;
@@ -35,6 +37,7 @@ pub(crate) fn say_unknown(
         page.refuse();
         return;
     };
+    // Of each piece that is a site, its arguments are counted. The fault says that there is one that isn't known.
     for (at, piece) in line.pieces.iter().enumerate() {
         let pieces = line.pieces.get(at..).unwrap_or(&[]);
         if let Some(count) = arguments(pieces) {
@@ -68,7 +71,8 @@ fn near_service<'a>(
     meant
 }
 
-// With how many arguments the first service of a name stands in the test, and in which line: whether there is one.
+// Writes with how many arguments the first service of a name stands in the test, and in which line. False if there is none, and then nothing is
+// written.
 fn say_other_arguments(page: &mut Page, outline: &Outline, name: &[u8]) -> bool {
     let Some((line, count)) = outline.service(name) else {
         return false;

@@ -1,4 +1,5 @@
-//! Cases with too many ways (T6). A way is one choice among all that the case's services may do.
+//! Cases with too many ways (T6). A way is one choice among all that the case's services may do. A test without a case has one that is called
+//! `given`: where a function takes a case by its place, from 0, None stands for that one.
 
 use crate::script::Line;
 use crate::test_place::span_of;
@@ -47,7 +48,7 @@ fn is_of(test: &Test, case: Option<usize>, line: &ServiceLine) -> bool {
     true
 }
 
-// Whether two services have the same name and the same patterns.
+// Whether two services have the same name and the same patterns, so that the one of a case replaces the other.
 fn is_same(one: &Service, other: &Service) -> bool {
     one.name == other.name && one.patterns.as_slice() == other.patterns.as_slice()
 }
@@ -66,7 +67,8 @@ fn widest<'a>(test: &Test<'a>, case: Option<usize>) -> Option<(&'a [u8], u64)> {
     found
 }
 
-/// The case that begins in the line with this number, from 1, and which of its services has most ways.
+/// Writes that the case which begins in the line with this number, from 1, has too many ways, and which of its services has most. `others` is the
+/// table beside which the test was read.
 pub(crate) fn say_ways(
     page: &mut Page,
     alloc: Global,
@@ -79,6 +81,7 @@ pub(crate) fn say_ways(
         return;
     };
     page.point(document, span_of(line.pieces.as_slice()));
+    // The number is `MOST_WAYS`.
     page.say("this case has over 1,000,000 ways\n");
     // The test was read before this fault was found: only memory can be refused here.
     let Ok(test) = read_test(alloc, document.text, others) else {

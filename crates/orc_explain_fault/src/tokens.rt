@@ -8,14 +8,14 @@ use std::alloc::{AllocError, Global};
 /// The tokens of a source up to a place, and the one that begins there.
 #[derive(Drop)]
 pub(crate) struct Tokens<'a> {
-    /// Those before the place.
+    /// Those before the place, from left to right.
     pub before: Vec<Token<'a>>,
     /// The token at the place. None at the end of the text, or where none begins there.
     pub here: Option<Token<'a>>,
 }
 
 impl<'a> Tokens<'a> {
-    /// The tokens of a source as far as they can be read, up to a place. The error is refused memory.
+    /// The tokens of a source as far as they can be read, up to the byte at `place`, from 0. The error is refused memory.
     pub(crate) fn new(
         alloc: Global,
         text: &'a [u8],
@@ -32,7 +32,7 @@ impl<'a> Tokens<'a> {
     // A comment and blanks are no tokens. What can't be read ends the tokens.
     fn read(&mut self, text: &'a [u8], place: usize) -> Result<(), AllocError> {
         let mut at: usize = 0;
-        // Each piece has a byte at least.
+        // Each piece has a byte at least, so there are no more pieces than bytes.
         for _piece in 0..text.len() {
             if at >= text.len() || at > place {
                 return Ok(());
@@ -53,14 +53,14 @@ impl<'a> Tokens<'a> {
         Ok(())
     }
 
-    /// The n-th token before the place: the last one is the first. None where there are fewer.
+    /// The n-th token before the place, counted from 1, the last one. None for 0, and where there are fewer.
     pub(crate) fn back(&self, n: usize) -> Option<Token<'a>> {
         let at = self.before.len().checked_sub(n)?;
         self.before.get(at).copied()
     }
 }
 
-/// Writes what kind a token is of, and its text.
+/// Writes what kind a token is of, and its text: `the name `x``; a sign has no kind.
 pub(crate) fn say_token(page: &mut Page, document: &Document, token: &Token) {
     let before = match token.kind {
         Kind::Name(_) => "the name `",

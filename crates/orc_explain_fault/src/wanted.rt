@@ -1,7 +1,7 @@
 //! What may have been meant where a token can't stand (S4).
 //!
 //! The place is that of the fault: `here` is the token at it, `back(1)` the one before it. An empty text stands for no token. `What` is what the
-//! parser expected there.
+//! parser expected there. A function that gives an `Option` of a hint or of words gives None where it has nothing to say.
 
 use crate::hint::Hint;
 use crate::tokens::Tokens;
@@ -75,7 +75,7 @@ const PAIRS: [(&[u8], &[u8], &str); 4] = [
 /// Pairs of signs round a name that point different ways.
 const CROSSED: [(&[u8], &[u8]); 4] = [(b">", b"<"), (b">", b"<<"), (b"<", b">"), (b"<", b">>")];
 
-// Whether these are such a pair.
+// Whether the signs before and behind a name point different ways.
 fn are_crossed(first: &[u8], second: &[u8]) -> bool {
     CROSSED
         .iter()
@@ -154,7 +154,7 @@ impl<'a> Around<'_, 'a> {
         self.text.get(span.start..span.end).unwrap_or(b"")
     }
 
-    // The text of the token at the place, nothing at the end.
+    // The text of the token at the place, empty at the end of the source.
     fn here(&self) -> &'a [u8] {
         match self.tokens.here {
             Some(token) => self.text_of(token),
@@ -162,7 +162,7 @@ impl<'a> Around<'_, 'a> {
         }
     }
 
-    // The text of the n-th token before the place.
+    // The text of the n-th token before the place, from 1, the last one; empty where there are fewer.
     fn back(&self, n: usize) -> &'a [u8] {
         match self.tokens.back(n) {
             Some(token) => self.text_of(token),
@@ -170,7 +170,7 @@ impl<'a> Around<'_, 'a> {
         }
     }
 
-    // The bracket that was opened last of those that are still open.
+    // The bracket that was opened last of those that are still open at the place. None where none is.
     fn open_bracket(&self) -> Option<Token<'a>> {
         let mut closed: usize = 0;
         for token in self.tokens.before.iter().rev() {
@@ -196,6 +196,7 @@ impl<'a> Around<'_, 'a> {
             }
             match closed_before(closed, token.kind) {
                 Some(more) => closed = more,
+                // Here the brackets round the place begin, and no `val` stands in them.
                 None => return false,
             }
         }
@@ -217,11 +218,11 @@ impl<'a> Around<'_, 'a> {
     }
 
     // The last name with blanks and then a `(` behind it: it reads as a call, though its writer may have meant two expressions. A name with a line's
-    // end before the `(` takes precedence. The name behind `def` doesn't count.
+    // end before the `(` takes precedence. The name behind `def` doesn't count. None where there is none.
     fn loose_call(&self) -> Option<Token<'a>> {
         let mut found: Option<Token<'a>> = None;
         let mut over_lines: Option<Token<'a>> = None;
-        // Whether `before` follows a `def`.
+        // Whether the token in `before` follows a `def`.
         let mut is_defined = false;
         let mut before: Option<Token<'a>> = None;
         for token in self.tokens.before.iter() {
