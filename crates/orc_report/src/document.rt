@@ -10,19 +10,19 @@ pub struct Document<'a> {
 }
 
 impl<'a> Document<'a> {
-    /// The bytes of a part of the text; empty where the text has no such part.
+    /// The bytes of a part of the text; empty where it goes beyond the text's end.
     pub fn part(&self, span: Span) -> &'a [u8] {
         let part = self.text.get(span.start..span.end);
         part.unwrap_or(b"")
     }
 
-    /// The bytes of the line with this number, from 1, without its LF; an empty span at the text's end where there are fewer lines.
+    /// The span of the line with this number, from 1, without its LF; an empty span at the text's end where there are fewer lines.
     pub fn line(&self, number: usize) -> Span {
         part_at(self.text, b'\n', number.saturating_sub(1))
     }
 }
 
-/// The bytes of the part with this number, from 0, of a text that `divider` bytes cut into parts, as line feeds cut a text into lines. An empty span
+/// The span of the part with this number, from 0, of a text that `divider` bytes cut into parts, as line feeds cut a text into lines. An empty span
 /// at the text's end where there are fewer parts.
 pub fn part_at(text: &[u8], divider: u8, number: usize) -> Span {
     let mut part: usize = 0;

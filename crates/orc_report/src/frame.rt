@@ -7,7 +7,8 @@
 //!   |        ^
 //! ```
 //!
-//! The bar `|` stands behind the gutter, which is as wide as the line's number. Columns are characters.
+//! The bar `|` stands behind the gutter, which is as wide as the line's number. Columns are characters. Of a long line 100 columns are shown, at most
+//! 60 of them before the place that is pointed at; `first` is how many columns are left out in front, `left_out` of the pointed column.
 
 ghost use Rattle.std.specs.Prelude.{◌≤◌, ◌<◌, ◌^◌, ◌-◌};
 
@@ -16,7 +17,7 @@ use crate::page::Page;
 use crate::place::{begins_character, characters, place_of};
 use orc_lex::token::Span;
 
-/// How many columns of a line are shown.
+/// How many columns of a line are shown at most.
 const SHOWN: u64 = 100;
 
 /// How many columns before the place that is pointed at are shown at most.
@@ -50,6 +51,7 @@ pub fn digits(number: u64) -> u64
     ensures least { 1 < result → 10 ^ (result - 1) ≤ number }
 {
     match number.checked_ilog10() {
+        // The logarithm, rounded down, is one less than the digits. 0 has none, and one digit.
         Some(tens) => tens as u64 + 1,
         None => 1,
     }
@@ -67,7 +69,7 @@ impl Page {
         self.fill(' ', self.gutter);
     }
 
-    /// Makes room at the left for numbers as wide as this one, which is to be the greatest that is shown. Without it there is room for one digit.
+    /// Makes room at the left for numbers as wide as this one, the greatest that will be shown. Until it is called there is room for one digit.
     pub fn widen(&mut self, number: u64) {
         self.gutter = digits(number);
     }
@@ -86,7 +88,8 @@ impl Page {
     }
 
     // Writes the columns of a line without its `first` ones: a blank before them, or ` ..` if columns are left out. The byte at `place` is a column
-    // of its own, even in the middle of a character: a fault may be there. Blanks wait until something follows them, so no line ends with one.
+    // of its own, even in the middle of a character: a fault may be there. Blanks are counted, and written before what follows them, so no line ends
+    // with one. Of a character of several bytes the first is written, as `?`.
     fn columns(&mut self, line: &[u8], first: u64, place: usize) {
         let mut blanks: u64 = 1;
         if first > 0 {
@@ -94,6 +97,7 @@ impl Page {
             blanks = 0;
         }
         let mut column: u64 = 0;
+        // The last column that is shown, counted from 1.
         let last = first.saturating_add(SHOWN);
         for (at, byte) in line.iter().enumerate() {
             if begins_character(*byte) || at == place {
@@ -140,6 +144,7 @@ impl Page {
         let before = before.saturating_add(blanks);
         self.fill(' ', before.saturating_sub(first));
         let end = part.end.min(line.len());
+        // At least one caret, and none beyond the last column that is shown.
         let under = characters(line.get(part.start..end).unwrap_or(b"")) as u64;
         let room = first.saturating_add(SHOWN).saturating_sub(before);
         self.fill('^', under.min(room).max(1));

@@ -9,12 +9,14 @@ use std::fmt;
 /// The longest word that is shown whole, in bytes.
 const LONGEST_WORD: usize = 100;
 
-/// A text that is being written. Once memory for a piece is refused, nothing more is written, and `finish` answers that error.
+/// A text that is being written. Once memory for a piece is refused, nothing more is written, and `finish` gives that error: so no other method has
+/// one.
 #[derive(Drop)]
 pub struct Page {
     text: String,
+    // Whether memory was refused.
     is_refused: bool,
-    /// How many columns the numbers of lines take that stand at the left.
+    /// How many columns the numbers of lines take that stand at the left of shown lines.
     pub(crate) gutter: u64,
 }
 
@@ -52,8 +54,9 @@ impl Page {
         self.text.len()
     }
 
-    /// Takes back what stands behind the first `len` bytes; nothing where there are no more.
+    /// Takes back what stands behind the first `len` bytes, which are to be whole characters; nothing where there are no more.
     pub fn truncate(&mut self, len: usize) {
+        // A turn takes one character off the end, so there are no more turns than bytes.
         for _byte in len..self.text.len() {
             if self.text.len() > len {
                 let _sign = self.text.pop();
@@ -159,7 +162,7 @@ impl Page {
         }
     }
 
-    /// One character so many times.
+    /// One character, `times` times.
     pub fn fill(&mut self, sign: char, times: u64) {
         for _time in 0..times {
             self.sign(sign);
@@ -176,7 +179,7 @@ impl Page {
         self.sign(shown as char);
     }
 
-    /// A word of a text. What is beyond its first 100 bytes is left out.
+    /// A word of a text. What is beyond its first 100 bytes is left out, and `..` stands for it.
     pub fn word(&mut self, word: &[u8]) {
         for byte in word.iter().take(LONGEST_WORD) {
             self.byte(*byte);

@@ -15,14 +15,14 @@ pub struct Place {
     pub start: usize,
 }
 
-/// Whether a byte of UTF-8 begins a character. Each further byte of a character is from 128 to 191.
+/// Whether a byte of UTF-8 begins a character: each further byte of a character is from 128 to 191.
 pub fn begins_character(byte: u8) -> bool
     ensures { result ≡ begins_character byte }
 {
     byte < 128 || byte >= 192
 }
 
-// Where the line of a byte begins.
+// Where the line of the byte at `at`, or of the text's end, begins: behind the last LF before it, or at 0.
 fn line_start(text: &[u8], at: usize) -> usize
     requires { at ≤ length text.now }
     ensures { BeginsLine text.now result at }

@@ -31,6 +31,7 @@ pub enum Fill<'a> {
 impl Page {
     /// Writes a sentence in ASCII, with the next fill in place of each `%`. A `%` without a fill is left out, and so is a fill without a `%`.
     pub fn tell(&mut self, sentence: &str, fills: &[Fill]) {
+        // The place in `fills` of the next one.
         let mut next: usize = 0;
         for byte in sentence.as_bytes() {
             if *byte != b'%' {

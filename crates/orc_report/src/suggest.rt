@@ -18,10 +18,12 @@ const LONG: usize = 6;
 pub struct Near<'n> {
     alloc: Global,
     name: &'n [u8],
-    // A name is taken only if it is at most so many edits away. Each one that is taken lowers it.
+    // A name is taken only if it is at most so many edits away. Each one that is taken lowers it to one less than its own edits.
     most: usize,
-    // Whether a name that differs in capitals alone may still be taken.
+    // Whether any name may still be taken. False for a name that is too long, once one that differs in capitals alone was taken, and after refused
+    // memory.
     is_open: bool,
+    // Whether memory was refused to a comparison.
     is_refused: bool,
 }
 
@@ -42,8 +44,8 @@ fn are_alike(a: &[u8], b: &[u8]) -> bool {
             .all(|(x, y)| x.to_ascii_lowercase() == y.to_ascii_lowercase())
 }
 
-// How many edits lead from one name to the other: a letter put in, taken out or changed, or two that change places. None where they are no
-// UTF-8.
+// How many edits lead from one name to the other: a letter put in, taken out or changed, or two that change places. None where one of
+// them is no UTF-8. The error is refused memory.
 fn edits(alloc: Global, a: &[u8], b: &[u8]) -> Result<Option<usize>, AllocError> {
     match (str::from_utf8(a), str::from_utf8(b)) {
         (Ok(a), Ok(b)) => Ok(Some(osa_distance(alloc, a, b)?)),
@@ -60,6 +62,7 @@ impl<'n> Near<'n> {
         let most = match name.len() {
             0 | 1 => 0,
             LONG..=LONGEST => 2,
+            // From 2 bytes up to 5. A name of over 64 bytes has 1 too, but the search isn't open for it.
             _ => 1,
         };
         Near {
@@ -76,6 +79,7 @@ impl<'n> Near<'n> {
     pub fn takes(&mut self, candidate: &[u8]) -> bool
         ensures { self.new ≤ self.old }
     {
+        // The name itself is no suggestion.
         if !self.is_open || candidate == self.name {
             return false;
         }

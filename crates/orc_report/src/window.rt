@@ -16,7 +16,7 @@ const BEFORE: usize = 34;
 pub struct Window {
     pub first: usize,
     pub end: usize,
-    /// Whether something that isn't shown stands before them, and behind them.
+    /// Whether something that isn't shown stands before these columns (`is_front_cut`), and behind them (`is_end_cut`).
     pub is_front_cut: bool,
     pub is_end_cut: bool,
 }

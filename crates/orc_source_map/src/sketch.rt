@@ -1,7 +1,8 @@
 //! A program's tree as numbered spots, in which each expression argument is a pruning round its call.
 //!
 //! A spot is the number, from 0, of a part of the program: of a node of its tree, or of the pruning that an argument is written out as. The parser
-//! lists the nodes of an expression with each operator behind its parts, so that a stack of pending parts is all that is needed to read them.
+//! lists the nodes of an expression with each operator behind its parts, so that a stack of pending parts is all that is needed to read them. In all
+//! functions that have one, the error is refused memory.
 
 use orc_lex::token::{Plain, Span};
 use orc_syntax::{Ast, Expr, Name, Node, Operator, Part};
@@ -41,7 +42,7 @@ pub enum Shape<'a> {
 struct Pending {
     spot: usize,
     span: Span,
-    // Whether it is a value or a variable: as an argument of a call it needs no pruning.
+    // Whether it is a value or a variable: as an argument of a call it needs no pruning. False for `stop`.
     is_simple: bool,
 }
 
@@ -62,7 +63,7 @@ pub struct Sketch<'a> {
     spans: Vec<Span>,
     // The places of the definitions by their names.
     definitions: HashMap<&'a [u8], usize>,
-    // The spots of the definitions' bodies, and last that of the main expression.
+    // The spots of the definitions' bodies, in their order, and last that of the main expression.
     bodies: Vec<usize>,
     // The parts that nothing has taken yet, the last one on top. Empty once the program is read.
     pending: Vec<Pending>,
@@ -117,7 +118,7 @@ impl<'a> Sketch<'a> {
         self.bodies.last().copied().unwrap_or(0)
     }
 
-    // The definitions' names come first, since a body may call a later definition.
+    // Reads the definitions and the main expression. The definitions' names come first, since a body may call a later definition.
     fn read(&mut self, ast: &Ast<'a>) -> Result<(), AllocError> {
         for (i, definition) in ast.definitions.iter().enumerate() {
             self.definitions.insert(definition.name.text, i)?;
@@ -128,7 +129,7 @@ impl<'a> Sketch<'a> {
         self.read_expression(&ast.main)
     }
 
-    // Reads an expression. Its nodes become spots, and the spot of the whole expression is left pending.
+    // Reads an expression. Its nodes become spots, and the spot of the last node, the whole expression, is added to the bodies.
     fn read_expression(&mut self, expression: &Expr<'a>) -> Result<(), AllocError> {
         for node in &expression.nodes {
             self.read_node(*node)?;
@@ -168,8 +169,10 @@ impl<'a> Sketch<'a> {
         }
     }
 
-    // Reads a call. Each argument that is an expression becomes a pruning round the call, the first argument's innermost.
+    // Reads a call of `count` arguments, which are the last pending parts. Each one that is an expression becomes a pruning round the call, that of
+    // the first one innermost. What is left pending in their place is the outermost pruning, or the call.
     fn read_call(&mut self, name: Name<'a>, count: usize, span: Span) -> Result<(), AllocError> {
+        // Where the arguments begin among the pending parts.
         let first = self.pending.len().saturating_sub(count);
         let definition = self.definitions.get(name.text).copied();
         let mut spot = self.add(Shape::Call(definition), span)?;
@@ -185,8 +188,8 @@ impl<'a> Sketch<'a> {
         Ok(())
     }
 
-    // The spot of the pruning of an argument, by its place from 0, round `call`; that of `call` itself where the argument is simple. `first` is where
-    // the call's arguments begin among the pending parts.
+    // The spot of the pruning of an argument, by its place from 0, round the spot `call`; that spot itself where the argument is simple. `first` is
+    // where the call's arguments begin among the pending parts. `name` and `span` are the call's.
     fn wrap(
         &mut self,
         call: usize,
@@ -197,6 +200,7 @@ impl<'a> Sketch<'a> {
     ) -> Result<usize, AllocError> {
         match self.pending.get(first.saturating_add(place)).copied() {
             Some(argument) if !argument.is_simple => {
+                // `Purpose` counts arguments from 1.
                 let purpose = Purpose::Argument(place.saturating_add(1), name);
                 self.add(Shape::Prune(call, argument.spot, purpose), span)
             }
@@ -212,7 +216,7 @@ impl<'a> Sketch<'a> {
         Ok(spot)
     }
 
-    // Adds a spot, which is pending then.
+    // Adds a spot, and puts it on top of the pending parts.
     fn put(&mut self, shape: Shape<'a>, span: Span, is_simple: bool) -> Result<(), AllocError> {
         let spot = self.add(shape, span)?;
         self.pending.push(Pending {

@@ -2,8 +2,12 @@
 //!
 //! A token has a spot, and a step: which sides enclose it in the running term. One spot can have many steps, since a definition's body and the right
 //! side of a `>x>` run again and again. A `|`, the left side of a pruning and a call of a definition make no step: they change nothing about what
-//! takes a publication. Here `mark` is the number by which a journal names a token or an otherwise; `first` and `second` are the marks of the
-//! tokens that an entry brings.
+//! takes a publication. Here `mark` is the number by which a journal names a token or an otherwise; `first` and `second` are the marks of the tokens
+//! that an entry brings; in entries `s`, `a` and `b` are marks, `k` is the number of a call and `c` that of a cell. A `spot` is a number of the
+//! sketch.
+//!
+//! The entries are those of a run by the rules, so each token stands on what its entry needs: where a function finds another shape, no such token or
+//! no such call, it only spares a proof and adds nothing. The error of each function is refused memory.
 
 use crate::sketch::{Shape, Sketch};
 use orc_rules::entry::Entry;
@@ -13,7 +17,7 @@ use std::collections::HashMap;
 /// Into which side a step leads.
 #[derive(Clone, Copy)]
 pub enum Way {
-    /// The left side of a `>x>`, whose right side is at this spot.
+    /// The left side of a `>x>`, with the spot of its right side.
     SeqLeft(usize),
     /// The right side of the pruning of this cell.
     PruneRight(u64),
@@ -33,7 +37,7 @@ pub struct Step {
     pub home: usize,
 }
 
-/// A token: its spot, or else the number of the call on whose answer it stands, which is at no spot; and its step.
+/// A token: its spot, or else the number of the call on whose answer it stands, which is at no spot; and the number of its step, 0 for none.
 #[derive(Clone, Copy)]
 pub struct Token {
     pub spot: Option<usize>,
@@ -41,7 +45,7 @@ pub struct Token {
     pub step: usize,
 }
 
-// An otherwise whose left side was entered: the spot of its right side, and the step round both.
+// An otherwise whose left side was entered: the spot of its right side, and the number of the step round both.
 #[derive(Clone, Copy)]
 struct Entered {
     right: usize,
@@ -55,8 +59,9 @@ pub struct Trail {
     tokens: HashMap<u64, Token>,
     // The otherwises whose right sides haven't begun, by their marks.
     others: HashMap<u64, Entered>,
-    // The step of each pending call, by its number.
+    // The number of the step of each pending call, by the call's number.
     calls: HashMap<u64, usize>,
+    // Step 1 first. None is taken out, so numbers stay what they are.
     steps: Vec<Step>,
 }
 
@@ -85,7 +90,7 @@ impl Trail {
         Ok(trail)
     }
 
-    /// The token of a mark. None where there is none, or its entry has used it up.
+    /// The token of a mark. None where there is none, or an entry has used it up.
     pub fn token(&self, mark: u64) -> Option<Token> {
         self.tokens.get(&mark).copied()
     }
@@ -144,7 +149,7 @@ impl Trail {
         }
     }
 
-    // Both sides of a `|` stay in the token's step.
+    // `fork`: both sides of a `|` stay in the token's step.
     fn fork(
         &mut self,
         sketch: &Sketch,
@@ -161,7 +166,7 @@ impl Trail {
         Ok(())
     }
 
-    // A token enters the left side of a `>x>`.
+    // `seq`: a token enters the left side of a `>x>`.
     fn enter_left(&mut self, sketch: &Sketch, mark: u64, first: u64) -> Result<(), AllocError> {
         let shape = self.shape(sketch, mark);
         let step = self.take(mark);
@@ -172,7 +177,7 @@ impl Trail {
         Ok(())
     }
 
-    // A token enters the left side of an otherwise, which keeps its mark.
+    // `other`: a token enters the left side of an otherwise, which keeps the token's mark as its own.
     fn enter_first(&mut self, sketch: &Sketch, mark: u64, first: u64) -> Result<(), AllocError> {
         let shape = self.shape(sketch, mark);
         let outer = self.take(mark);
@@ -184,7 +189,7 @@ impl Trail {
         Ok(())
     }
 
-    // A pruning is opened: a token each for its left and its right side.
+    // `open`: a token each for the left and the right side of a pruning. Only the right one is in a new step.
     fn open(
         &mut self,
         sketch: &Sketch,
@@ -203,7 +208,7 @@ impl Trail {
         Ok(())
     }
 
-    // A call of a definition becomes its body.
+    // `def`: a call of a definition becomes its body.
     fn define(&mut self, sketch: &Sketch, mark: u64, first: u64) -> Result<(), AllocError> {
         let shape = self.shape(sketch, mark);
         let step = self.take(mark);
@@ -213,7 +218,7 @@ impl Trail {
         Ok(())
     }
 
-    // A publication goes to the right side of a `>x>`, a copy of which begins.
+    // `send`: a publication goes to the right side of a `>x>`, a copy of which begins.
     fn send(&mut self, mark: u64, first: u64) -> Result<(), AllocError> {
         let step = self.take(mark);
         if let Some((right, outer)) = self.taker(step) {
@@ -222,14 +227,14 @@ impl Trail {
         Ok(())
     }
 
-    // A token becomes a pending call.
+    // `call`: a token becomes a pending call.
     fn call(&mut self, mark: u64, number: u64) -> Result<(), AllocError> {
         let step = self.take(mark);
         self.calls.insert(number, step)?;
         Ok(())
     }
 
-    // A call returns with a value, on which a token stands.
+    // `return` with a value: a token stands on it.
     fn answer(&mut self, call: u64, first: u64) -> Result<(), AllocError> {
         if let Some(step) = self.calls.remove(&call) {
             let token = Token {
@@ -242,7 +247,7 @@ impl Trail {
         Ok(())
     }
 
-    // The left side of an otherwise has halted: a token stands on the right one.
+    // `right`: the left side of an otherwise has halted, and a token stands on the right one.
     fn resume(&mut self, mark: u64, first: u64) -> Result<(), AllocError> {
         if let Some(entered) = self.others.remove(&mark) {
             let inner = self.add_step(Way::Then(mark), entered.outer)?;
@@ -251,12 +256,13 @@ impl Trail {
         Ok(())
     }
 
-    // What takes a publication from inside a step: the spot of the right side of the nearest `>x>` round it, and the step round that `>x>`. None
-    // where it is the right side of a pruning, or nothing.
+    // What takes a publication from inside the step of this number: the spot of the right side of the nearest `>x>` round it, and the number of
+    // the step round that `>x>`. None where the right side of a pruning takes it, or nothing in the whole does.
     fn taker(&self, from: usize) -> Option<(usize, usize)> {
         let mut number = from;
         // Each turn goes one step outwards, so there are no more turns than steps.
         for _step in 0..self.steps.len() {
+            // There is no step 0: nothing more is round it.
             let step = self.step(number)?;
             match step.way {
                 Way::SeqLeft(right) => return Some((right, step.outer)),
@@ -278,7 +284,7 @@ impl Trail {
         Ok(())
     }
 
-    // An entry uses up a token's mark: the token's step, or 0 where there is no such token.
+    // Takes away the token of a mark, which an entry uses up, and gives the number of its step; 0 where there is no such token.
     fn take(&mut self, mark: u64) -> usize {
         match self.tokens.remove(&mark) {
             Some(token) => token.step,
@@ -286,11 +292,12 @@ impl Trail {
         }
     }
 
-    // Adds a step from `outer` inwards, and gives its number.
+    // Adds a step from the step of the number `outer` inwards, and gives its number.
     fn add_step(&mut self, way: Way, outer: usize) -> Result<usize, AllocError> {
         let number = self.steps.len().saturating_add(1);
         let home = match way {
             Way::SeqLeft(_) => self.step(outer).map_or(0, |step| step.home),
+            // Into a pruning or an otherwise: `Step::home`.
             _ => number,
         };
         self.steps.push(Step { way, outer, home })?;
