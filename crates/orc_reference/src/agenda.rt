@@ -1,4 +1,5 @@
-//! What can come next in a run: the tokens that can move, in the order of their turns, and the calls by their due times.
+//! What can come next in a run: the tokens that can move, in the order of their turns, and the calls by their due times. A token is given by its
+//! mark, a call and a cell by their numbers.
 
 use crate::reference::{Choice, Turns};
 use orc_checker::{Marked, Side};
@@ -22,16 +23,16 @@ struct Turn {
 /// the list of each cell for which it waits, since a call can move as soon as one of its arguments is void, whichever that is.
 #[derive(Drop)]
 pub struct Agenda {
-    /// The queue of tokens that may be able to move, the next one first. Marks whose tokens are gone are skipped.
+    /// The queue of tokens that may be able to move, the next one first. A token that a bind has dropped stays in it: its turn is skipped.
     tokens: VecDeque<Turn>,
-    /// For each cell the tokens that wait for it.
+    /// For each cell the tokens that wait for it, those that began to wait first in front.
     waiting: BTreeMap<u64, Vec<u64>>,
     /// The due time and the number of each call that has one, the least first.
     due: BinaryHeap<Reverse<(u64, u64)>>,
 }
 
 impl Agenda {
-    /// The agenda of a run's beginning: token 1.
+    /// The agenda of a run's beginning: token 1. The error is refused memory.
     pub fn new(alloc: Global) -> Result<Agenda, AllocError> {
         let mut tokens = VecDeque::new(alloc);
         tokens.push_back(Turn {
@@ -48,6 +49,7 @@ impl Agenda {
     // Puts a token into the list of each cell for which it waits. The error is refused memory.
     fn wait(&mut self, program: &Program, marked: &Marked, token: u64) -> Result<(), AllocError> {
         let alloc = *self.tokens.allocator();
+        // A call waits for any of its arguments, a variable at position 0 alone.
         for position in 0..MOST_ARGUMENTS {
             if let Some(cell) = marked.awaited(program, token, position) {
                 let tokens = self.waiting.entry(cell)?.or_insert(Vec::new(alloc));
@@ -66,13 +68,15 @@ impl Agenda {
         Ok(())
     }
 
-    // The return of a call that is due now, else a tick to the least due time; nothing if no pending call will ever be due.
+    // The return of a call that is due now, of several the one with the least number, else a tick to the least due time; nothing if no pending call
+    // will ever be due. A call that returns leaves `due`; one for which the time goes on stays there, for its turn.
     fn choose_call(&mut self, marked: &Marked) -> Choice {
+        // Each turn but the last drops a cancelled call, so there are no more turns than calls in the queue.
         for _ in 0..self.due.len() {
             let Some(&Reverse((at, call))) = self.due.peek() else {
                 break;
             };
-            // None if the call was cancelled: then it is dropped from the queue.
+            // None if the call was cancelled.
             let answer = marked.due(call);
             if answer.is_some() && marked.now() < at {
                 return Choice::Entry(Entry::Tick(at));
@@ -106,14 +110,16 @@ impl Turns for Agenda {
         marked: &Marked,
         side: Option<Side>,
     ) -> Result<Choice, AllocError> {
+        // Each turn takes a token off the queue. One that waits comes back with the cell that it waits for (`wake`), one that moves is used up.
         for _ in 0..self.tokens.len() {
             let Some(turn) = self.tokens.pop_front() else {
                 break;
             };
+            // None if the token is gone: no cancel is due here.
             if let Some(next) = marked.next(program, turn.token) {
                 match token_entry(marked, turn.token, next) {
                     Some(entry) => return Ok(Choice::Entry(entry)),
-                    // It waits.
+                    // It waits, and stands already in the lists of its cells.
                     None if turn.listed => {}
                     None => self.wait(program, marked, turn.token)?,
                 }
@@ -128,6 +134,7 @@ impl Turns for Agenda {
     }
 
     fn note(&mut self, entry: &Entry, marked: &Marked) -> Result<(), AllocError> {
+        // The numbers that the entry has brought: a mark, a second one, or a call.
         let new = numbers_of(entry);
         if let Some(mark) = new.mark {
             self.join(mark)?;
@@ -136,12 +143,14 @@ impl Turns for Agenda {
             self.join(second)?;
         }
         if let Some(call) = new.call {
+            // A call that is never due isn't put into the queue.
             if let Some((_, at)) = marked.due(call) {
                 self.due.push(Reverse((at, call)))?;
             }
         }
         match entry {
             Entry::Bind(_, cell, _) | Entry::Lost(cell) => self.wake(*cell),
+            // No other entry settles a cell.
             _ => Ok(()),
         }
     }

@@ -2,7 +2,8 @@
 //!
 //! The search is depth-first: it follows one run until something happens that isn't wanted, and then goes back to the last choice. The run that it
 //! finds is played again, entry by entry, so no promise on the run rests on the search, and most of the search has no contract. The *way* is the
-//! entries so far. A *position* is where a run stands after them; a position that looks like one that was tried before isn't tried again.
+//! entries so far. A *position* is where a run stands after them; a position that looks like one that was tried before isn't tried again. Where a
+//! function has an `AllocError`, it is refused memory.
 
 ghost use Rattle.std.specs.Prelude.{◌≡◌, ◌⊎◌, IfOk, IfSome};
 ghost use Rattle.orc_outcome.specs.Outcome.{IsPlayed};
@@ -33,13 +34,14 @@ pub enum Happened<'e> {
     Published(Value),
 }
 
-/// What is wanted of a run: that given things happen in it one after another, and how it ends. A number says how much of that the search has seen: 0
-/// at first, and the implementor chooses what it means.
+/// What is wanted of a run: that given things happen in it one after another, and how it ends. A number, `seen`, says how much of that has happened:
+/// 0 at first, and the implementor chooses what it means.
 pub trait Wanted {
     /// A number for the time `now`, the same for times that the search needn't tell apart.
     fn time(&self, now: u64) -> u64;
 
-    /// How much has been seen once this happened, after `seen` before. None if this must not happen. `time` is as the function `time` gives it.
+    /// How much has been seen once this happened, after `seen` before. None if this must not happen, so that the search leaves the run. `time` is as
+    /// the function `time` gives it.
     fn after(&self, seen: usize, time: u64, happened: Happened<'_>) -> Option<usize>;
 
     /// Whether a run is wanted that ends like this after `seen`. `time` is as the function `time` gives it.
@@ -51,7 +53,7 @@ pub trait Wanted {
 struct Made {
     // The place of its entry in the way.
     entry: usize,
-    // A hash of the site and the arguments.
+    // A hash of the site and the arguments (`mix_args`).
     called: u64,
 }
 
@@ -60,9 +62,9 @@ struct Level {
     marked: Marked,
     // The entries that are still to be tried there, the next one last.
     next: Vec<Entry>,
-    // How many entries the way had.
+    // How many entries the way had: it is cut back to them.
     entries: usize,
-    // How many calls had been made.
+    // How many calls had been made: `Search::calls` is cut back to them.
     calls: usize,
     // A hash of how often each call had been made, as far as the answers of later calls depend on that.
     counts: u64,
@@ -89,9 +91,9 @@ impl Drop for Level {
 enum Turn {
     /// The way leads to what is wanted.
     Found,
-    /// There is more to try.
+    /// There may be more to try.
     More,
-    /// All has been tried.
+    /// All has been tried, and nothing found.
     Nothing,
 }
 
@@ -100,7 +102,7 @@ struct Search<'s> {
     alloc: Global,
     program: &'s Program,
     answers: &'s Answers,
-    /// All entries so far, with moves of marks and cancels.
+    /// All entries of the way, with moves of marks and cancels.
     way: Vec<Entry>,
     /// The calls of the way: the one of the number k is at the place k - 1.
     calls: Vec<Made>,
@@ -149,7 +151,7 @@ impl Search<'_> {
         }
     }
 
-    // How much has been seen once the call with this number is answered. None if that must not happen.
+    // How much has been seen once the call with this number is answered. None if that must not happen. The way has the call, since it pends.
     fn answered<W: Wanted>(
         &self,
         wanted: &W,
@@ -226,23 +228,24 @@ impl Search<'_> {
         Ok(())
     }
 
-    // Applies the cancels that are due, and the moves of marks of all tokens from the mark `from` on, also of those that such a move makes. These
-    // entries leave no choice, so the search takes them at once.
+    // Applies the cancels that are due, and the moves of marks of all tokens from the mark `from` on, also of those that such a move makes, and adds
+    // them to the way. They change nothing about what can happen else, so the search tries no other order of them.
     fn settle(&mut self, marked: &mut Marked, from: u64) -> Result<(), AllocError> {
-        // There is at most one cancel for each call that was made.
+        // Cancels come first: while one is due no token can move. Each call is cancelled once at most, so the turns suffice.
         for _turn in 0..marked.new_call() {
             match marked.next_cancel() {
                 Some(call) => self.apply(marked, Entry::Cancel(call))?,
                 None => break,
             }
         }
-        // The end of this loop moves: a fork makes two marks more.
+        // The end of this loop moves, since these moves bring marks. The bound only shows that the loop ends.
         for mark in from..u64::MAX {
             if mark >= marked.new_mark() {
                 break;
             }
             if let Some(next) = marked.next(self.program, mark) {
                 if is_of_marks(&next) {
+                    // Always: only a token that waits has no entry.
                     if let Some(entry) = token_entry(marked, mark, next) {
                         self.apply(marked, entry)?;
                     }
@@ -268,7 +271,7 @@ impl Search<'_> {
     }
 
     // All entries that can come next, the first to be tried last: moves of tokens and sides, and returns that are due; a tick if there are none of
-    // these. None at all says that the run is quiet.
+    // these. An empty list says that the run is quiet, since `stand` has asked before whether it has halted.
     fn entries(&self, marked: &mut Marked) -> Result<Vec<Entry>, AllocError> {
         let mut entries = Vec::new(self.alloc);
         for slot in marked.nodes() {
@@ -276,6 +279,7 @@ impl Search<'_> {
                 entries.push(entry)?;
             }
         }
+        // Of a call that doesn't pend `due` gives None.
         for call in 1..marked.new_call() {
             match marked.due(call) {
                 Some((answer, time)) if time == marked.now() => {
@@ -310,7 +314,8 @@ impl Search<'_> {
         Ok(mix(mix(mix(mix(1, form), counts), seen as u64), time))
     }
 
-    // Opens a new level of choices at the position to which the way has led, unless the run ends there or a way has led there before.
+    // Opens a new level of choices at the position to which the way has led, unless the run ends there or a way has led there before. `marked`,
+    // `counts` and `seen` are as a `Level` has them. Gives Found if the run ends there and is wanted, and otherwise More.
     fn stand<W: Wanted>(
         &mut self,
         wanted: &W,
@@ -377,6 +382,7 @@ impl Search<'_> {
 
     // Searches through `most` positions at most. Gives the entries of a wanted run, or None if it found none.
     fn go<W: Wanted>(&mut self, wanted: &W, most: usize) -> Result<Option<Vec<Entry>>, AllocError> {
+        // True: cancels follow each bind, as the engine that plays the run again records them.
         let mut marked = Marked::new(self.alloc, self.program, true)?;
         self.settle(&mut marked, 1)?;
         let mut turn = self.stand(wanted, marked, 0, 0)?;
@@ -410,6 +416,7 @@ impl Turns for Steps {
         _marked: &Marked,
         _side: Option<Side>,
     ) -> Result<Choice, AllocError> {
+        // Each turn takes an entry; the bound only shows that the loop ends.
         for _ in 0..u64::MAX {
             match self.rest.pop() {
                 None => break,
@@ -417,10 +424,12 @@ impl Turns for Steps {
                 Some(entry) => return Ok(Choice::Entry(entry)),
             }
         }
+        // The way has come to its end, where the run has halted or is quiet.
         Ok(Choice::Nothing)
     }
 
     fn note(&mut self, _entry: &Entry, _marked: &Marked) -> Result<(), AllocError> {
+        // All entries are known from the start.
         Ok(())
     }
 }
@@ -468,6 +477,7 @@ pub fn find<W: Wanted>(
     let Some(mut way) = found else {
         return Ok(None);
     };
+    // `Steps` takes entries from the end.
     way.reverse();
     let Ok(mut history) = History::new(alloc, program) else {
         return Err(PlayFault::Memory);

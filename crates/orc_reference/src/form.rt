@@ -1,8 +1,9 @@
 //! The form of a marked term as one number: terms that differ in marks and in the numbers of calls and cells alone have the same one.
 //!
 //! It is a sum over the parts of the term, each a hash of what the part is and of its place. A *place* is a hash of the way from the root to the
-//! part. Each kind of thing mixes in a small number of its own. Nothing is promised of it. Two terms may have the same number by chance, and then a
-//! search takes one for the other.
+//! part. Each kind of thing mixes in a small number of its own, 1 to 26: what they are doesn't matter as long as no two kinds have one where they
+//! could be mixed up. Nothing is promised of a form. Two terms may have the same number by chance, and then a search takes one for the other. `node`
+//! is a node of the program, `scope` the number of the scope in which its names mean something (`orc_term::arena`).
 
 use orc_checker::Marked;
 use orc_rules::param::{Operand, Param};
@@ -12,9 +13,9 @@ use orc_term::arena::{Double, Kind, Single, Tip};
 use std::alloc::{AllocError, Global};
 use std::collections::HashMap;
 
-/// A hash with a word mixed in: words that are mixed in one after another give a number that differs for most lists of words.
+/// The hash `seed` with a word mixed in: words that are mixed in one after another give numbers that differ for nearly all lists of words.
 pub(crate) fn mix(seed: u64, word: u64) -> u64 {
-    // The odd constant is 2^64 over the golden ratio, which spreads its factor over all bits.
+    // The odd constant is 2^64 over the golden ratio, which spreads its factor over all bits. It is added first, so that 0 doesn't become 0.
     (seed ^ word)
         .wrapping_add(0x9E37_79B9_7F4A_7C15)
         .wrapping_mul(0x9E37_79B9_7F4A_7C15)
@@ -41,7 +42,8 @@ pub(crate) fn mix_value(seed: u64, value: Value) -> u64 {
     }
 }
 
-// A hash with what a call is answered mixed in, and the time that it has left, where it was made at the time `at`.
+// A hash with what a call is answered mixed in, and the time that is left until then, of a call that was made at the time `at`. When it was made
+// doesn't matter beyond that.
 fn mix_found(seed: u64, found: Found, at: u64, now: u64) -> u64 {
     match found {
         Found::Never => mix(seed, 5),
@@ -84,14 +86,15 @@ impl Forms<'_> {
         }
     }
 
-    // A hash with an operand mixed in, as the scope of this number has it: a value, void, a name, or a cell by its place.
+    // A hash with an operand mixed in, as the scope of this number has it: a value, void (a cell that is lost), a name that isn't bound yet, or a
+    // cell by its place.
     fn mix_operand(&self, seed: u64, marked: &Marked, operand: Operand, scope: u32) -> u64 {
         match marked.param(operand, scope as usize) {
             Param::Is(value) => mix_value(mix(seed, 8), value),
             Param::Void => mix(seed, 9),
             Param::Name(name) => mix(mix(seed, 10), name as u64),
             Param::Cell(cell) => {
-                // The walk has come to its pruning, which encloses the place where it is named.
+                // The walk has come to its pruning, which encloses the place where it is named, so a place is found.
                 let place = self.cells.get(&cell).copied().unwrap_or(0);
                 mix(mix(seed, 11), place)
             }
@@ -115,7 +118,8 @@ impl Forms<'_> {
         node: u32,
         scope: u32,
     ) -> Result<u64, AllocError> {
-        // A stack in place of a recursion, here and below; the bound only shows that the loop ends.
+        // A stack of the nodes that are still to come, in place of a recursion; the bound only shows that the loop ends. The left node is put in
+        // last, so it comes first.
         let mut mixed = seed;
         let mut todo = Vec::new(self.alloc);
         todo.push(node as usize)?;
@@ -164,13 +168,14 @@ impl Forms<'_> {
         Ok(mixed)
     }
 
-    // The hash of a part without parts at this place. `calls` has a hash of what was called for each call, by its number from 1. The error is refused
-    // memory.
+    // The hash of a part without parts at this place, 0 for one that has ended. `calls` has a hash of what was called for each call, call 1 first.
+    // The error is refused memory.
     fn tip(&self, place: u64, marked: &Marked, calls: &[u64], tip: Tip) -> Result<u64, AllocError> {
         match tip {
             // A part that has ended leaves the sum as it is.
             Tip::Gone | Tip::Ended => Ok(0),
             Tip::Token(_, node, scope) => self.mix_node(place, marked, node, scope),
+            // As a token on a node with this value (`mix_operand`): both publish it next.
             Tip::Bears(_, value) => Ok(mix_value(mix(place, 8), value)),
             Tip::Waits(call) => {
                 let number = call.saturating_sub(1) as usize;
@@ -181,6 +186,7 @@ impl Forms<'_> {
                         let called = kept.called();
                         Ok(mix_found(seed, called.found, called.at, marked.now()))
                     }
+                    // A call that waits was made, so there is one.
                     None => Ok(seed),
                 }
             }
@@ -193,10 +199,13 @@ impl Forms<'_> {
         let mut form = 0_u64;
         let mut todo = Vec::new(self.alloc);
         todo.push((0_u32, 1_u64))?;
+        // A stack of the term's nodes that are still to come, each with its place, from node 0 on, whose place is
+        // 1; the bound only shows that the loop ends.
         for _ in 0..u64::MAX {
             let Some((at, place)) = todo.pop() else {
                 break;
             };
+            // Each part of the term is a node, so none is left out.
             let Some(slot) = marked.nodes().get(at as usize) else {
                 continue;
             };
@@ -205,13 +214,14 @@ impl Forms<'_> {
                     let tip = self.tip(place, marked, calls, tip)?;
                     form = form.wrapping_add(spread(tip));
                 }
-                // An otherwise that has published is as its left side is.
+                // A node that means just its part has the part's form: an otherwise that has published, or a pruning whose cell is settled.
                 Kind::One(Single::Passed, part) => todo.push((part, place))?,
                 Kind::One(Single::Feeds(name, node, scope), part) => {
                     let seed = mix(mix(place, 20), name as u64);
                     todo.push((part, self.mix_node(seed, marked, node, scope)?))?;
                 }
                 Kind::One(Single::Entered(_, node, scope), part) => {
+                    // It counts itself, and not only its part, which may have ended.
                     let seed = self.mix_node(mix(place, 21), marked, node, scope)?;
                     form = form.wrapping_add(spread(seed));
                     todo.push((part, seed))?;
@@ -221,7 +231,7 @@ impl Forms<'_> {
                     todo.push((right, mix(place, 23)))?;
                 }
                 Kind::Two(Double::Side(cell), left, right) => {
-                    // Before the left side is walked through, which alone names the cell.
+                    // Before the left side is walked through, which alone names the cell. The pruning counts itself, since its parts may have ended.
                     self.cells.insert(cell, place)?;
                     form = form.wrapping_add(spread(mix(place, 26)));
                     todo.push((left, mix(place, 24)))?;

@@ -23,7 +23,7 @@ use std::marker::Model;
 /// A run so far.
 #[derive(Drop)]
 pub struct History {
-    // The program's term after the journal, as the checker keeps it.
+    // The program's term after the journal, as the checker keeps it. It, `published` and the journal change together or not at all (`record`).
     marked: Marked,
     // All that the journal publishes, in order.
     published: Vec<Value>,

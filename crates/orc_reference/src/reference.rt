@@ -22,8 +22,8 @@ pub(crate) enum Choice {
     Nothing,
 }
 
-/// What chooses the next entry: an agenda, or the entries of a run that the search has found. No contract depends on the choice, since
-/// `History::record` refuses an entry that the rules don't allow.
+/// What chooses the next entry: an agenda (`agenda.rt`), or the entries of a run that the search has found (`Steps` in `finder.rt`). No contract
+/// depends on the choice, since `History::record` refuses an entry that the rules don't allow.
 pub(crate) trait Turns {
     /// The entry that comes next, while no cancel is due: a move of a token, else the end of `side`, which has halted, else a return that is
     /// due now, else a tick. The error is refused memory.
@@ -34,8 +34,8 @@ pub(crate) trait Turns {
         side: Option<Side>,
     ) -> Result<Choice, AllocError>;
 
-    /// Takes note of what a recorded entry has changed: new tokens, a new call, or tokens that needn't wait any more. `marked` is the term after it.
-    /// The error is refused memory.
+    /// Takes note of what a recorded entry has changed: new tokens, a new call, or tokens that needn't wait any more. `marked` is the term after it
+    /// and after the cancels that it made due. The error is refused memory.
     fn note(&mut self, entry: &Entry, marked: &Marked) -> Result<(), AllocError>;
 }
 
@@ -69,7 +69,7 @@ fn cut(history: &mut History, program: &Program, limit: u64) -> End
 fn settle(history: &mut History, program: &Program, answers: &Answers) -> Result<(), PlayFault>
     ensures { OnOk result (Settles program.now answers.now history.old history.new) }
 {
-    // Each call is cancelled once at most.
+    // Each call is cancelled once at most, and one turn more finds that none is due. `new_call` is one more than the calls that were made.
     for _turn in 0..history.marked().new_call() {
         match history.marked().next_cancel() {
             None => return Ok(()),
@@ -83,6 +83,7 @@ fn settle(history: &mut History, program: &Program, answers: &Answers) -> Result
             }
         }
     }
+    // Not reached: the last turn has found none due.
     Err(PlayFault::Broken)
 }
 
@@ -99,6 +100,7 @@ pub(crate) fn proceed<T: Turns>(
     // From a run without entries on, what is there at the end is a run of the program that ended so within the limit.
     ensures { IsReached program.now answers.now 0 history.old → IfOk result (HasEnded program.now answers.now limit history.new) }
 {
+    // A turn for each entry that counts.
     for _turn in 0..limit {
         let side = history.halted_side();
         let entry = match turns.choose(program, history.marked(), side) {
@@ -116,7 +118,7 @@ pub(crate) fn proceed<T: Turns>(
             return Ok(End::Memory);
         }
     }
-    // The limit is reached. Whether it cut the run depends on whether something could still come.
+    // The limit is reached. Whether it cut the run depends on whether something could still come: the entry that is chosen isn't recorded.
     let side = history.halted_side();
     match turns.choose(program, history.marked(), side) {
         Ok(Choice::Entry(_)) => Ok(cut(history, program, limit)),
