@@ -93,6 +93,7 @@ fn occurs(picture: &Picture, sign: Sign) -> bool {
                 (Sign::Answered, Kind::Call(_), Some(End::Answered(_))) => true,
                 (Sign::Halted, Kind::Call(_), Some(End::Halted)) => true,
                 (_, Kind::Call(_), Some(End::Answered(_) | End::Halted)) => false,
+                // The only end of a call that is left.
                 (Sign::Cancelled, Kind::Call(_), Some(_)) => true,
                 (Sign::Out, Kind::Call(_), None) => true,
                 (_, Kind::Call(_), _) => false,

@@ -45,11 +45,12 @@ impl<'a> Bindings<'a> {
         for definition in &ast.definitions {
             bindings.read_definition(definition)?;
         }
+        // Only its variables are wanted: no name is known in all of it.
         let _main = bindings.read_expression(&ast.main)?;
         Ok(bindings)
     }
 
-    // A definition's parameters are known in its body.
+    // Adds a definition's variables. Its parameters are known in its body, whose bytes are known once it is read.
     fn read_definition(&mut self, definition: &Definition<'a>) -> Result<(), AllocError> {
         let scope = self.read_expression(&definition.body)?;
         for parameter in &definition.parameters {
@@ -71,6 +72,7 @@ impl<'a> Bindings<'a> {
         match node.part {
             Part::Plain(_) | Part::Variable(_) => {}
             Part::Call(_, count) => {
+                // The call takes its arguments, which are the last parts.
                 let first = self.parts.len().saturating_sub(count);
                 self.parts.truncate(first);
             }
@@ -88,6 +90,7 @@ impl<'a> Bindings<'a> {
         match operator {
             Operator::Seq(Some(name)) => self.add(name, Binder::Sequence, right),
             Operator::Prune(Some(name)) => self.add(name, Binder::Pruning, left),
+            // The operator has no variable.
             _ => Ok(()),
         }
     }

@@ -477,7 +477,8 @@ fn is_pattern(piece: Piece) -> bool {
     piece.is(b"_") || is_literal(piece)
 }
 
-// Whether a piece is a variable: it begins with a small letter, and isn't a word that may follow a value.
+// Whether a piece is a variable: it begins with a small letter, and isn't a word that may follow a value. True of `true`, `false` and `signal` too:
+// where a variable may stand a value may as well.
 fn is_variable(piece: Piece) -> bool {
     match piece.text {
         [b'a'..=b'z', ..] => !is_one_of(piece.text, FOLLOWING.as_slice()),

@@ -34,6 +34,7 @@ pub(crate) struct Outline<'a> {
 /// How many arguments stand in the brackets behind the first of these pieces. None where it is no name, or no brackets follow it that are closed.
 pub(crate) fn arguments(pieces: &[Piece]) -> Option<usize> {
     match pieces {
+        // `first` is the piece behind the bracket.
         [name, open, first, rest @ ..] if name.kind == Kind::Name && open.is(b"(") => {
             if first.is(b")") {
                 return Some(0);

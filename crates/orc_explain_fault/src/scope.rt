@@ -198,6 +198,7 @@ pub(crate) fn say_scope(page: &mut Page, alloc: Global, subject: &Subject, fault
 fn say_name(page: &mut Page, alloc: Global, subject: &Subject, ast: &Ast, fault: ScopeFault) {
     let document = &subject.source;
     let at = fault.span.start;
+    // The first token of what the fault points at: a name, except for C8.
     let span = span_at(document.text, at);
     let name = document.part(span);
     page.point(document, span);
@@ -255,7 +256,7 @@ fn text_of<'a>(name: Option<Name<'a>>) -> Option<&'a [u8]> {
     name.map(|name| name.text)
 }
 
-// The name that was probably meant, and what it is for if it is a built-in site.
+// The name that was probably meant, and what it answers if it is a built-in site.
 fn say_meant(page: &mut Page, name: &[u8]) {
     page.note("help: ");
     page.say_word("did you mean `", name, "`?");
@@ -267,7 +268,7 @@ fn say_meant(page: &mut Page, name: &[u8]) {
     page.say("\n");
 }
 
-// A name with a capital letter may be meant as a site.
+// A name with a capital letter may be meant as a site. Of another name nothing is said.
 fn say_perhaps_site(page: &mut Page, name: &[u8]) {
     if let [b'A'..=b'Z', ..] = name {
         page.note("help: ");

@@ -236,7 +236,7 @@ impl<'a> Line<'a> {
         Ok(())
     }
 
-    // Goes on behind the name of a site of one's own.
+    // Goes on behind the name of a site of one's own: no built-in one, and no reserved word.
     fn site(&mut self) -> Result<(), Wrong> {
         let here = self.here();
         if here.kind != Kind::Name {
@@ -252,7 +252,7 @@ impl<'a> Line<'a> {
         Ok(())
     }
 
-    // Goes on behind the patterns and their brackets.
+    // Goes on behind the patterns and their brackets. The error is Many behind `MOST_ARGUMENTS` patterns and a comma.
     fn patterns(&mut self) -> Result<(), Wrong> {
         self.want(b"(", Wrong::Bracket)?;
         if self.is_here(b")") {
@@ -274,7 +274,7 @@ impl<'a> Line<'a> {
         Err(Wrong::Many)
     }
 
-    // Goes on behind a number of units of time.
+    // Goes on behind a number of units of time, which has no sign.
     fn time(&mut self) -> Result<(), Wrong> {
         let here = self.here();
         match here.text {
@@ -309,7 +309,7 @@ impl<'a> Line<'a> {
         Ok(())
     }
 
-    // Goes on to the end of the line, over answers with `then` between them.
+    // Goes on to the end of the line, over answers with `then` between them. The error is Many behind `MOST_ANSWERS` answers and a `then`.
     fn answers(&mut self) -> Result<(), Wrong> {
         for _answer in 0..MOST_ANSWERS {
             self.answer()?;

@@ -102,9 +102,11 @@ fn say_wanted(page: &mut Page, alloc: Global, line: &Line, walk: Walk) {
 // What to write instead of the piece that is looked at: by a number before it, by the place, or else by the word. None where that isn't known.
 fn advice(line: &Line, walk: Walk) -> Option<&'static str> {
     let here = line.here();
+    // A `.` is left to the place, which knows whether a range was meant.
     if line.lengthens_number() && !here.text.starts_with(b".") {
         return Some(number_advice(here));
     }
+    // The walk went on from `Answered` without a value, so a name with a capital letter was meant as a variable.
     if let (Some(Place::Answered), [b'A'..=b'Z', ..]) = (walk.before, here.text) {
         return Some(VARIABLE);
     }
@@ -199,7 +201,8 @@ const APART: [(&[u8], &[u8], &str); 6] = [
     ),
 ];
 
-// A line each of whose pieces can stand where it does: a range goes backwards, two words don't go together, or there is too much of something.
+// A line each of whose pieces can stand where it does, so that something else is wrong: a range goes backwards, two words don't go together, or there
+// is too much of something.
 fn say_whole(page: &mut Page, document: &Document, line: &Line) {
     if let Some(span) = backwards(line.pieces.as_slice()) {
         page.point(document, span);

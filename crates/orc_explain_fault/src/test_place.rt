@@ -37,6 +37,7 @@ pub(crate) fn say_place(page: &mut Page, alloc: Global, document: &Document, num
             page.help("take another name");
         }
         Head::Service(..) | Head::Claim => say_misplaced(page, head, outline.section(number)),
+        // `given`, `always` or a case.
         _ => say_second_section(page, &outline, number, head),
     }
 }
@@ -62,6 +63,7 @@ fn misplaced(head: Head, section: Option<Head>) -> (&'static str, &'static str) 
         (Head::Claim, Some(_)) => ("the 1,025th claim", FEWER),
         (_, None) => ("a service can't stand before the first section", SERVICES),
         (_, Some(Head::Always)) => ("a service can't stand below `always`", SERVICES),
+        // Below `given` or a case.
         _ => ("the 1,025th service", FEWER),
     }
 }

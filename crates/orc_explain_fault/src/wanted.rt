@@ -9,7 +9,7 @@ use crate::words::{is_one_of, said_of};
 use orc_lex::token::{Joint, Kind, Plain, Token, What};
 use orc_site::line::is_reserved_word;
 
-/// What to write for a choice.
+/// What to write in place of an `if`.
 pub(crate) const NO_IF: &str =
     "there is no `if`: `(Ift(b) >> f) | (Iff(b) >> g)` runs f where b is true and g where it is false";
 

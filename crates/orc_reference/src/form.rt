@@ -199,8 +199,8 @@ impl Forms<'_> {
         let mut form = 0_u64;
         let mut todo = Vec::new(self.alloc);
         todo.push((0_u32, 1_u64))?;
-        // A stack of the term's nodes that are still to come, each with its place, from node 0 on, whose place is
-        // 1; the bound only shows that the loop ends.
+        // A stack of the term's nodes that are still to come, each with its place; node 0 is above
+        // them all, and its place is 1. The bound only shows that the loop ends.
         for _ in 0..u64::MAX {
             let Some((at, place)) = todo.pop() else {
                 break;

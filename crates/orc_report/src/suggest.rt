@@ -94,7 +94,8 @@ impl<'n> Near<'n> {
         self.take_if_near(candidate)
     }
 
-    // Takes a name to which few edits lead: whether it did. From then on only nearer ones are taken.
+    // Takes a name to which few enough edits lead, and says whether it did. From then on only nearer ones are taken. Where memory is refused the
+    // search ends.
     fn take_if_near(&mut self, candidate: &[u8]) -> bool
         ensures { self.new ≤ self.old }
     {
@@ -103,6 +104,7 @@ impl<'n> Near<'n> {
                 self.most = edits.saturating_sub(1);
                 true
             }
+            // Too many edits, or no UTF-8.
             Ok(_) => false,
             Err(_) => {
                 self.is_open = false;

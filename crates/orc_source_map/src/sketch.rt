@@ -61,7 +61,7 @@ pub struct Sketch<'a> {
     shapes: Vec<Shape<'a>>,
     // Where each of them stands in the source.
     spans: Vec<Span>,
-    // The places of the definitions by their names.
+    // The places of the definitions, from 0, by their names, of which a checked program has none twice.
     definitions: HashMap<&'a [u8], usize>,
     // The spots of the definitions' bodies, in their order, and last that of the main expression.
     bodies: Vec<usize>,
