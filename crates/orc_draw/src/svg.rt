@@ -144,6 +144,7 @@ impl<'a> Sheet<'a> {
             .saturating_sub(60)
             .saturating_mul(4)
             .saturating_add(760);
+        // A slot has room for the sign at an end, which reaches 6 pixels to either side (`reach`).
         let measure = Measure {
             width: pixels(plot.min(1400)),
             slot: pixels(13),
@@ -476,8 +477,8 @@ impl<'a> Sheet<'a> {
     }
 
     // Writes the sign at a call's end, and the words behind it, whose tag the caller closes. A call that halted has an upright mark, at either end a
-    // pixel longer than bars are high; one that was cancelled has a cross, and any other none. The words stand 6 pixels behind the end, or 8 where
-    // there is a cross.
+    // pixel longer than bars are high; one that was cancelled has a cross, and any other none. The mark is 3 pixels wide, and one of
+    // them is behind the end. The words stand 6 pixels behind the end, or 8 where there is a cross.
     fn call_end(&self, page: &mut Page, place: usize, row: &Row, span: &Span, called: Called) {
         let end = self.end(span);
         let class = class_of(span);

@@ -1,6 +1,7 @@
 //! Faults of a journal's text (J1 to J4).
 //!
-//! A function `say_..` writes what its comment names at the end of `page`.
+//! A function `say_..` writes what its comment names at the end of `page`, and `page.heed_search` refuses the page if a search for a name was refused
+//! memory.
 
 use crate::syntax::{say_most, say_refused};
 use crate::words::said_of;

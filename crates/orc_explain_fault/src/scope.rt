@@ -1,6 +1,7 @@
 //! Faults of a source's names (C1 to C9).
 //!
-//! A function `say_..` writes what its comment names at the end of `page`. A place `at` is a byte of the source, from 0.
+//! A function `say_..` writes what its comment names at the end of `page`, and `page.heed_search` refuses the page if a search for a name was refused
+//! memory. A place `at` is a byte of the source, from 0.
 
 use crate::bindings::{Binder, Binding, Bindings};
 use crate::built_in::{built_in_named, purpose};

@@ -100,8 +100,8 @@ fn length(kind: Kind, rest: &[u8]) -> usize {
     }
 }
 
-/// The number that a piece of a line spells by digits, with or without a `-` before them. None if it isn't a
-/// value: these are -2^63 to 2^63 - 1. 0 where it has no digits.
+/// The number that a piece of a line spells by digits, with or without a `-` before them. None if it isn't a value: these are -2^63 to 2^63 - 1. 0
+/// where the piece has no digits; what stands behind its digits is passed over.
 pub fn number_of(text: &[u8]) -> Option<i64> {
     match text {
         // The sign comes before the test of the range: -2^63 is in it, and 2^63 isn't.
@@ -126,7 +126,7 @@ pub(crate) fn is_in_range(text: &[u8]) -> bool {
 pub struct Line<'a> {
     /// From left to right, without blanks and the comment.
     pub pieces: Vec<Piece<'a>>,
-    // The place of the piece that is looked at, from 0; from the number of pieces on the end is.
+    // The place of the piece that is looked at, from 0. Behind the last piece the end is looked at.
     at: usize,
     // What stands behind the last piece: no bytes, right behind it.
     end: Piece<'a>,
@@ -211,7 +211,8 @@ impl<'a> Line<'a> {
         self.here().text == text
     }
 
-    // Goes on behind this word or sign. If another piece is looked at the error is `wrong`, and the line stays there, as in all functions below.
+    // Goes on behind this word or sign. If another piece is looked at the error is `wrong`. At an error the line stays at the
+    // piece that is wrong, here and in all functions below.
     fn want(&mut self, text: &[u8], wrong: Wrong) -> Result<(), Wrong> {
         if self.is_here(text) {
             self.go();
@@ -274,7 +275,7 @@ impl<'a> Line<'a> {
         Err(Wrong::Many)
     }
 
-    // Goes on behind a number of units of time, which has no sign.
+    // Goes on behind a number of units of time, which has no sign. The error is Range for one that is too large, and else Time.
     fn time(&mut self) -> Result<(), Wrong> {
         let here = self.here();
         match here.text {
@@ -384,7 +385,7 @@ fn say_wrong(page: &mut Page, wrong: Wrong, here: Piece) {
             page.say_number("over ", MOST_ARGUMENTS as u64, " patterns or ");
             page.grouped(MOST_ANSWERS as u64);
         }
-        // The words are all.
+        // Before the words of all others nothing stands.
         _ => {}
     }
     page.say(words(wrong));
@@ -436,7 +437,7 @@ pub(crate) fn number_advice(here: Piece) -> &'static str {
     }
 }
 
-// How a site without arguments is written. It is the first piece of the line, which a line with a missing bracket has.
+// How a site without arguments is written. `site` is the line's first piece; a line in which only the `(` is missing has one.
 fn say_bare_site(page: &mut Page, site: Option<Piece>) {
     if let Some(site) = site {
         page.note("help: ");

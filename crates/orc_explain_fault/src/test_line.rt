@@ -1,6 +1,7 @@
 //! Lines of a test that have none of its forms (T1). `grammar.rt` finds where such a line goes wrong.
 //!
-//! A function `say_..` writes what its comment names at the end of `page`.
+//! A function `say_..` writes what its comment names at the end of `page`, and `page.heed_search` refuses the page if a search for a name was refused
+//! memory.
 
 use crate::grammar::{Place, Walk};
 use crate::script::{COMMENT, Kind, Line, Piece, is_in_range, number_advice};

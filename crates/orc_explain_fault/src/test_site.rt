@@ -1,6 +1,7 @@
 //! Sites in a claim for which no service of the test answers, nor the script beside it (T5).
 //!
-//! A function `say_..` writes what its comment names at the end of `page`. `others` is the table of the built-in sites and the script.
+//! A function `say_..` writes what its comment names at the end of `page`, and `page.heed_search` refuses the page if a search for a name was refused
+//! memory. `others` is the table of the built-in sites and the script.
 
 use crate::outline::{Head, Outline, arguments};
 use crate::scope::near_site;

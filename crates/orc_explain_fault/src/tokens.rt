@@ -60,7 +60,7 @@ impl<'a> Tokens<'a> {
     }
 }
 
-/// Writes what kind a token is of, and its text: `the name `x``; a sign has no kind.
+/// Writes what kind a token is of, a name, a number or a word, and its text between backquotes; of a sign only its text.
 pub(crate) fn say_token(page: &mut Page, document: &Document, token: &Token) {
     let before = match token.kind {
         Kind::Name(_) => "the name `",

@@ -82,7 +82,7 @@ fn are_crossed(first: &[u8], second: &[u8]) -> bool {
         .any(|(one, other)| *one == first && *other == second)
 }
 
-// What a table says of two tokens; None where it doesn't have them.
+// What a table says of the tokens `first` and `second`, which follow each other in this order; None where it doesn't have them.
 fn said_of_both(
     first: &[u8],
     second: &[u8],
@@ -96,7 +96,7 @@ fn said_of_both(
     None
 }
 
-// What is said of two tokens, or of the second alone, which stands where an expression has to.
+// What is said of the last token and the one at the place, or of the latter alone, which stands where an expression has to.
 fn said_of_pair(last: &[u8], here: &[u8]) -> Option<&'static str> {
     match said_of_both(last, here, PAIRS.as_slice()) {
         Some(said) => Some(said),
@@ -196,7 +196,7 @@ impl<'a> Around<'_, 'a> {
             }
             match closed_before(closed, token.kind) {
                 Some(more) => closed = more,
-                // Here the brackets round the place begin, and no `val` stands in them.
+                // The token opens the bracket round the place: between the two there is no `val`.
                 None => return false,
             }
         }
@@ -334,6 +334,7 @@ impl<'a> Around<'_, 'a> {
     fn named_operator(&self) -> Option<Hint<'a>> {
         let sign = self.back(1);
         let name = name_of(self.tokens.back(2))?;
+        // On both sides of the name stands the same sign.
         if self.back(3) != sign {
             return None;
         }
@@ -480,7 +481,7 @@ impl<'a> Around<'_, 'a> {
     }
 }
 
-// Whether an expression stands before the place, by what was expected behind it.
+// Whether an expression stands before the place: only behind one the parser expects an operator, the end, or what closes or divides.
 fn is_behind_expression(what: What) -> bool {
     match what {
         What::End | What::Close | What::CommaOrClose => true,

@@ -380,7 +380,7 @@ impl Search<'_> {
         self.stand(wanted, marked, counts, seen)
     }
 
-    // Searches through `most` positions at most. Gives the entries of a wanted run, or None if it found none.
+    // Searches until it has come to more than `most` positions, halted runs not counted. Gives the entries of a wanted run, or None if it found none.
     fn go<W: Wanted>(&mut self, wanted: &W, most: usize) -> Result<Option<Vec<Entry>>, AllocError> {
         // True: cancels follow each bind, as the engine that plays the run again records them.
         let mut marked = Marked::new(self.alloc, self.program, true)?;
@@ -434,7 +434,8 @@ impl Turns for Steps {
     }
 }
 
-// Searches for a wanted run through `most` positions at most. Gives its entries, or None if it found none. The error is refused memory.
+// Searches for a wanted run through some `most` positions, as `Search::go` counts them. Gives its entries, or None if it found none. The error is
+// refused memory.
 fn way_to<W: Wanted>(
     alloc: Global,
     program: &Program,
@@ -455,9 +456,10 @@ fn way_to<W: Wanted>(
     Ok(way)
 }
 
-/// Searches through `most` positions at most for a run of a program in which the wanted things happen and which ends by itself, and gives it with its
-/// journal. The contract says that it is a run of the program and ended by itself, but not that the wanted things happen: a caller checks that on the
-/// journal. None if the search found no run, or one of more than `limit` entries, cancels not counted.
+/// Searches, until it has come to more than `most` positions, halted runs not counted, for a run of a program in which the wanted things happen and
+/// which ends by itself, and gives it with its journal. The contract says that it is a run of the program and ended by itself, but not that the
+/// wanted things happen: a caller checks that on the journal. None if the search found no run, or one of more than `limit` entries, cancels not
+/// counted.
 ///
 /// The fault is Memory if memory was refused, or Broken if the rules refuse an entry of the run that the search found.
 pub fn find<W: Wanted>(
