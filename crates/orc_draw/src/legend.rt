@@ -100,6 +100,7 @@ fn occurs(picture: &Picture, sign: Sign) -> bool {
                 (Sign::Bound, _, Some(End::Bound(_, _))) => true,
                 (Sign::Lost, _, Some(End::Lost)) => true,
                 (Sign::Resumed, _, Some(End::Resumed)) => true,
+                // The sign is one of calls, or of another end.
                 _ => false,
             };
             if is_of {

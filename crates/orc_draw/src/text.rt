@@ -224,6 +224,7 @@ impl<'a> Columns<'a> {
 
     // Writes the row of a span: its label, its number, its bar, and how it ended.
     fn row(&self, page: &mut Page, row: &Row) {
+        // Each row of a picture has a span.
         let Some(span) = self.picture.span(row) else {
             return;
         };

@@ -14,15 +14,19 @@ use orc_site::ScriptFault;
 use orc_site::line::{is_built_in_name, is_reserved_word};
 use std::alloc::{AllocError, Global};
 
+/// The form of a line of a script.
 const FORM: &str = "a line is `NAME(pattern, ..) = ANSWER [after N] { then ANSWER [after N] }`";
 
+/// What a pattern may be.
 const PATTERN: &str = "a pattern is a number, `true`, `false`, `signal`, or `_` for any value";
 
+/// What an answer may be.
 const ANSWER: &str = "an answer is a number, `true`, `false`, `signal`, `halt` or `never`";
 
 /// How a comment is written in a script and in a test.
 pub(crate) const COMMENT: &str = "a comment is `-- ..` to the end of the line";
 
+/// What the number behind `after` may be: the greatest is 2^63 - 1.
 const TIME: &str = "digits alone, at most 9223372036854775807";
 
 /// What a piece of a line is.

@@ -12,10 +12,13 @@ use orc_report::{Document, Near, Page};
 use orc_rules::digits::digits_at;
 use std::alloc::Global;
 
+/// The form of a range.
 const RANGE: &str = "a range is `0..5`: two numbers with two dots between them";
 
+/// What a variable is.
 const VARIABLE: &str = "a variable begins with a small letter";
 
+/// What events may stand with `at once`.
 const ONCE: &str = "`at once` counts calls, so each event is `NAME(..)` alone";
 
 /// What is said of a word or a sign of another language, where it can't stand.

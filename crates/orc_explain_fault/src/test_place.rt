@@ -10,10 +10,13 @@ use orc_report::{Document, Page};
 use orc_site::line::is_built_in_name;
 use std::alloc::Global;
 
+/// In which sections services stand.
 const SERVICES: &str = "services stand below `given` or a case";
 
+/// In which sections claims stand.
 const CLAIMS: &str = "claims stand below `always` or a case";
 
+/// How many services and claims there may be: `MOST_SERVICES` and `MOST_CLAIMS`.
 const FEWER: &str = "a test has at most 1,024 services and 1,024 claims: make two tests of it";
 
 /// Why the line with this number, from 1, can't stand where it does.

@@ -13,12 +13,16 @@ use orc_site::line::is_reserved_word;
 pub(crate) const NO_IF: &str =
     "there is no `if`: `(Ift(b) >> f) | (Iff(b) >> g)` runs f where b is true and g where it is false";
 
+/// What to write for a `val`.
 const VAL: &str = "a value is named with `val x = g f`";
 
+/// What is said of a `val` inside an expression.
 const WHOLE: &str = "`val` begins a whole expression: put `( .. )` around it";
 
+/// What is said of a `,` where none can stand.
 const NO_TUPLES: &str = "there are no tuples: a `,` stands only between arguments and parameters";
 
+/// Where a bracket was opened that isn't closed: `@` is its place.
 const OPEN: &str = "the bracket that is still open stands in @";
 
 /// Reserved words that are whole expressions.
@@ -191,6 +195,7 @@ impl<'a> Around<'_, 'a> {
                 match token.kind {
                     Kind::Val => return is_ended,
                     Kind::Joint(Joint::Other) => is_ended = true,
+                    // Other tokens neither begin nor end a `val`.
                     _ => {}
                 }
             }
@@ -341,6 +346,7 @@ impl<'a> Around<'_, 'a> {
         match sign {
             b">" => Some(Hint::of_name("something has to follow `>%>`", name)),
             b"<" => Some(Hint::of_name("something has to follow `<%<`", name)),
+            // Other signs have no name between them.
             _ => None,
         }
     }

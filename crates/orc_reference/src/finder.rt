@@ -147,6 +147,7 @@ impl Search<'_> {
         let made = self.calls.get(call.saturating_sub(1) as usize)?;
         match self.way.get(made.entry) {
             Some(Entry::Call(_, _, site, args)) => Some((*site, args)),
+            // Not reached: at the place `Made::entry` stands a `call`.
             _ => None,
         }
     }
@@ -266,6 +267,7 @@ impl Search<'_> {
                 Side::Left(mark as u64),
             ),
             Kind::Two(Double::Side(cell), _, _) => side_entry(marked, Side::Right(cell)),
+            // Pending calls, parts that have ended, and nodes of which only the parts move.
             _ => None,
         }
     }
@@ -410,6 +412,7 @@ struct Steps {
 }
 
 impl Turns for Steps {
+    // The next entry of the way, whatever the term looks like: the search has chosen it.
     fn choose(
         &mut self,
         _program: &Program,
