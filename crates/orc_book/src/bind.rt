@@ -93,6 +93,7 @@ impl<P: Run + Naming> Book<P> {
                 back: token,
             });
         }
+        // Taken apart, since the mark changes the pass: it has seen the bit then.
         let Token {
             serial,
             slot,
@@ -104,7 +105,7 @@ impl<P: Run + Naming> Book<P> {
                 back: Token { serial, slot, pass },
             });
         }
-        // A law, before the move and behind it: the journal leads to a place that the records spell. Nothing runs.
+        // A law, before the move and behind it: it shows the prover that the journal leads to a place that the records spell. Nothing runs.
         stands(&self.ledger);
         match self
             .ledger

@@ -32,7 +32,8 @@ pub struct Book<P: Run + Naming> {
     pub(crate) words: WordTable<P>,
     // Which tokens are kept here while they wait for a cell.
     pub(crate) keeping: Keeping,
-    // Three lists that the ledger's calls fill. They stay here so that their memory is used again.
+    // Three lists that the ledger's calls fill: new scopes of a definition's parameters, numbers of cancelled calls, cells for which a token waits.
+    // What an earlier call left there is never read; they stay here so that their memory is used again.
     pub(crate) scopes: Vec<StoredScope>,
     pub(crate) cancelled: Vec<u64>,
     pub(crate) cells: Vec<u64>,

@@ -27,7 +27,7 @@ use orc_word::{Naming, Pass};
 pub enum Answered<P: Naming> {
     /// A token on the answer is out.
     Token(Token<P>),
-    /// It halted: its pass is to be left.
+    /// The call halted without a value: its pass is to be left.
     Halted(Pass<P>),
 }
 
@@ -55,12 +55,15 @@ impl<P: Run + Naming> Book<P> {
             let why = BookFault::Wrong;
             return Err(Refused { why, back: token });
         };
+        // Room in the ledger for one entry, with no token, group or frame more. It is asked before memory, so that Limit is the fault where both are
+        // lacking.
         if let Err(fault) = self.ledger.within(0, 0, 0) {
             return Err(Refused {
                 why: fault_of(fault),
                 back: token,
             });
         }
+        // Room for the call's pass: behind the ledger's call nothing is refused.
         if reserve_at(&mut self.posts, found.group).is_err() {
             return Err(Refused {
                 why: BookFault::Memory,
@@ -103,7 +106,7 @@ impl<P: Run + Naming> Book<P> {
         stands(&self.ledger);
         match self.ledger.returned(number, answer) {
             Ok(Some(slot)) => {
-                // No more tokens are out than there are, and their number is a `usize`: so one more doesn't overflow.
+                // For the prover alone: the number of all tokens, the new one too, is a `usize`, and no more are out. So `out + 1` doesn't overflow.
                 let _tokens = self.ledger.token_count();
                 // The book holds a pass for each pending call.
                 let Some(pass) = send_at(&mut self.posts, group, out + 1) else {

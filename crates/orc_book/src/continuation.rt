@@ -71,7 +71,7 @@ impl<P: Run + Naming> Book<P> {
             &mut self.cancelled,
         ) {
             Ok(Moved::On) => {
-                // A token is in the slot still, as `born` asks.
+                // By the ledger's clause a token is in the slot still. `born` asks for one, so the prover is shown it.
                 let Some(_its) = self.ledger.held(token.slot) else {
                     unreachable!()
                 };

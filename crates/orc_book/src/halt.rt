@@ -38,7 +38,7 @@ impl<P: Run + Naming> Book<P> {
     /// Closes the group whose last pass was left, so that its word is free again. If the book holds a pass to the enclosing group for it, that goes
     /// to the token that starts a right side, if one does, else to `leave`. The program's own group keeps its word. Refused as Gone if the word
     /// stands for no group that is there, as Live if that group still has members, as Full or Limit if the ledger refuses the entry for that, else
-    /// as Memory.
+    /// as Memory. If refused, the records and `leave` are as they were, and `back` is `last`.
     pub fn halt(
         &mut self,
         last: Last<P>,
@@ -138,14 +138,15 @@ impl<P: Run + Naming> Book<P> {
             }
             Ok(Halted::Resumed(slot)) => {
                 self.words.close(word);
+                // The token on the right side is in this slot, by the ledger's clause.
                 let Some(its) = self.ledger.held(slot) else {
                     unreachable!()
                 };
                 let group = self.ledger.group_of_token(&its);
                 let out = out_in(&self.posts, group);
-                // No more tokens are out than there are, and their number is a `usize`: so one more doesn't overflow.
+                // For the prover alone: the number of all tokens, the new one too, is a `usize`, and no more are out. So `out + 1` doesn't overflow.
                 let _tokens = self.ledger.token_count();
-                // The pass of the group that has ended is the new token's.
+                // The book held a pass for the group that has ended, a member of the enclosing one. It is the new token's now.
                 let Some(pass) = send_at(&mut self.posts, group, out + 1) else {
                     unreachable!()
                 };

@@ -29,7 +29,7 @@ pub(crate) struct Keeping {
     heads: Vec<u32>,
     // The links of all chains, with those that are free.
     links: Vec<Link>,
-    // The place of the first link that is free; the free ones are a chain too.
+    // The place of the first link that is free, from 1; 0 for none. The free ones are a chain too.
     free: u32,
 }
 
@@ -59,7 +59,7 @@ impl Keeping {
         self.links.len()
     }
 
-    // The link with this place.
+    // The link with this place; None for place 0, or one past the links.
     fn link_at(&self, place: u32) -> Option<Link> {
         if place == 0 {
             return None;
@@ -96,11 +96,12 @@ impl Keeping {
         Ok(place as u32)
     }
 
-    // Puts a token that waits for a cell in front of the cell's chain.
+    // Puts a token that waits for a cell in front of the cell's chain. The error is that of `put` or refused memory; the chain is as it was then.
     fn add(&mut self, cell: u64, handle: Handle) -> Result<(), AllocError>
         ensures { self.new ≡ self.old }
     {
         let cell = cell as usize;
+        // Cells have small numbers; the prover isn't told so.
         let Some(len) = cell.checked_add(1) else {
             return Err(AllocError);
         };
@@ -115,12 +116,13 @@ impl Keeping {
         Ok(())
     }
 
-    // Makes `kept` long enough for this slot. Slots that it adds keep no token.
+    // Makes `kept` long enough for this slot. Slots that it adds keep no token. The error is refused memory.
     fn reach(&mut self, slot: usize) -> Result<(), AllocError>
         ensures same { (i : ℕ) → mark_at self.new i ≡ mark_at self.old i }
         ensures there { OnOk result (slot < length self.new) }
         ensures refused { OnErr result (self.new ≡ self.old) }
     {
+        // As of cells: slots have small numbers.
         let Some(len) = slot.checked_add(1) else {
             return Err(AllocError);
         };
@@ -140,6 +142,7 @@ impl Keeping {
         }
         // Only this makes the token a kept one. Links that were added before a refusal stay, and do no harm.
         self.reach(handle.slot)?;
+        // By `reach` the slot is there.
         let Some(kept) = self.kept.get_mut(handle.slot) else {
             unreachable!()
         };
@@ -157,7 +160,7 @@ impl Keeping {
         }
     }
 
-    /// Takes the first token out of the chain of this cell, or none. `release` tells whether it is kept still.
+    /// Takes the first token out of the chain of this cell; None where the chain is empty. `release` tells whether it is kept still.
     pub(crate) fn pop(&mut self, cell: u64) -> Option<Handle>
         ensures { self.new ≡ self.old }
     {
@@ -167,6 +170,7 @@ impl Keeping {
         if let Some(head) = self.heads.get_mut(cell) {
             *head = link.next;
         }
+        // Its link becomes the first free one. Its index is `place - 1`, as in `put`.
         if let Some(there) = self.links.get_mut(place.saturating_sub(1) as usize) {
             there.next = self.free;
         }
@@ -174,7 +178,7 @@ impl Keeping {
         Some(link.handle)
     }
 
-    /// Keeps this token no longer, and says whether it was kept in its slot.
+    /// Keeps this token no longer. False, and nothing changes, where its slot keeps another token or none.
     pub(crate) fn release(&mut self, handle: Handle) -> bool
         ensures kept { result ≡ true → (mark_at self.old handle.slot ≡ handle.serial) × IsMarked self.old handle.slot 0 self.new }
         ensures other { result ≡ false → self.new ≡ self.old }

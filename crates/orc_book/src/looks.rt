@@ -37,14 +37,16 @@ pub struct Needs {
     pub idle: u32,
 }
 
-/// The passes that a token needs, beside its own, to do this.
+/// The passes that a token needs at most, beside its own, to do this.
 pub fn needs_of(what: Action) -> Needs
     ensures { result ≡ needs_of what }
 {
     match what {
         Action::Fork => Needs { same: 1, idle: 0 },
         Action::Prune => Needs { same: 1, idle: 1 },
+        // A `>x>` that takes the value needs the idle pass only if it stands in another group.
         Action::Other | Action::Send(_) => Needs { same: 0, idle: 1 },
+        // The token ends, goes on in its group, publishes, binds, calls or waits: its own pass is enough.
         _ => Needs { same: 0, idle: 0 },
     }
 }
@@ -61,7 +63,7 @@ pub struct TokenView {
 }
 
 impl<P: Run + Naming> Book<P> {
-    /// What the token with this serial does next, if it is in this slot, kept or out. Serials begin with 1.
+    /// What the token with this serial does next, if it is in this slot, kept or out; None if it isn't there. Serials begin with 1.
     pub fn view(&self, inputs: &Inputs<'_, P>, slot: usize, serial: u64) -> Option<TokenView>
         ensures there { IfSome result (λ v. (t : Its) × IsHeld self.now.ledger.slots slot t × (t.serial ≡ serial) × (v.what ≡ what_of (code P.listing) (definitions P.listing) self.now.ledger t) × (v.word ≡ word_at self.now.posts (group_at self.now.ledger.steps t.step)) × (v.needs ≡ needs_of v.what)) }
         ensures gone { IfNone result ((t : Its) → IsHeld self.now.ledger.slots slot t → t.serial ≡ serial → ⊥) }
@@ -112,7 +114,7 @@ impl<P: Run + Naming> Book<P> {
         offered(&self.ledger);
     }
 
-    /// How many entries the journal has, the cancels left out.
+    /// How many entries the run has made, the cancels left out.
     pub fn entries(&self) -> usize
         ensures { result ≡ self.now.ledger.entries }
     {
@@ -134,8 +136,8 @@ impl<P: Run + Naming> Book<P> {
         self.ledger.request(number)
     }
 
-    /// The call with the least number of those that are due now, and the answer that the table of sites gives. Where there is none no call is overdue
-    /// either.
+    /// The call with the least number of those that are due now, and the answer that the table of sites gives. None where no call is due; none is
+    /// overdue either then. `&mut` is for the ledger's notes of due times, of which it drops those whose calls are gone, here and in `due_beyond`.
     pub fn due(&mut self) -> Option<(Call, Answer)>
         ensures due { MatchOption result ((c : ItsCall) (t : ℕ) → IsIn c self.old.ledger.calls → due_of c ≡ Some t → t ≤ self.old.ledger.now → ⊥) (λ d. Pends self.old.ledger d.0.number d.0 × IsDueNow P.listing P.sites self.old.ledger d.0.number d.1 × IsLeastBeyond self.old.ledger.calls 0 self.old.ledger.now d.0.number) }
         ensures same { self.new ≡ self.old }

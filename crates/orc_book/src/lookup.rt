@@ -42,6 +42,7 @@ impl<P: Run + Naming> Book<P> {
             return Err(BookFault::Gone);
         };
         let group = self.ledger.group_of_token(&its);
+        // A group that has a token has a post; this doesn't depend on a proof of it.
         let Some(post) = self.posts.get(group as usize) else {
             return Err(BookFault::Gone);
         };

@@ -63,7 +63,8 @@ impl<P: Run + Naming> Book<P> {
         ensures refused { IfErr result (λ r. (self.new ≡ self.old) × (r.back ≡ token)) }
         ensures why { IfErr result (λ r. IsRefusedMove P.listing self.old token is_end (IsHindered P.listing self.old.ledger) r.why) }
     {
-        // A law, here and in `fork_found`: it shows the prover that the journal leads to a place that the records spell. Nothing runs.
+        // A law, here and in `fork_found`: it shows the prover that the journal leads to a place that the records spell. Nothing runs. What the
+        // ledger writes into `scopes` and `cancelled` isn't read.
         stands(&self.ledger);
         match self.ledger.advance(
             inputs,
@@ -86,7 +87,7 @@ impl<P: Run + Naming> Book<P> {
 }
 
 impl<P: Run + Naming> Book<P> {
-    // Makes a token for a worker of the record in this slot, with this pass.
+    // Makes a token for a worker of the record in this slot, with this pass, which names the record's group. By `requires` the slot holds a token.
     pub(crate) fn born(&self, slot: usize, pass: Pass<P>) -> Token<P>
         requires held { (t : Its) × IsHeld self.now.ledger.slots slot t × (group_of pass ≡ Some (word_at self.now.posts (group_at self.now.ledger.steps t.step))) }
         ensures token { (t : Its) × IsToken self.now result.slot result.serial result.pass t }
@@ -166,7 +167,7 @@ impl<P: Run + Naming> Book<P> {
             &mut self.cancelled,
         ) {
             Ok(Moved::Forked(other)) => {
-                // No more tokens are out than there are, and their number is a `usize`: so one more doesn't overflow.
+                // For the prover alone: the number of all tokens, the new one too, is a `usize`, and no more are out. So `out + 1` doesn't overflow.
                 let _tokens = self.ledger.token_count();
                 set_out(&mut self.posts, found.group, found.out + 1);
                 let one = self.born(token.slot, token.pass);
@@ -214,6 +215,7 @@ impl<P: Run + Naming> Book<P> {
             &mut self.cancelled,
         ) {
             Ok(_gone) => {
+                // As in `end_found`: the token was out, and is one less.
                 set_out(&mut self.posts, found.group, found.out - 1);
                 Ok(token.pass)
             }

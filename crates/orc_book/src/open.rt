@@ -112,7 +112,8 @@ impl<P: Run + Naming> Book<P> {
         ensures refused { IfErr result (λ r. HasStayed self.old self.new × (r.back.0 ≡ token) × (r.back.1 ≡ same) × (group_of r.back.2 ≡ None)) }
         ensures why { IfErr result (λ r. IsRefusedOpening P.listing self.old token P.table.words is_prune r.why) }
     {
-        // Room in the ledger for an entry, a token and a group. Once the word is opened, only the ledger can refuse the move, for memory.
+        // Room in the ledger for an entry, a token and a group, and no left side of a `>x>`. Once the word is opened, only the ledger can refuse the
+        // move, for memory.
         if let Err(fault) = self.ledger.within(1, 1, 0) {
             let back = (token, same, idle);
             return Err(Refused {
@@ -152,6 +153,7 @@ impl<P: Run + Naming> Book<P> {
                     unreachable!()
                 };
                 let number = self.ledger.group_of_token(&inner);
+                // `reserve_opening` has made the room for the posts and the pass.
                 grow_to(self.alloc, &mut self.posts, number);
                 put_at(&mut self.posts, found.group, same);
                 raise_at(&mut self.posts, number, opened.word, found.group);
@@ -226,7 +228,7 @@ impl<P: Run + Naming> Book<P> {
         ensures refused { IfErr result (λ r. HasStayed self.old self.new × (r.back.0 ≡ token) × (group_of r.back.1 ≡ None)) }
         ensures why { IfErr result (λ r. IsRefusedOpening P.listing self.old token P.table.words is_other r.why) }
     {
-        // Room in the ledger for an entry and a group, as for a pruning.
+        // Room in the ledger for an entry and a group, and no token more. This order and its reason are those of `prune_found`.
         if let Err(fault) = self.ledger.within(0, 1, 0) {
             let back = (token, idle);
             return Err(Refused {
@@ -274,7 +276,7 @@ impl<P: Run + Naming> Book<P> {
             }
             // A move at `f ; g` has no other outcome.
             Ok(_) => unreachable!(),
-            // As for a pruning.
+            // As in `prune_found`: the word is free in the book still, so `left.last` is dropped.
             Err(fault) => {
                 let left = groups.leave(opened.pass);
                 Err(Refused {

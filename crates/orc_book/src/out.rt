@@ -12,7 +12,7 @@ use std::alloc::{AllocError, Global};
 pub struct Births<P: Naming> {
     /// Passes to the group of the token that moves; the last one is used first.
     pub same: Vec<Pass<P>>,
-    /// Passes that name no group; the last one is used first.
+    /// Idle passes, which name no group; the last one is used first.
     pub idle: Vec<Pass<P>>,
 }
 
@@ -51,7 +51,8 @@ impl<P: Naming> Births<P> {
         }
     }
 
-    // Takes the last pass of `same`, if it names this group.
+    // Takes the last pass of `same`, if it names the group of this word. None, and nothing is taken, if there is no pass or the last one names
+    // another group.
     pub(crate) fn take_same(&mut self, group: Option<u32>) -> Option<Pass<P>>
         ensures pass { MatchOption result (self.new ≡ self.old) (λ pass. (group_of pass ≡ group) × (self.old.same.items ≡ self.new.same.items ++ pass ∷ [])) }
         ensures room { MatchOption result (self.new ≡ self.old) (λ _. vec_len self.new.same + 1 ≤ vec_capacity self.new.same) }
@@ -64,7 +65,7 @@ impl<P: Naming> Births<P> {
         }
     }
 
-    // Takes the last pass of `idle`, if it names no group.
+    // Takes the last pass of `idle`, if it names no group. None, and nothing is taken, if there is no pass or the last one names a group.
     pub(crate) fn take_idle(&mut self) -> Option<Pass<P>>
         ensures pass { MatchOption result (self.new ≡ self.old) (λ pass. (group_of pass ≡ None) × (self.old.idle.items ≡ self.new.idle.items ++ pass ∷ [])) }
         ensures room { MatchOption result (self.new ≡ self.old) (λ _. vec_len self.new.idle + 1 ≤ vec_capacity self.new.idle) }
@@ -90,7 +91,7 @@ impl<P: Naming> StepOut<P> {
         }
     }
 
-    // Makes room for what a step brings out at most: two tokens and a pass.
+    // Makes room for what a step brings out at most: two tokens and a pass. The error is refused memory.
     pub(crate) fn reserve(&mut self) -> Result<(), AllocError>
         ensures born { self.new.born.items ≡ self.old.born.items }
         ensures leave { self.new.leave.items ≡ self.old.leave.items }

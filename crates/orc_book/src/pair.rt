@@ -12,7 +12,7 @@ use std::sync::{Mutex, Wait};
 use std::thread::{Threads, join};
 
 // Leaves a pass, if it names a group: that needs no lock. If it was the group's last, closes the group, which may add a pass to `more`. True if it
-// closed one.
+// closed one; false if the pass named no group, wasn't the last, or the book refused to close the group.
 fn leave_one<P: Run + Naming, R: Wait>(
     rt: &R,
     groups: &Groups<P>,
@@ -30,7 +30,8 @@ fn leave_one<P: Run + Naming, R: Wait>(
     }
 }
 
-// Closes the group whose last pass was left. Its pass to the group that encloses it is added to `more`.
+// Closes the group whose last pass was left. Its pass to the group that encloses it is added to `more`. False if the book refuses: then `last` is
+// dropped, and the group's word is never free again.
 fn close<P: Run + Naming, R: Wait>(
     rt: &R,
     book: &Mutex<Book<P>>,
@@ -40,7 +41,8 @@ fn close<P: Run + Naming, R: Wait>(
     book.lock(rt).halt(last, more).is_ok()
 }
 
-// Binds under the lock, and leaves the passes outside it.
+// Binds under the lock, and leaves the passes outside it. False if the book refuses the bind: then the token is dropped, and its pass counts for
+// good.
 fn bind_one<P: Run + Naming, R: Wait>(
     rt: &R,
     alloc: Global,
@@ -64,7 +66,8 @@ fn bind_one<P: Run + Naming, R: Wait>(
     bound
 }
 
-/// Two tokens of one group bind at the same time, on two threads. Gives for each whether it did; the contract says nothing of the answers.
+/// Two tokens of one group bind at the same time, on two threads. Gives for `one` and then for `two` whether the book made its bind; the contract
+/// says nothing of the answers.
 pub fn two_binds<P, R>(
     rt: &R,
     alloc: Global,

@@ -13,15 +13,18 @@ use orc_word::{Groups, Naming, Pass};
 use std::alloc::{AllocError, Global};
 use std::marker::Model;
 
-/// What a book has of a group: the number of its word, the passes to it that the book holds, and how many of its tokens are kept here and are out.
+/// What a book has of one group.
 #[derive(Drop)]
 pub(crate) struct Post<J: Naming> {
+    // The number of its word.
     word: u32,
     // The ledger's number of the group that encloses it.
     parent: u32,
-    // Each names this group's word.
+    // The passes to it that the book holds: each names this group's word.
     passes: Vec<Pass<J>>,
+    // How many of its tokens the book keeps while they wait.
     kept: usize,
+    // How many of its tokens are out with workers.
     out: usize,
 }
 
@@ -168,6 +171,7 @@ impl<J: Naming> Post<J> {
         ensures given { GivesUp leave.old.items leave.new.items (λ f. weight f self.old.passes) (λ f. weight f self.new.passes) }
         ensures capacity { vec_capacity leave.new ≡ vec_capacity leave.old }
     {
+        // Each round takes out a pass, so the loop ends.
         while self.passes.len() > wanted {
             let Some(pass) = self.passes.pop() else {
                 unreachable!()
@@ -224,7 +228,8 @@ pub(crate) fn settle_at<J: Naming>(
     }
 }
 
-/// Whether a group has members, and the passes held and the tokens out are as many. `settle_at` would change nothing then.
+/// Whether a group has members, and the passes held and the tokens out are together as many: `settle_at` would change nothing then. False if there is
+/// no post.
 #[inline(always)]
 pub(crate) fn is_settled_at<J: Naming>(posts: &Vec<Post<J>>, number: u32, members: usize) -> bool
     ensures { result ≡ true → (1 ≤ members) × (held_at posts.now.items number + out_at posts.now.items number ≡ members) }
@@ -237,7 +242,7 @@ pub(crate) fn is_settled_at<J: Naming>(posts: &Vec<Post<J>>, number: u32, member
     }
 }
 
-/// Makes room for one pass more of a group. The error is refused memory.
+/// Makes room in a group's post for one pass more. The error is refused memory.
 pub(crate) fn reserve_at<J: Naming>(posts: &mut Vec<Post<J>>, number: u32) -> Result<(), AllocError>
     requires there { number < length posts.old.items }
     ensures same { Changes posts.old.items number posts.new.items Same }
@@ -261,7 +266,7 @@ pub(crate) fn put_at<J: Naming>(posts: &mut Vec<Post<J>>, number: u32, pass: Pas
     }
 }
 
-/// Takes a pass out of a group's post, if it holds one.
+/// Takes a pass out of a group's post. None if there is no post or it holds none.
 pub(crate) fn take_at<J: Naming>(posts: &mut Vec<Post<J>>, number: u32) -> Option<Pass<J>>
     ensures fewer { MatchOption result (held_at posts.old.items number ≡ 0) (λ pass. (group_of pass ≡ Some (word_at posts.old.items number)) × Changes posts.old.items number posts.new.items (TakesOne pass)) }
 {
@@ -304,7 +309,8 @@ pub(crate) fn keep_at<J: Naming>(
     }
 }
 
-/// For a token that comes in the place of a call or a group: takes the record's pass out, if one is held, and sets how many tokens are out.
+/// For a token that comes in the place of a call or a group: takes the record's pass out, and sets how many tokens are out. None, and nothing
+/// changes, if no pass is held.
 pub(crate) fn send_at<J: Naming>(
     posts: &mut Vec<Post<J>>,
     number: u32,
@@ -370,7 +376,7 @@ pub(crate) fn wake_at<J: Naming>(
     Some(pass)
 }
 
-/// How many tokens of a group are kept.
+/// How many tokens of a group are kept; 0 if it has no post.
 pub(crate) fn kept_in<J: Naming>(posts: &Vec<Post<J>>, number: u32) -> usize
     ensures { result ≡ kept_at posts.now.items number }
 {
@@ -380,7 +386,7 @@ pub(crate) fn kept_in<J: Naming>(posts: &Vec<Post<J>>, number: u32) -> usize
     }
 }
 
-/// How many tokens of a group are out.
+/// How many tokens of a group are out; 0 if it has no post.
 pub(crate) fn out_in<J: Naming>(posts: &Vec<Post<J>>, number: u32) -> usize
     ensures out { result ≡ out_at posts.now.items number }
     ensures there { 1 ≤ result → number < length posts.now.items }
@@ -391,7 +397,8 @@ pub(crate) fn out_in<J: Naming>(posts: &Vec<Post<J>>, number: u32) -> usize
     }
 }
 
-/// Takes a pass out of a group's post, if the passes there and the tokens that are out are together more than `members`.
+/// Takes a pass out of a group's post, if one is held and the passes there and the tokens that are out are together more than `members`, how many
+/// members the group has. Else None.
 pub(crate) fn spare_at<J: Naming>(
     posts: &mut Vec<Post<J>>,
     number: u32,
@@ -408,7 +415,7 @@ pub(crate) fn spare_at<J: Naming>(
     }
 }
 
-/// How many passes of a group are held.
+/// How many passes of a group are held; 0 if it has no post.
 pub(crate) fn held_in<J: Naming>(posts: &Vec<Post<J>>, number: u32) -> usize
     ensures { result ≡ held_at posts.now.items number }
 {
@@ -426,7 +433,7 @@ pub(crate) fn parent_in<J: Naming>(posts: &Vec<Post<J>>, number: u32) -> u32 {
     }
 }
 
-/// The number of a group's word.
+/// The number of a group's word; 0, which is that of the program's own, if it has no post.
 pub(crate) fn word_in<J: Naming>(posts: &Vec<Post<J>>, number: u32) -> u32
     ensures { result ≡ word_at posts.now.items number }
 {
@@ -459,11 +466,13 @@ pub(crate) fn reserve_opening<J: Naming>(
     ensures posts { OnOk result (MOST_GROUPS ≤ vec_capacity posts.new) }
 {
     reserve_at(posts, number)?;
+    // By `requires` there are at most `MOST_GROUPS` posts.
     let more = MOST_GROUPS - posts.len();
     posts.try_reserve(more)
 }
 
-/// Adds posts without passes up to the group with this number. What they have as word and parent means nothing until `raise_at` sets it.
+/// Adds posts without passes up to the group with this number, in the room that `reserve_opening` made; none if its post is there. What they have as
+/// word and parent means nothing until `raise_at` sets it.
 pub(crate) fn grow_to<J: Naming>(alloc: Global, posts: &mut Vec<Post<J>>, number: u32)
     requires few { length posts.old.items ≤ MOST_GROUPS }
     requires number { number < MOST_GROUPS }

@@ -21,14 +21,17 @@ use orc_rules::value::Value;
 use orc_tables::Token as Record;
 use orc_word::{Groups, Naming};
 
-/// What a token publishes into a `>x>`: the value, the variable, the right side's node and the scope in which that is read, and the step that
-/// encloses the `>x>`, by the ledger's numbers.
+/// What a token publishes into a `>x>`, and what the ledger knows of that `>x>` (`Taker::SeqLeft`).
 #[derive(Clone, Copy)]
 pub(crate) struct Fed {
     pub value: Value,
+    /// The number of the variable.
     pub name: u32,
+    /// The node of the right side.
     pub right: u32,
+    /// The ledger's number of the scope in which the right side is read.
     pub scope: usize,
+    /// The ledger's number of the step that encloses the `>x>`.
     pub outer: usize,
 }
 
@@ -53,8 +56,10 @@ impl<P: Run + Naming> Book<P> {
         }
     }
 
-    // Publishes the token's value into the `>x>` that takes it: a token on a copy of the right side is out in its place. If the `>x>` is in another
-    // group, an idle pass of `births` enters that group for the new token, and the old token's own pass is to be left.
+    // Publishes the token's value into the `>x>` that takes it: a token on a copy of the right side is out in its place, and is added to `out`, which
+    // has room for it. If the `>x>` is in another group, an idle pass of `births` enters that group for the new token, and the old token's own pass
+    // is added to `out.leave`. Refused as Short if it needs an idle pass and the last of `births` names a group or there is none, else as the ledger
+    // refuses the entry.
     pub(crate) fn send(
         &mut self,
         groups: &Groups<P>,
@@ -79,6 +84,7 @@ impl<P: Run + Naming> Book<P> {
         ensures why { IfErr result (λ r. IsRefusedStep P.listing self.old token births.old.same.items births.old.idle.items r.why) }
     {
         let fed = self.fed_by(found.its, value);
+        // The group in which the `>x>` stands.
         let round = self.ledger.group_of(fed.outer);
         if round == found.group {
             self.send_within(token, found, fed, out)
@@ -156,12 +162,14 @@ impl<P: Run + Naming> Book<P> {
             let why = BookFault::Short;
             return Err(Refused { why, back: token });
         };
+        // The law of `send_within`. Nothing runs.
         stands(&self.ledger);
         match self.ledger.send(
             token.slot, found.its, fed.value, fed.name, fed.right, fed.scope, fed.outer,
         ) {
             Ok(()) => {
-                // No more tokens are out than there are, and their number is a `usize`: so one more doesn't overflow.
+                // For the prover alone: the number of all tokens, the new one too, is a `usize`, and no more are out. So `out_there + 1` doesn't
+                // overflow.
                 let _tokens = self.ledger.token_count();
                 set_out(&mut self.posts, found.group, found.out - 1);
                 let out_there = out_in(&self.posts, round);
@@ -175,6 +183,7 @@ impl<P: Run + Naming> Book<P> {
                 Ok(())
             }
             Err(fault) => {
+                // There is room, since the pass was taken from this list.
                 births.idle.push_reserved(idle);
                 Err(Refused {
                     why: fault_of(fault),

@@ -29,8 +29,8 @@ fn is_there<P: Run>(ledger: &Ledger<P>, number: u32) -> bool
     }
 }
 
-// If the group with this number is there no more, its word stands for a killed one. The word takes the group's own pass to the enclosing group with
-// it.
+// If the group with this number is there no more, notes that its word stands for a killed one. The word holds the group's own pass to the enclosing
+// group from then on, if that has a pass too many.
 fn bury_one<P: Run, J: Naming>(
     ledger: &Ledger<P>,
     posts: &mut Vec<Post<J>>,
@@ -55,6 +55,7 @@ fn bury_one<P: Run, J: Naming>(
         return;
     }
     let parent = parent_in(posts, number);
+    // The number of the enclosing group's word.
     let above = word_in(posts, parent);
     // The enclosing group has lost a member, so its post has a pass too many.
     let pass = spare_at(posts, parent, ledger.member_count(parent) as usize);
@@ -75,7 +76,8 @@ fn next_empty<P: Run>(ledger: &Ledger<P>, from: u32, to: u32) -> u32
     to
 }
 
-// Buries each group that is there no more. A group that has members is there; to ask that first is faster. `posts` are few enough for a `u32`.
+// Buries each group that is there no more. A group that has members is there; `next_empty` asks that first and passes over most groups, since that is
+// faster than to look at words and posts. `posts` are few enough for a `u32`.
 pub(crate) fn bury_missing<P: Run, J: Naming>(
     ledger: &Ledger<P>,
     posts: &mut Vec<Post<J>>,
@@ -118,7 +120,8 @@ fn next_unsettled<P: Run, J: Naming>(
     to
 }
 
-// Fits each post to its group's members. Passes that are too many go to `leave`; of a group without members no token is kept or out.
+// Fits each post to its group's members. Passes that are too many go to `leave`; of a group without members no token is kept or out. Posts that fit
+// are passed over by `next_unsettled`, as in `bury_missing`.
 pub(crate) fn settle_all<P: Run, J: Naming>(
     ledger: &Ledger<P>,
     posts: &mut Vec<Post<J>>,

@@ -58,6 +58,7 @@ impl<P: Run + Naming> Book<P> {
             Action::Prune => self.step_prune(groups, inputs, token, found, births, out),
             Action::Other => self.step_other(groups, inputs, token, found, births, out),
             Action::Send(value) => self.send(groups, token, found, value, births, out),
+            // Publish, Bind, Call and Wait have calls of their own.
             _ => {
                 let why = BookFault::Wrong;
                 Err(Refused { why, back: token })
@@ -65,8 +66,11 @@ impl<P: Run + Naming> Book<P> {
         }
     }
 
-    // The arms of `step`. Each takes passes that it needs from `births`, and gives back those that a refused move doesn't use; what comes of the move
-    // is added to `out`, which has room for it.
+    // This and the functions below are the arms of `step`. Each takes the passes that it needs from `births`, and gives back those that a refused
+    // move doesn't use: there is room, since they came from there. What comes of the move is added to `out`, which has room for it. Refused as `step`
+    // is.
+    //
+    // The token ends, and its pass is to be left.
     fn step_end(
         &mut self,
         inputs: &Inputs<'_, P>,
@@ -95,7 +99,7 @@ impl<P: Run + Naming> Book<P> {
         }
     }
 
-    // Needs no pass, so the clause *why* holds whatever was lent.
+    // The token enters a `>x>` or a body. It needs no pass, so the clause *why* holds whatever was lent.
     fn step_on(
         &mut self,
         inputs: &Inputs<'_, P>,

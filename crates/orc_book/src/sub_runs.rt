@@ -23,7 +23,7 @@ pub enum SubRunEnd<P: Naming> {
 }
 
 impl<P: Run + Naming> Book<P> {
-    /// Merges a sub-run into the run: this token is at the call of a definition, with values, that the sub-run has run. The sub-run's entries are
+    /// Merges the sub-run `part` into the run: this token is at the call of a definition, with values, that it has run. The sub-run's entries are
     /// appended to the journal. If the call yields a value, a token on it is out in the token's place, with its pass; else the token is gone, and
     /// its pass is to be left.
     ///
@@ -47,6 +47,7 @@ impl<P: Run + Naming> Book<P> {
             Ok(found) => found,
             Err(why) => return Err(Refused { why, back: token }),
         };
+        // No task: the token isn't at a call of a definition, or an argument has no value.
         let Some(task) = self.ledger.task(inputs, &found.its) else {
             let why = BookFault::Wrong;
             return Err(Refused { why, back: token });

@@ -39,13 +39,14 @@ impl<P: Run + Naming> Book<P> {
             return Err(Refused { why, back: token });
         };
         let kept = kept_in(&self.posts, found.group);
-        // No more tokens are kept than there are, and their number is a `usize`: so one more doesn't overflow.
+        // For the prover alone: the number of all tokens, this one too, is a `usize`, and those that are kept are fewer. So `kept + 1` doesn't
+        // overflow.
         let _tokens = self.ledger.token_count();
         let handle = Handle {
             slot: token.slot,
             serial: token.serial,
         };
-        // Lists the token's cells in `cells`, and parks the token in the ledger. If the book then refuses it, it does no harm that it is parked.
+        // Lists the token's cells in `cells`, and *parks* the token: the ledger notes that it waits. If the book then refuses it, that does no harm.
         if let Err(fault) = self
             .ledger
             .park(inputs, token.slot, found.its, &mut self.cells)
@@ -57,6 +58,7 @@ impl<P: Run + Naming> Book<P> {
             let why = BookFault::Memory;
             return Err(Refused { why, back: token });
         };
+        // The last step that can be refused: from here on the token is marked as kept.
         let Ok(()) = self.keeping.keep(self.cells.as_slice(), handle) else {
             let why = BookFault::Memory;
             return Err(Refused { why, back: token });
@@ -79,6 +81,7 @@ impl<P: Run + Naming> Book<P> {
         ensures passes { (f : View → ℕ) → MatchOption result (in_book f self.new ≡ in_book f self.old) (λ k. f k.pass + in_book f self.new ≡ in_book f self.old) }
         ensures woken { MatchOption result (AreUnmarked self.old.marks self.new.marks) (λ k. (1 ≤ k.serial) × (mark_at self.old.marks k.slot ≡ k.serial) × IsMarked self.old.marks k.slot 0 self.new.marks) }
     {
+        // No token has serial 0, and the ledger isn't to be asked for it.
         if handle.serial < 1 || !self.keeping.release(handle) {
             return None;
         }
@@ -100,6 +103,7 @@ impl<P: Run + Naming> Book<P> {
     {
         // No chain is longer than there are links, so each is popped.
         for _link in 0..self.keeping.len() {
+            // Before the token leaves the chain, so that a refusal loses none.
             born.try_reserve(1)?;
             let Some(handle) = self.keeping.pop(cell) else {
                 break;

@@ -68,6 +68,7 @@ impl<P: Naming> WordTable<P> {
         ensures { IfOk result (λ t. IsOpened [] 0 0 t.stands) }
     {
         let mut stands = Slab::with_capacity(alloc, count as usize)?;
+        // Group 0 is the program's own. Its word is the table's first, so it has the number 0.
         let Ok(_first) = stands.insert(Stand::Open(0)) else {
             return Err(AllocError);
         };
@@ -137,7 +138,8 @@ impl<P: Naming> WordTable<P> {
         self.dying += 1;
     }
 
-    /// Frees a word. Gives the pass that it holds: that of a killed group to the one that enclosed it.
+    /// Frees a word. Gives the pass that it holds: that of a killed group to the one that enclosed it. None where it holds no pass, as where it
+    /// stands for an open group, or is free already.
     pub(crate) fn free(&mut self, word: u32) -> Option<Pass<P>>
         ensures pass { IfSome result (λ pass. IsSome (group_of pass)) }
         ensures owed { result ≡ owed_at self.old.stands word }
@@ -163,7 +165,7 @@ impl<P: Naming> WordTable<P> {
         let _none = self.free(word);
     }
 
-    /// How many words stand for killed groups.
+    /// How many words stand for killed groups, each until it is freed.
     pub(crate) fn dying(&self) -> usize
         ensures { result ≡ count_by is_dying self.now.stands }
     {

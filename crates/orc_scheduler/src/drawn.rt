@@ -27,7 +27,7 @@ pub(crate) fn is_at_script(graph: &Graph, answers: &Answers, token: &Token) -> b
 }
 
 impl<P: Run> Scheduler<P> {
-    /// The turn that the order draws.
+    /// The turn that the order draws. It `Rests` if no token is runnable and no due call is left to be drawn. The error is why the run stops.
     #[cold]
     #[inline(never)]
     pub(crate) fn drawn_turn(&mut self, inputs: &Inputs<'_, P>) -> Result<Turn, Stop>
@@ -42,6 +42,7 @@ impl<P: Run> Scheduler<P> {
                     self.move_on(inputs, handle)?;
                     return Ok(Turn::Went);
                 }
+                // False: the call is gone, and the next round draws another.
                 Some(Drawn::Call(number)) => {
                     if self.answer_drawn(number)? {
                         return Ok(Turn::Went);
@@ -75,6 +76,7 @@ impl<P: Run> Scheduler<P> {
         match self.ledger.what(inputs, token) {
             Action::Publish(_) | Action::Bind(_, _) => true,
             Action::Call => is_at_script(inputs.graph, inputs.answers, token),
+            // Nobody outside sees any other action.
             _ => false,
         }
     }
@@ -88,7 +90,7 @@ impl<P: Run> Scheduler<P> {
         let Some(call) = self.ledger.pending(number) else {
             return Ok(false);
         };
-        // What the table found for the call: an answer and its delay, or never.
+        // What the table found for the call: an answer after a delay, or never. One that is never answered isn't due.
         let Found::After(answer, _) = call.found else {
             return Ok(false);
         };
@@ -163,6 +165,7 @@ impl<P: Run> Scheduler<P> {
         if !self.ready.is_ordered() {
             return Ok(());
         }
+        // Numbers of calls count from 1.
         let mut number = 0;
         // As many calls pend at most as there may be tokens.
         for _ in 0..MOST_TOKENS {

@@ -96,7 +96,7 @@ impl<P: Run> Scheduler<P> {
     }
 
     // How a run has ended that stops as Full: a limit of the engine (tokens, groups, frames) was reached. The journal shows whether one can have
-    // been; the fault is Broken if none can.
+    // been; the fault is Broken if none can. None if the run keeps no journal.
     fn crowded(&mut self, inputs: &Inputs<'_, P>) -> Result<Option<End>, EngineFault>
         ensures ended { IfOk result (λ end. MatchOption end (P.keeps ≡ false) (HasEnded P.listing inputs.now.answers.now self.new.ledger)) }
         ensures range { IfErr result (λ fault. fault ≡ EngineFault.Range → ⊥) }
@@ -113,7 +113,8 @@ impl<P: Run> Scheduler<P> {
     }
 
     // How a run has ended whose journal has as many entries as the limit: Limit, or Quiet if nothing could come next. The ledger mostly knows which;
-    // if only moves of marks (entries that no rule of Orc has) are left, the journal is replayed by the rules.
+    // if only moves of marks (entries that no rule of Orc has) may be left, the journal is replayed by the rules. None if the run keeps no journal
+    // then.
     fn cut(&mut self, program: &Program, inputs: &Inputs<'_, P>) -> Result<Option<End>, EngineFault>
         requires program { program.now ≡ P.listing }
         ensures ended { IfOk result (λ end. MatchOption end (P.keeps ≡ false) (HasEnded P.listing inputs.now.answers.now self.new.ledger)) }
@@ -121,6 +122,7 @@ impl<P: Run> Scheduler<P> {
         ensures sound { IfErr result (λ _. Stops P.listing self.old.ledger (Stop.Refused LedgerFault.Limit) → ⊥) }
     {
         let next = self.ledger.next(inputs);
+        // The ledger refuses an entry as Limit only where there is no room, so this doesn't come up.
         if self.ledger.entries() < self.ledger.limit() {
             return Err(EngineFault::Broken);
         }
@@ -129,6 +131,7 @@ impl<P: Run> Scheduler<P> {
         match next {
             Next::Quiet => return Ok(Some(End::Quiet)),
             Next::Ticks(_) => return Ok(Some(End::Limit)),
+            // A token can move, a group can end or a call is due. Whether a rule of Orc can be used is still to be found.
             Next::Work => {}
         }
         if self.ledger.can_use_rule(inputs) {

@@ -25,7 +25,7 @@ impl<P: Run> Scheduler<P> {
             return Ok(());
         }
         if self.pass_time(inputs)? {
-            // Where there is an order it draws which of the calls that are due now is answered first.
+            // A call is due at this time. In a run with an order the order draws which one is answered first, in a turn of its own.
             if !self.ready.is_ordered() {
                 self.answer_due()?;
             }
@@ -93,7 +93,7 @@ impl<P: Run> Scheduler<P> {
         Ok(())
     }
 
-    // A call is answered. Gives the slot of the token on its answer.
+    // A call is answered. Gives the slot of the token on its answer; None if the call halts, and its group ends if it has no members any more.
     fn answer(&mut self, call: Call, answer: Answer) -> Result<Option<usize>, Stop>
         ensures advances { IfOk result (λ _. Advances self.old.ledger self.new.ledger) }
         ensures stops { IfErr result (λ stop. Pends self.old.ledger call.number call → IsDueNow P.listing P.sites self.old.ledger call.number answer → Stops P.listing self.new.ledger stop) }
@@ -107,6 +107,7 @@ impl<P: Run> Scheduler<P> {
             }
             Err(ReturnFault::Limit) => Err(Stop::Refused(LedgerFault::Limit)),
             Err(ReturnFault::Memory) => Err(Stop::Refused(LedgerFault::Memory)),
+            // Neither comes up: the ledger's `due` gave the call, which pends, and the table's answer.
             Err(ReturnFault::Wrong) => Err(Stop::Site(call.number)),
             Err(ReturnFault::Gone) => Err(Stop::Broken),
         }

@@ -13,13 +13,13 @@ use orc_ledger::{Inputs, Run, SubRun, SubRunTask, Token};
 use orc_rules::limits::MOST_GROUPS;
 use std::alloc::AllocError;
 
-/// The most calls that are run apart at a time.
+/// The most calls in one list of jobs, and so the most that one attempt runs apart.
 const MOST_JOBS: usize = 2_000;
 
-/// Spreading ends after this many entries for each token that it is to make runnable.
+/// Spreading ends after this many entries for each token that it is to make runnable, so that it ends in a program whose tokens don't multiply.
 const EACH: usize = 40;
 
-/// The most rounds of turns in which tokens are spread.
+/// The most rounds of turns in which tokens are spread, however few entries they write.
 const ROUNDS: usize = 1_000;
 
 /// Tokens aren't spread while this many sides are open. Tokens that go on together keep more sides open than one that goes to its end, and a run is
@@ -52,6 +52,7 @@ impl<P: Run> Scheduler<P> {
         ensures spread { IfOk result (λ _. HasSpread self.old.ledger (deque_len self.old.ready.handles) self.new.ledger (deque_len self.new.ready.handles)) }
         ensures stops { IfErr result (λ stop. Stops P.listing self.new.ledger stop) }
     {
+        // The number of entries after which spreading ends.
         let last = self.entries().saturating_add(wanted.saturating_mul(EACH));
         for _round in 0..ROUNDS {
             let ready = self.ready();
@@ -69,7 +70,8 @@ impl<P: Run> Scheduler<P> {
     }
 
     // Gives each runnable token a turn, which ends at its next call of a definition. A token that stands at such a call stays there if over `moves`
-    // moves have led to it, and every token stays where it is as long as `MOST_SIDES` sides are open.
+    // moves have led to it, and every token stays where it is as long as `MOST_SIDES` sides are open. A token that stays goes behind the others, so
+    // that each is looked at once. The error is why the run stops.
     fn spread_once(&mut self, inputs: &Inputs<'_, P>, moves: u32) -> Result<(), Stop>
         ensures spread { IfOk result (λ _. HasSpread self.old.ledger (deque_len self.old.ready.handles) self.new.ledger (deque_len self.new.ready.handles)) }
         ensures stops { IfErr result (λ stop. Stops P.listing self.new.ledger stop) }
@@ -110,6 +112,7 @@ impl<P: Run> Scheduler<P> {
         let mut jobs = Vec::new(self.alloc);
         let len = self.ready.len();
         if races {
+            // The samples stand first: every `step`-th token of the queue, `STRIDE` of them at most.
             let step = len.div_ceil(STRIDE).max(1);
             for at in (0..len).step_by(step) {
                 self.add_job(inputs, at, races, &mut jobs)?;
@@ -150,10 +153,12 @@ impl<P: Run> Scheduler<P> {
         Ok(())
     }
 
-    // The call at which a token stands, if the token is still there, and the call races others if `races` or races none if not.
+    // The call at which a token stands. None if the token is gone, stands elsewhere or at a call without values, or if the call races others and
+    // `races` says no, or the other way round.
     fn task_of(&self, inputs: &Inputs<'_, P>, handle: Handle, races: bool) -> Option<SubRunTask> {
         let token = self.token_of(handle)?;
         let task = self.ledger.task(inputs, &token)?;
+        // What an outermost call publishes the run publishes: it ends no other call.
         let is_racing = !task.is_outermost && !self.is_alone(&token);
         if is_racing == races { Some(task) } else { None }
     }
@@ -184,7 +189,9 @@ impl<P: Run> Scheduler<P> {
         let Some(task) = self.ledger.task(inputs, &token) else {
             return Ok(false);
         };
+        // Noted before the token may be gone.
         let group = self.ledger.group_of_token(&token);
+        // The result is that of another call, the limit has no room for its entries, or memory was refused.
         if !part.is_of(&task)
             || self
                 .ledger

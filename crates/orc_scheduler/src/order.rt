@@ -26,7 +26,7 @@ const UNSEEN: u32 = 64;
 #[derive(Drop)]
 pub(crate) struct Order {
     numbers: SplitMix64,
-    // The number that was drawn last.
+    // The pseudo-random number that was drawn last, of 64 bits; 0 before the first draw.
     last: u64,
     // The seed from which ranks are computed.
     ranks: u64,
@@ -36,7 +36,7 @@ pub(crate) struct Order {
     pub(crate) settled: usize,
     // How many turns that nobody outside sees have followed one another.
     unseen: u32,
-    // The calls that came due, of which some may have been answered or cancelled.
+    // The numbers of the calls that came due and weren't drawn yet, of which some may have been answered or cancelled.
     pub(crate) calls: Vec<u64>,
 }
 
@@ -54,7 +54,7 @@ impl Order {
         }
     }
 
-    /// Draws a place under `count`; 0 if `count` is 0.
+    /// Draws a place from 0 up to `count`, that one left out; 0 if `count` is 0.
     pub(crate) fn draw(&mut self, count: usize) -> usize
         ensures { 0 < count → result < count }
     {
@@ -83,7 +83,7 @@ impl Order {
         }
     }
 
-    /// The rank of the call in a place among those that came due.
+    /// The rank of the call in a place, from 0, among those that came due; 0 if there is none.
     pub(crate) fn rank_of_call(&self, place: usize) -> u64 {
         match self.calls.get(place) {
             // From the other end of the numbers, so that no call has the name of a node or a slot.
@@ -108,7 +108,7 @@ impl Order {
         false
     }
 
-    /// Takes the call in a place among those that came due.
+    /// Takes the number of the call in a place, from 0, among those that came due; None if there is none. The last one gets its place.
     pub(crate) fn take_call(&mut self, place: usize) -> Option<u64> {
         if place < self.calls.len() {
             Some(self.calls.swap_remove(place))
@@ -117,7 +117,7 @@ impl Order {
         }
     }
 
-    /// A call came due. The error is refused memory.
+    /// The call with this number came due, and may be drawn. The error is refused memory.
     pub(crate) fn note_call(&mut self, number: u64) -> Result<(), AllocError> {
         self.calls.push(number)?;
         Ok(())

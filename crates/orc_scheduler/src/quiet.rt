@@ -22,6 +22,7 @@ pub(crate) fn is_quiet_at(
 ) -> Option<bool>
     ensures { IfSome result (λ quiet. (p : Place) → Leads (context program.now answers.now) (begin (source program.now)) journal.now.entries p → (quiet ≡ true) ↔ IsQuiet (context program.now answers.now) (moment p)) }
 {
+    // The journal records the cancels of each bind.
     let Ok(mut marked) = Marked::new(alloc, program, true) else {
         return None;
     };

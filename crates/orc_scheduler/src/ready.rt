@@ -33,7 +33,7 @@ pub struct Ready {
     pub handles: VecDeque<Handle>,
     // How many turns there were.
     turns: u64,
-    // Says whose turn it is in a run with `--order`; none in others.
+    // Says whose turn it is in a run with an order (`--order`); None in others.
     order: Option<Order>,
 }
 
@@ -45,7 +45,8 @@ pub(crate) enum Drawn {
     Call(u64),
 }
 
-// The rank of the token or call at this place of a draw. Places count the tokens first, then the calls that are due.
+// The rank of the token or call at this place of a draw, by which an odd order compares candidates. Places count from 0, the tokens of the queue
+// first, then the calls that are due.
 fn rank_at<P: Run>(
     handles: &VecDeque<Handle>,
     ledger: &Ledger<P>,
@@ -57,6 +58,7 @@ fn rank_at<P: Run>(
     };
     match ledger.held(handle.slot) {
         Some(token) => order.rank(handle.slot, token.standing),
+        // The token is gone, and has the least rank.
         None => 0,
     }
 }
@@ -78,14 +80,14 @@ impl Ready {
         self.order = Some(order);
     }
 
-    /// How many tokens have a turn that comes.
+    /// How many handles there are, those of tokens that are gone too.
     pub(crate) fn len(&self) -> usize
         ensures { result ≡ deque_len self.now.handles }
     {
         self.handles.len()
     }
 
-    /// Makes room for one more. The error is refused memory.
+    /// Makes room for one handle more. The error is refused memory.
     #[inline(always)]
     pub(crate) fn reserve(&mut self) -> Result<(), AllocError>
         ensures { deque_len self.new.handles ≡ deque_len self.old.handles }
@@ -93,7 +95,7 @@ impl Ready {
         self.handles.reserve(1)
     }
 
-    /// Adds a token. The error is refused memory.
+    /// Adds a token behind the others, as the newest. The error is refused memory.
     #[inline(always)]
     pub(crate) fn push(&mut self, handle: Handle) -> Result<(), AllocError> {
         match self.handles.push_back(handle) {
@@ -102,36 +104,36 @@ impl Ready {
         }
     }
 
-    /// The token that has waited longest.
+    /// The token that has waited longest; None if the queue is empty.
     pub(crate) fn oldest(&self) -> Option<Handle> {
         self.handles.front().copied()
     }
 
-    /// The token that has waited longest waits no more.
+    /// Drops the handle of the token that has waited longest.
     pub(crate) fn drop_oldest(&mut self)
         ensures { deque_len self.new.handles ≤ deque_len self.old.handles }
     {
         let _gone = self.handles.pop_front();
     }
 
-    /// Whether a round has ended, and no turn of the next one has begun.
+    /// Whether a round has ended, and no turn of the next one has begun. So it is before the first turn, too.
     pub(crate) fn is_round_over(&self) -> bool {
         self.turns % ROUND == 0
     }
 
-    /// The token in that place, from the one that has waited longest.
+    /// The token in that place, from 0 for the one that has waited longest; None if the queue is shorter.
     pub(crate) fn get(&self, at: usize) -> Option<Handle> {
         self.handles.get(at).copied()
     }
 
-    /// The token that has waited longest goes behind the others.
+    /// The token that has waited longest goes behind the others, without a turn. An empty queue stays as it is.
     pub(crate) fn pass_oldest(&mut self)
         ensures { deque_len self.new.handles ≡ deque_len self.old.handles }
     {
         self.handles.rotate_left(self.handles.len().min(1));
     }
 
-    /// The least number of moves that have led to one of the tokens, 0 where there is none.
+    /// The least number of moves that have led to one of the tokens; 0 if the queue is empty.
     pub(crate) fn fewest_moves(&self) -> u32 {
         self.handles
             .iter()
@@ -140,7 +142,8 @@ impl Ready {
             .unwrap_or(0)
     }
 
-    /// Takes a token out of the queue: the newest one, but once a round, and always if the tokens spread, the one that has waited longest.
+    /// Takes a token out of the queue: the newest one, but once a round, and always if the tokens spread, the one that has waited longest. None if
+    /// the queue is empty; that counts as a turn, too.
     #[inline(always)]
     pub(crate) fn take(&mut self, spreads: bool) -> Option<Handle>
         ensures { MatchOption result (deque_len self.new.handles ≤ deque_len self.old.handles) (λ _. deque_len self.new.handles + 1 ≡ deque_len self.old.handles) }
@@ -160,7 +163,7 @@ impl Ready {
         self.order.is_some()
     }
 
-    /// How many calls came due and weren't drawn yet, where there is an order.
+    /// How many calls came due and weren't drawn yet; 0 if there is no order.
     pub(crate) fn call_count(&self) -> usize {
         match &self.order {
             Some(order) => order.calls.len(),
@@ -168,7 +171,7 @@ impl Ready {
         }
     }
 
-    /// A call came due, and has a turn where there is an order. The error is refused memory.
+    /// A call came due, and has a turn if there is an order. The error is refused memory.
     pub(crate) fn note_call(&mut self, number: u64) -> Result<(), AllocError>
         ensures { self.new.handles ≡ self.old.handles }
     {
@@ -178,7 +181,8 @@ impl Ready {
         }
     }
 
-    /// The token that came last, if there is an order and it isn't known yet whether somebody outside sees its next step.
+    /// The token that came last, if there is an order and it isn't known yet whether somebody outside sees its next step. None if all are settled,
+    /// too.
     pub(crate) fn newest_unsettled(&self) -> Option<Handle> {
         let Some(order) = &self.order else {
             return None;
@@ -212,6 +216,7 @@ impl Ready {
             return None;
         };
         let tokens = self.handles.len();
+        // A token that isn't settled needs no draw, and the newest one goes.
         if order.goes_unseen(tokens) {
             return match self.handles.pop_back() {
                 Some(handle) => Some(Drawn::Token(handle)),
@@ -228,7 +233,8 @@ impl Ready {
                 at = rival;
             }
         }
-        // Those that are settled stay in front: the last of them takes the place of one that goes.
+        // Those that are settled stay in front: the last of them takes the place of one that goes. The second test always holds: it is for the
+        // prover.
         if at < order.settled && order.settled <= tokens {
             order.settled -= 1;
             self.handles.swap(at, order.settled);
@@ -240,6 +246,7 @@ impl Ready {
                 order.settled = order.settled.min(self.handles.len());
                 Some(Drawn::Token(handle))
             }
+            // No token has this place, so a call is drawn; none if there is neither token nor call.
             None => match order.take_call(at.saturating_sub(tokens)) {
                 Some(number) => Some(Drawn::Call(number)),
                 None => None,

@@ -70,7 +70,7 @@ pub(crate) enum Step {
     On(usize),
     /// It is gone.
     Done,
-    /// It stays as it is until something comes for which it waits.
+    /// It stays in its slot until one of the cells for which it waits is bound or lost. It is in no queue then.
     Waits,
 }
 
@@ -92,7 +92,8 @@ pub struct Scheduler<P: Run> {
     moves: u32,
     // What this run holds back of its output if it is a sub-run.
     pub(crate) holding: Holding,
-    // Four lists that the ledger's calls fill. They stay here so that their memory is used again.
+    // Four lists that the ledger's calls fill: new scopes of a definition's parameters, numbers of cancelled calls, cells for which a token waits,
+    // and arguments of a call of a site. What an earlier call left there is never read; they stay here so that their memory is used again.
     scopes: Vec<StoredScope>,
     cancelled: Vec<u64>,
     cells: Vec<u64>,
@@ -129,7 +130,7 @@ impl<P: Run> Drop for Scheduler<P> {
 }
 
 impl<P: Run> Scheduler<P> {
-    /// A run that begins, whose ledger `keeps` its journal or doesn't. The table answers its calls.
+    /// A run that begins, whose ledger `keeps` its journal or doesn't. Its run queue is empty until `begin`. The table answers its calls.
     pub fn new(alloc: Global, ledger: Ledger<P>, keeps: bool) -> Scheduler<P>
         requires { keeps ≡ P.keeps }
     {
@@ -275,12 +276,14 @@ impl<P: Run> Scheduler<P> {
         ensures nearer { IfOk result (λ _. IsNearer self.old.ledger (deque_len self.old.ready.handles + 1) self.new.ledger (deque_len self.new.ready.handles)) }
         ensures stops { IfErr result (λ stop. Stops P.listing self.new.ledger stop) }
     {
+        // A bind has dropped the token while its handle was in the queue.
         let Some(mut token) = self.token_of(handle) else {
             return Ok(());
         };
         let mut slot = handle.slot;
         for moved in 0..MOVES {
             self.moves = handle.moves.saturating_add(moved);
+            // A turn has one move at least, even of a token that stands where turns end.
             if moved > 0 && self.is_turn_over(inputs, &token) {
                 break;
             }
@@ -299,6 +302,7 @@ impl<P: Run> Scheduler<P> {
             }
             match self.ledger.held(slot) {
                 Some(next) => token = next,
+                // A token that goes on is in its slot; the prover isn't told so.
                 None => return Ok(()),
             }
         }
@@ -331,12 +335,13 @@ impl<P: Run> Scheduler<P> {
         for _ in 0..self.ready.len() {
             match self.ready.oldest() {
                 Some(handle) if !self.is_there(handle) => self.ready.drop_oldest(),
+                // The oldest token is there, or the queue is empty.
                 _ => return,
             }
         }
     }
 
-    // The token of a handle, if it is there.
+    // The token of a handle. None if it is gone: its slot is free, or holds a token with another serial.
     #[inline(always)]
     pub(crate) fn token_of(&self, handle: Handle) -> Option<Token>
         ensures { IfSome result (λ token. IsHeld self.now.ledger.slots handle.slot token) }
@@ -354,7 +359,7 @@ impl<P: Run> Scheduler<P> {
         self.token_of(handle).is_some()
     }
 
-    /// The turn of the token in a slot comes.
+    /// Puts the token in a slot into the run queue; nothing happens if the slot is free. The error is refused memory.
     #[inline(always)]
     pub(crate) fn join_held(&mut self, slot: usize) -> Result<(), Stop>
         ensures same { self.new.ledger ≡ self.old.ledger }
@@ -366,7 +371,7 @@ impl<P: Run> Scheduler<P> {
         }
     }
 
-    /// Puts the token in a slot into the run queue, if there is one, as a token to which `moves` moves have led.
+    /// Puts the token in a slot into the run queue, as `join_held` does, as one to which `moves` moves have led.
     pub(crate) fn join_after(&mut self, slot: usize, moves: u32) -> Result<(), Stop>
         ensures same { self.new.ledger ≡ self.old.ledger }
     {
@@ -374,7 +379,8 @@ impl<P: Run> Scheduler<P> {
         self.join_held(slot)
     }
 
-    /// One move of a token.
+    /// One move of the token in this slot, and all that follows from it: tokens that it wakes or adds are put into the run queue, groups that it
+    /// leaves without members end. The answer says how the token goes on, the error why the run stops.
     #[inline(always)]
     pub(crate) fn step(
         &mut self,
@@ -400,7 +406,7 @@ impl<P: Run> Scheduler<P> {
         self.pass_on(inputs, slot, token)
     }
 
-    // One move of a token, of any kind.
+    // One move of a token, of any kind, and what follows from it, as of `step`.
     #[inline(always)]
     fn pass_on(&mut self, inputs: &Inputs<'_, P>, slot: usize, token: Token) -> Result<Step, Stop>
         requires held { IsHeld self.old.ledger.slots slot token }
@@ -516,6 +522,7 @@ impl<P: Run> Scheduler<P> {
                             self.close(group)?;
                             Ok(Some(Step::Done))
                         }
+                        // The result of a sub-run in which a call pends can't be merged.
                         Passed::Pends(_) => {
                             self.holding.give_up();
                             Ok(Some(Step::Done))
@@ -523,7 +530,7 @@ impl<P: Run> Scheduler<P> {
                         // No token at `f >x> g` calls or waits.
                         Passed::Calls => Ok(None),
                         Passed::Waits => Ok(None),
-                        // The token stands in f, on the answer of the call there, or in g.
+                        // The token stands in f, on the answer of the call there, or in g. The other variants don't come of `f >x> g`.
                         _ => Ok(Some(Step::On(slot))),
                     },
                     Err(fault) => {
@@ -545,6 +552,7 @@ impl<P: Run> Scheduler<P> {
                     }
                 }
             }
+            // `pass_on` moves the token.
             _ => Ok(None),
         }
     }
@@ -619,6 +627,7 @@ impl<P: Run> Scheduler<P> {
                 self.close(group)?;
                 Ok(Step::Done)
             }
+            // The result of a sub-run in which a call pends can't be merged.
             Called::Pends(_) => {
                 self.holding.give_up();
                 Ok(Step::Done)
@@ -626,12 +635,13 @@ impl<P: Run> Scheduler<P> {
         }
     }
 
-    // Enters the token in a slot as waiting for each cell that it needs.
+    // Enters the token in a slot as waiting for each cell that it needs, and *parks* it: the ledger notes that it waits. The error is refused memory.
     fn wait(&mut self, inputs: &Inputs<'_, P>, slot: usize) -> Result<(), Stop>
         ensures same { self.new.ledger ≡ self.old.ledger }
         ensures fewer { deque_len self.new.ready.handles ≤ deque_len self.old.ready.handles }
         ensures memory { IfErr result (λ stop. stop ≡ Stop.Refused LedgerFault.Memory) }
     {
+        // The caller's token is there; the prover isn't told so.
         let Some(token) = self.ledger.held(slot) else {
             return Ok(());
         };
@@ -714,7 +724,7 @@ impl<P: Run> Scheduler<P> {
         Ok(())
     }
 
-    /// How many tokens have a turn that comes.
+    /// How many handles the run queue has. Some may be of tokens that are gone.
     pub fn ready(&self) -> usize {
         self.ready.len()
     }

@@ -73,7 +73,7 @@ fn sizes_of(journal: &Journal) -> Sizes
     }
 }
 
-/// Whether one of the engine's limits can have ended a run with this journal.
+/// Whether one of the engine's limits can have ended a run with this journal: true is no proof that one has.
 pub(crate) fn is_crowded(journal: &Journal) -> bool
     ensures { result ≡ true ↔ IsCrowded journal.now.entries }
 {

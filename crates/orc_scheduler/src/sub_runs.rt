@@ -31,7 +31,8 @@ pub enum SubRunResult<P: Run> {
 pub struct SubRunJob<P: Run> {
     handle: Handle,
     task: SubRunTask,
-    // Whether the token's side has other members: the first value of a pruning's side drops them, and the work done for them is in vain.
+    // Whether the token's side had other members when the job was listed. The first value of a pruning's side drops them, and the work done for them
+    // is in vain.
     races: bool,
     came: SubRunResult<P>,
 }
@@ -134,6 +135,7 @@ fn run_apart<Q: Run, P: Run>(
     if run_until_cut(&mut scheduler, &inputs) {
         return SubRunResult::Long;
     }
+    // The slot of the one token that may be left.
     let last = scheduler.holding.last();
     match scheduler
         .into_ledger()
@@ -146,6 +148,7 @@ fn run_apart<Q: Run, P: Run>(
 
 // Gives turns until no token is runnable, the sub-run stops, or it can't replace its call any more. Says whether its limit has stopped it.
 fn run_until_cut<Q: Run>(scheduler: &mut Scheduler<Q>, inputs: &Inputs<'_, Q>) -> bool {
+    // Memory was refused. The sub-run's first token is left then, so that its ledger gives no result.
     if scheduler.begin().is_err() {
         return false;
     }
@@ -154,6 +157,7 @@ fn run_until_cut<Q: Run>(scheduler: &mut Scheduler<Q>, inputs: &Inputs<'_, Q>) -
             // Each time round is nearer the end (`IsNearer`), so the loop ends.
             Ok(true) if !scheduler.holding.is_unusable() => {}
             Err(Stop::Refused(LedgerFault::Limit)) => return true,
+            // No token is runnable, the sub-run can't replace its call, or something else stops it. Whether there is a result the ledger says.
             Ok(_) | Err(_) => return false,
         }
     }

@@ -44,10 +44,12 @@ pub(crate) fn played<P: Run>(
     ensures played { IfOk result (λ p. IsPlayed P.listing inputs.now.answers.now P.limit p.summary p.published.items p.journal) }
     ensures kept { IfOk result (λ p. P.keeps ≡ true → is_some p.journal ≡ true) }
 {
+    // Read here, since the ledger is used up below.
     let now = ledger.time();
     // Two laws: they show the prover what the journal is and that its limit is the run's, for the clause *played*. Nothing runs.
     ledger.is_whole();
     ledger.keeps_limit();
+    // The cancels are counted here.
     let entries = ledger.journal_len() as u64;
     let (published, journal) = kept(alloc, ledger, keeps)?;
     Ok(Played {

@@ -12,10 +12,11 @@ struct Link {
 
 /// The tokens that wait, in a chain for each cell. A token may stand in several chains, and one that is gone may stand there still.
 pub(crate) struct Waiting {
-    // The place of the first link of each cell, from 1.
+    // By cell: the place of its chain's first link, from 1; 0 if its chain is empty.
     heads: Vec<u32>,
+    // The links of all chains, with those that are free.
     links: Vec<Link>,
-    // The place of the first link that is free; the free ones are a chain too.
+    // The place of the first link that is free, from 1; 0 for none. The free ones are a chain too.
     free: u32,
 }
 
@@ -40,7 +41,7 @@ impl Waiting {
         }
     }
 
-    // The link with this place.
+    // The link with this place; None for place 0, or one past the links.
     fn link_at(&self, place: u32) -> Option<Link> {
         if place == 0 {
             return None;
@@ -54,6 +55,7 @@ impl Waiting {
         let place = self.free;
         if let Some(free) = self.link_at(place) {
             self.free = free.next;
+            // A place with a link is over 0, so this is the link's index. The prover isn't told so, here and in `wake`.
             if let Some(there) = self.links.get_mut(place.saturating_sub(1) as usize) {
                 *there = link;
             }
@@ -67,7 +69,7 @@ impl Waiting {
         Ok(place as u32)
     }
 
-    /// A token waits for a cell. The error is refused memory.
+    /// A token waits for a cell: it comes first in the cell's chain. The error is refused memory, or that of `put`.
     pub(crate) fn add(&mut self, cell: u64, handle: Handle) -> Result<(), AllocError> {
         let cell = cell as usize;
         for _ in self.heads.len()..cell.saturating_add(1) {
@@ -84,7 +86,8 @@ impl Waiting {
         Ok(())
     }
 
-    /// Moves the tokens that wait for a cell into the run queue. The error is refused memory; some of them still wait then.
+    /// Moves the tokens that wait for a cell into the run queue, and frees their links. The error is refused memory; the run stops then, since the
+    /// cell's chain still begins at links that are free.
     pub(crate) fn wake(&mut self, cell: u64, ready: &mut Ready) -> Result<(), AllocError> {
         let cell = cell as usize;
         let mut place = match self.heads.get(cell) {
