@@ -51,11 +51,12 @@ pub fn run_alone(
     if !keeps {
         match run_graph::<Brand>(alloc, program, &graph, answers, order, false, limit) {
             Ok(Some(played)) => return Ok(played),
+            // Only a journal can show how the run ended: it is made again below.
             Ok(None) => {}
             Err(fault) => return Err(fault),
         }
     }
-    // The caller wants the journal, or only the journal can show how the run ended.
+    // The caller wants the journal, or only the journal can show how the run ended. The same order gives the same run again.
     match run_graph::<Brand>(alloc, program, &graph, answers, order, true, limit) {
         Ok(Some(played)) => Ok(played),
         // By the clause *kept* a run that keeps its journal is always told of.

@@ -6,7 +6,7 @@ use orc_scheduler::SubRunJob;
 use std::alloc::{AllocError, Global};
 use std::sync::atomic::{AtomicUsize, Ordering};
 
-/// A job that was dealt out, and its place in the batch.
+/// A job that was dealt out, and its place in the batch, from 0.
 #[derive(Drop)]
 pub(crate) struct Dealt<'j, P: Run> {
     pub place: usize,
@@ -25,6 +25,7 @@ pub(crate) fn deal<'j, P: Run>(
     // The last ones first, since a worker takes what was pushed last.
     for (place, job) in jobs.iter_mut().enumerate().rev() {
         if let Some(worker_queue) = worker_queues.get_mut(place % count) {
+            // A refused push gives the reference to the job back; the job itself stays in `jobs`.
             let _refused = worker_queue.push(Dealt { place, job });
         }
     }

@@ -161,6 +161,7 @@ pub(crate) fn run_graph<R: Threads + Sync>(
     if !keeps {
         match run_named::<Brand, R>(threads, program, graph, answers, false, limit) {
             Ok(Some(played)) => return Ok(played),
+            // Only a journal can show how the run ended: it is made again below.
             Ok(None) => {}
             Err(fault) => return Err(fault),
         }
@@ -216,7 +217,7 @@ where
     scheduler.finish(program, &inputs, stop)
 }
 
-// The threads that run one program, and the inputs of the run.
+// The threads that run one program (`rt`, `alloc` and `workers` as of `WorkerThreads`), and the inputs of the run.
 #[derive(Drop)]
 struct ParallelRun<'c, P: Run, R> {
     rt: &'c R,
@@ -253,7 +254,8 @@ where
         }
     }
 
-    // Makes an attempt to share work if one is planned for now, and then gives a turn. Gives the plan of the next attempt.
+    // Makes an attempt to share work if one is planned for now, and then gives a turn, so that each call brings the run nearer its end. Gives the
+    // plan of the next attempt; the error is why the run stops.
     fn go(&self, scheduler: &mut Scheduler<P>, plan: Plan) -> Result<Plan, Stop>
         ensures nearer { IfOk result (λ _. IsNearer scheduler.old.ledger (deque_len scheduler.old.ready.handles) scheduler.new.ledger (deque_len scheduler.new.ready.handles)) }
         ensures within { IfOk result (λ _. scheduler.new.ledger.entries ≤ scheduler.new.ledger.limit) }
@@ -268,7 +270,7 @@ where
     }
 
     // Makes an attempt if one is planned for now: it spreads tokens and runs the calls at which they stand side by side. If their runs turn out too
-    // long it spreads more tokens and tries once more. Gives the plan of the next attempt.
+    // long it spreads more tokens and tries once more, with samples. Gives the plan of the next attempt; the error is why the run stops.
     #[inline(never)]
     fn share(&self, scheduler: &mut Scheduler<P>, plan: Plan) -> Result<Plan, Stop>
         ensures spread { IfOk result (λ _. HasSpread scheduler.old.ledger (deque_len scheduler.old.ready.handles) scheduler.new.ledger (deque_len scheduler.new.ready.handles)) }
@@ -291,7 +293,8 @@ where
         Ok(Plan { entries, mean })
     }
 
-    // Spreads tokens until `wanted` of them are runnable, and runs the calls at which they stand side by side.
+    // Spreads tokens until `wanted` of them are runnable, and runs the calls at which they stand side by side. `mean` is as of `run_side_by_side`.
+    // Few if fewer become runnable.
     fn attempt(
         &self,
         scheduler: &mut Scheduler<P>,
@@ -345,6 +348,7 @@ where
         ensures stops { IfErr result (λ stop. Stops P.listing scheduler.new.ledger stop) }
     {
         let room = scheduler.room();
+        // The limit has room for no entry of a sub-run.
         if room == 0 {
             return Ok(Trial::Vain);
         }
@@ -358,6 +362,7 @@ where
         }
         match self.trial_of(tally) {
             Trial::Good(mean) => self.run_batches(scheduler, mean, SAMPLES, jobs),
+            // Too long or in vain: the results of the samples are dropped, and the run makes their calls itself.
             trial => Ok(trial),
         }
     }
@@ -385,14 +390,16 @@ where
         } else if tally.over < tally.count.saturating_sub(tally.over)
             || mean < LEAST_MEAN_ENTRIES.max(self.inputs.graph.len())
         {
-            // A sub-run begins with a copy of the program's graph, so it has to be longer than that.
+            // Most of them gave no result, or those that did were too short. A sub-run begins with a copy of the program's graph, whose length is its
+            // number of nodes, so it has to have more entries than that.
             Trial::Vain
         } else {
             Trial::Good(mean)
         }
     }
 
-    // Does the jobs behind the first `done` ones in batches. While threads do a batch, this one merges the results of the jobs before it. It goes on
+    // Does the jobs behind the first `done` ones, which are samples and done, in batches. While threads do a batch, this one merges the results of
+    // the jobs before it. `mean` is the number of entries that sub-runs have had on average; each batch brings it up to date. It goes on
     // as long as batches are worth it (`trial_of`), no job has won a race, and the limit has room for the next batch. Gives how the last batch has
     // gone.
     fn run_batches(
@@ -411,6 +418,7 @@ where
             let room = scheduler.room();
             // It is under the length already; the prover isn't told so by `step_by`.
             let from = from.min(jobs.len());
+            // Jobs whose result was merged have none any more, so `before` may have them too.
             let (before, behind) = jobs.split_at_mut(from);
             let count = BATCH.min(behind.len());
             // The limit has to have room for all of the batch, by what its runs have on average.
@@ -433,6 +441,7 @@ where
             };
             mean = next;
         }
+        // The results of the last batch, and what the loop hasn't merged before it ended.
         take_all(self.inputs, scheduler, jobs)?;
         Ok(trial)
     }
@@ -527,13 +536,14 @@ fn tally_of<P: Run>(jobs: &[SubRunJob<P>]) -> Tally {
                 tally.entries = tally.entries.saturating_add(part.len());
             }
             SubRunResult::Long => tally.long = tally.long.saturating_add(1),
+            // Its job is in `count` alone.
             SubRunResult::Nothing => {}
         }
     }
     tally
 }
 
-// Merges the results of the jobs that still have one, one after another.
+// Merges the results of the jobs that still have one, in the order of the jobs, and takes them out. The error is why the run stops.
 fn take_all<P: Run>(
     inputs: &Inputs<'_, P>,
     scheduler: &mut Scheduler<P>,
@@ -548,7 +558,7 @@ fn take_all<P: Run>(
     Ok(())
 }
 
-// Merges the result of a job, if the job still has one.
+// Merges the result of a job, if the job still has one, and takes it out. The error is why the run stops.
 fn take_one<P: Run>(
     inputs: &Inputs<'_, P>,
     scheduler: &mut Scheduler<P>,
@@ -557,6 +567,7 @@ fn take_one<P: Run>(
     ensures spread { IfOk result (λ _. HasSpread scheduler.old.ledger (deque_len scheduler.old.ready.handles) scheduler.new.ledger (deque_len scheduler.new.ready.handles)) }
     ensures stops { IfErr result (λ stop. Stops P.listing scheduler.new.ledger stop) }
 {
+    // A job without a result changes nothing: the run makes its call itself.
     let SubRunResult::Over(part) = job.take() else {
         return Ok(());
     };

@@ -35,7 +35,8 @@ struct Trial {
     came: Result<Played, EngineFault>,
 }
 
-// Places for the results of `number` orders. A place says that memory was refused until its order was run. The error is refused memory.
+// Places for the results of `number` orders, one for each in turn. A place says that memory was refused until its order was run. The error is refused
+// memory.
 fn places(alloc: Global, number: u64) -> Result<Vec<Trial>, AllocError>
     ensures { IfOk result (λ trials. length trials.items ≡ number) }
 {
@@ -48,7 +49,7 @@ fn places(alloc: Global, number: u64) -> Result<Vec<Trial>, AllocError>
     Ok(trials)
 }
 
-// What all runs have in common: the program, the table that answers its calls, and the most entries of a run's journal.
+// What all runs have in common: the program, the table that answers its calls, and the most entries of a run's journal, cancels not counted.
 #[derive(Drop)]
 struct Surveyor<'s, R> {
     rt: &'s R,
@@ -76,6 +77,7 @@ impl<R: Threads + Sync> Surveyor<'_, R> {
             {
                 // `go` asks for room, so this never wraps; this function has no such clause.
                 let order = first.wrapping_add(at as u64);
+                // Without a journal (`false`): the outcome needs none.
                 trial.came = run_alone(
                     self.alloc,
                     self.program,
@@ -133,6 +135,7 @@ impl<R: Threads + Sync> Surveyor<'_, R> {
             let trial = &trials[(order - first) as usize];
             entries = entries.saturating_add(self.count(trial, order, seen)?);
         }
+        // By `requires` there is one order at least.
         Ok(entries / number)
     }
 }
@@ -171,6 +174,7 @@ pub fn survey<R: Threads + Sync>(
     // The first batch is one run, which shows how long the runs are.
     let mut batch = 1;
     let mut threads = 1;
+    // Each round runs one order at least, so the loop ends.
     while next < orders {
         let number = batch.min(orders - next);
         let mean = surveyor.go(threads, next, number, &mut seen)?;

@@ -11,7 +11,7 @@ use orc_outcome::End;
 use orc_rules::value::Value;
 use std::alloc::{AllocError, Global};
 
-// The word for an end.
+// The word for an end in an outcome's line.
 fn word_of(end: End) -> &'static str
     ensures { result.now ≡ end_word end }
 {
@@ -24,7 +24,8 @@ fn word_of(end: End) -> &'static str
     }
 }
 
-// The part of an outcome's line before the values, of `orders` orders: `order 3 (43 of 100) Halted:`.
+// The part of an outcome's line before the values: `order 3 (43 of 100) Halted:` says that order 3 is the first to come to it, and that 43 of the 100
+// `orders` did. The error is refused memory.
 fn head_of(alloc: Global, orders: u64, seen: &Seen) -> Result<Vec<u8>, AllocError>
     ensures { IfOk result (λ t. t.items ≡ head orders seen.now) }
 {
@@ -35,7 +36,7 @@ fn head_of(alloc: Global, orders: u64, seen: &Seen) -> Result<Vec<u8>, AllocErro
     Ok(head.into_bytes())
 }
 
-// The same for an outcome to which none of `orders` orders came: `no order (0 of 100) Halted:`.
+// That part of the line of an outcome to which none of `orders` orders came: `no order (0 of 100) Halted:`. The error is refused memory.
 fn unseen_head_of(alloc: Global, orders: u64, end: End) -> Result<Vec<u8>, AllocError>
     ensures { IfOk result (λ t. t.items ≡ unseen_head orders end) }
 {
@@ -44,7 +45,7 @@ fn unseen_head_of(alloc: Global, orders: u64, end: End) -> Result<Vec<u8>, Alloc
     Ok(head.into_bytes())
 }
 
-// Adds each value, after a space.
+// Adds each value, after a space. If memory is refused some of them may be there.
 fn write_values(out: &mut Vec<u8>, published: &[Value]) -> Result<(), AllocError>
     ensures { OnOk result (out.new.items ≡ out.old.items ++ flat_map value published.now) }
 {

@@ -26,10 +26,11 @@ pub struct Seen {
     pub times: u64,
 }
 
-/// Whether two lists have the same values, however long they are.
+/// Whether two lists have the same values: as many, in the same order.
 pub fn are_same(one: &[Value], other: &[Value]) -> bool
     ensures { result ≡ values_eq one.now other.now }
 {
+    // What is still to be compared. Each round takes the first value off both, so the loop ends.
     let mut rest = one;
     let mut others = other;
     loop {
@@ -59,7 +60,7 @@ impl Seen {
     }
 }
 
-/// The place from 0 of an outcome among those that came up, if it is one of them. It compares with one after another.
+/// The place from 0 of an outcome among those that came up; None if it isn't one of them. It compares with one after another.
 pub fn place_of(seen: &[Seen], end: End, values: &[Value]) -> Option<usize>
     ensures { MatchOption result (All (λ y. IsOf (record { end = end; values = values.now }) y → ⊥) seen.now) (λ at. (at < length seen.now) × ((d : Seen) → IsOf (record { end = end; values = values.now }) (slice_index_or seen.now at d))) }
 {
@@ -78,7 +79,7 @@ struct Outcome {
     values: Vec<Value>,
 }
 
-// Its values tell nearly all outcomes apart.
+// Of its values alone, not of its end: they tell nearly all outcomes apart, and equal ones have the same hash.
 impl Hash for Outcome {
     ghost use Rattle.std.specs.Hash as fed;
     ghost use Rattle.std.specs.Hash.{second_alike, on_Alike, items_Alike};
@@ -96,8 +97,9 @@ impl Hash for Outcome {
 
 /// The outcomes that came up, each found by a hash.
 pub(crate) struct Outcomes {
+    // In the order in which they came up first.
     seen: Vec<Seen>,
-    // At the place of each what it is found by.
+    // At the place of each outcome of `seen` a copy of it, by which a hash finds the place.
     known: IndexSet<Outcome>,
 }
 
@@ -120,7 +122,7 @@ impl Model for Outcomes {
     ghost invariant = { λ o. AreKnown o.known.keys o.seen.items };
 }
 
-// Counts one more order that came to the outcome at this place.
+// Counts one more order that came to the outcome at this place, from 0. Refused, and nothing changes, only at 2^64 orders.
 #[tactic(auto, using(crate::proofs::Known::once_more))]
 fn again(seen: &mut Vec<Seen>, at: usize) -> Result<(), AllocError>
     requires { at < length seen.old.items }
@@ -136,7 +138,7 @@ fn again(seen: &mut Vec<Seen>, at: usize) -> Result<(), AllocError>
 }
 
 impl Outcomes {
-    /// None.
+    /// No outcome came up.
     pub(crate) fn new(alloc: Global) -> Outcomes
         ensures { result ≡ [] }
     {
@@ -154,7 +156,7 @@ impl Outcomes {
         seen
     }
 
-    // The place of an outcome, if it came up.
+    // The place of an outcome, from 0; None if it didn't come up yet.
     #[tactic(auto, using(crate::proofs::Known::found_at, crate::proofs::Known::not_found))]
     fn place_of(&self, outcome: &Outcome) -> Option<usize>
         ensures { MatchOption result (All (λ y. IsOf (came_of outcome.now) y → ⊥) self.now) (λ at. (at < length self.now) × ((d : Seen) → IsOf (came_of outcome.now) (slice_index_or self.now at d))) }

@@ -29,8 +29,9 @@ pub struct Trials<'t, 'a> {
     pub source: &'t [u8],
     /// The sites that the claims name, in the order of their numbers there.
     pub sites: &'t [SiteName<'a>],
+    /// What is judged in each run.
     pub claims: &'t [Claim],
-    /// Each way is run in the orders from 0 up to this number.
+    /// Each way is run in the orders from 0 up to this number, that one left out.
     pub orders: u64,
     /// The most entries of a run, cancels not counted.
     pub limit: u64,
@@ -45,6 +46,7 @@ pub enum TrialFault {
     Engine(EngineFault),
 }
 
+// Refused memory is the engine's fault Memory, wherever it was asked for.
 impl From<AllocError> for TrialFault {
     ghost use Rattle.orc_scheduler.specs.declared.fault.EngineFault.TheVariants.{Memory};
     ghost use Rattle.orc_orders.specs.declared.trials.TrialFault.TheVariants.{Engine};
@@ -111,7 +113,9 @@ pub(crate) struct WayTold {
 struct Way<'w, 'a> {
     alloc: Global,
     trials: &'w Trials<'w, 'a>,
+    // The program, and the table that answers its calls by the way's script.
     loaded: Loaded,
+    // The sites that the claims name, by their numbers in that table.
     sites: Vec<ClaimSite>,
 }
 
@@ -128,7 +132,7 @@ impl Drop for Way<'_, '_> {
 }
 
 impl<'w, 'a> Way<'w, 'a> {
-    // Loads the program with the script of a way.
+    // Loads the program with the script of a way. The fault is that of loading, or Memory.
     fn load(
         alloc: Global,
         trials: &'w Trials<'w, 'a>,
@@ -208,6 +212,7 @@ impl<'w, 'a> Way<'w, 'a> {
                 told.told.as_slice(),
                 judged.as_slice(),
             )?,
+            // By the clause *few* this doesn't overflow.
             cut: told.cut + cut_at(state),
             entries: told.entries.saturating_add(summary.entries),
         })

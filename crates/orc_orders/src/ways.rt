@@ -82,7 +82,7 @@ fn places(alloc: Global, number: usize) -> Result<Vec<Tried>, AllocError>
     Ok(places)
 }
 
-// Ways whose numbers follow one another from `first` on, by their scripts.
+// Ways whose numbers follow one another from `first` on, by their scripts: that of way `first` comes first.
 #[derive(Drop)]
 struct Batch<'t, 'a, 's> {
     alloc: Global,
@@ -176,11 +176,13 @@ pub fn try_ways<'t, 'a, R: Threads + Sync>(
     // The first way shows how long the runs are.
     let mut number = 1;
     let mut threads = 1;
+    // Each round tries one way at least, so the loop ends.
     while next < scripts.len() {
         number = number.min(scripts.len() - next);
         let batch = Batch {
             alloc,
             trials,
+            // Ways are numbered from 0, and so many were tried.
             first: told.ways,
             scripts: &scripts[next..next + number],
         };

@@ -15,13 +15,17 @@ use std::sync::{Condvar, Mutex, Wait};
 #[derive(Drop)]
 pub(crate) struct Context<'h, P: Run + Naming, S: Sites, G: Gate> {
     pub alloc: Global,
+    // The program and the words of its groups, which need no lock.
     pub setup: Setup<'h, P>,
+    // The run, under the one lock.
     pub shared: &'h Mutex<Shared<P, S::Call>>,
     // Why the run stops. It is bound under the lock, and read without it.
     pub why: &'h Cell<Stop>,
+    // On it workers rest; it goes with the lock of `shared`.
     pub wakeups: &'h Condvar,
     // How many workers have found no work, and look into the queues a last time or rest.
     pub idle: &'h AtomicU64,
+    // They make the calls, each of which passes the gate before.
     pub sites: &'h S,
     pub gate: &'h G,
     // Whether the sites or the gate may wait for what another worker does.
@@ -29,13 +33,13 @@ pub(crate) struct Context<'h, P: Run + Naming, S: Sites, G: Gate> {
 }
 
 impl<P: Run + Naming, S: Sites, G: Gate> Context<'_, P, S, G> {
-    /// One worker more is at work.
+    /// One worker more is at work: it counts in `working` before it looks for anything, so that no other takes itself for the last one.
     pub(crate) fn join<R: Wait>(&self, rt: &R) {
         let mut shared = self.shared.lock(rt);
         shared.working = shared.working.saturating_add(1);
     }
 
-    /// The run stops.
+    /// The run stops for this reason, if it hasn't stopped yet, and all workers at rest wake. It takes the lock.
     pub(crate) fn stop<R: Wait>(&self, rt: &R, stop: Stop) {
         let mut shared = self.shared.lock(rt);
         shared.stop(stop);
@@ -90,12 +94,13 @@ impl<P: Run + Naming, S: Sites, G: Gate> Context<'_, P, S, G> {
         self.wake_at_end(shared);
         match work {
             OutsideWork::Make(_) | OutsideWork::Ask(_, _, _) => self.leave_due(shared),
+            // With any other work the worker doesn't wait outside, and looks for due calls again itself.
             _ => {}
         }
     }
 
-    /// Rests until something was offered since `seen`, or the run is over. The last worker doesn't rest: if it finds nothing either, no worker has
-    /// what is left, and the run stops.
+    /// Rests until something was offered since `seen`, the number of offers when this worker last looked, or the run is over. The answer is None
+    /// then: the worker looks again. The last worker doesn't rest: if it finds nothing either, no worker has what is left, and the run stops.
     pub(crate) fn rest<R: Wait>(&self, rt: &R, seen: u64) -> OutsideWork<S::Call> {
         let mut shared = self.shared.lock(rt);
         if shared.offers != seen {
@@ -107,6 +112,7 @@ impl<P: Run + Naming, S: Sites, G: Gate> Context<'_, P, S, G> {
             return work;
         }
         shared.resting = shared.resting.saturating_add(1);
+        // It gives up the lock while it waits, and has it again afterwards.
         let mut shared = self.wakeups.wait_while(rt, shared, |shared| {
             shared.offers == seen && !shared.is_over()
         });

@@ -10,7 +10,9 @@ const MOST_NEAR: usize = 64;
 /// The tokens that are out with a worker and in no queue, the one that moves next last; the passes that it has to leave and the calls of whose
 /// cancels it has to tell the sites; passes for births; and the groups that it was the last to leave.
 pub(crate) struct Local<P: Naming> {
+    // Its tokens, the passes to leave and the cancelled calls. The book's calls add to it.
     pub out: StepOut<P>,
+    // The passes that it lends to the book's `step`.
     pub births: Births<P>,
     // The word of the group *in which the worker is*, that of the token that it moved last, if any. All passes in `births.same` name it.
     word: Option<u32>,
@@ -60,7 +62,7 @@ impl<P: Naming> Local<P> {
         }
     }
 
-    /// The token that moves next.
+    /// The token that moves next; None if the worker has none.
     pub(crate) fn take_token(&mut self) -> Option<Token<P>> {
         self.out.born.pop()
     }
@@ -72,8 +74,8 @@ impl<P: Naming> Local<P> {
         }
     }
 
-    /// The worker goes on in the group of this word, or in none. If that is another one than before, it has to leave the passes for births in the old
-    /// one.
+    /// The worker goes on in the group of this word, or in none where `word` is None. If that is another one than before, it has to leave the passes
+    /// for births in the old one: they are put among those to leave.
     pub(crate) fn go_to(&mut self, word: Option<u32>) {
         if self.word == word {
             return;
@@ -88,7 +90,8 @@ impl<P: Naming> Local<P> {
         self.word = word;
     }
 
-    /// Gets the passes that the births of a move need, if the worker has none. `with` is the pass of the token that moves, in the worker's group.
+    /// Gets the passes that the births of a move need, if the worker has none; no move needs more than one of a kind. `with` is the pass of the token
+    /// that moves, in the worker's group. If the supply is empty the move lacks a pass, and the book refuses it as Short.
     pub(crate) fn prepare(&mut self, groups: &Groups<P>, needs: Needs, with: &Pass<P>) {
         if needs.same > 0 && self.births.same.is_empty() {
             let same = self.same(groups, with);
@@ -100,7 +103,8 @@ impl<P: Naming> Local<P> {
         }
     }
 
-    // A pass to the same group: the last of the passes that are to be left, if it names that group, else a new one that enters it.
+    // A pass to the group of `with`: the last of the passes that are to be left, if it names that group, which takes no exchange on the word; else a
+    // new one that enters it. None if `with` names no group or the supply is empty.
     fn same(&mut self, groups: &Groups<P>, with: &Pass<P>) -> Option<Pass<P>> {
         let word = with.group();
         if word.is_none() {
@@ -170,7 +174,7 @@ impl<P: Naming> Local<P> {
         }
     }
 
-    /// A group that the worker was the last to leave, which is to be closed.
+    /// A group that the worker was the last to leave, which is to be closed; None if there is none.
     pub(crate) fn take_last(&mut self) -> Option<Last<P>> {
         self.lasts.pop()
     }
@@ -180,7 +184,7 @@ impl<P: Naming> Local<P> {
         self.out.leave.is_empty() && self.lasts.is_empty()
     }
 
-    /// Whether it has nothing to do under the lock.
+    /// Whether it has no token, no pass to leave and no group to close, and so nothing to do under the lock.
     pub(crate) fn is_empty(&self) -> bool {
         self.out.born.is_empty() && self.is_settled()
     }

@@ -38,6 +38,7 @@ impl<P: Run + Naming, C: Drop> Shared<P, C> {
             local.put(token.pass);
             return Step::On;
         };
+        // From here on passes for births have to name this token's group.
         local.go_to(token.pass.group());
         match view.what {
             Action::Publish(_) => self.publish(setup, local, token),
@@ -47,6 +48,7 @@ impl<P: Run + Naming, C: Drop> Shared<P, C> {
             // Any other move may bring tokens or a group, for which the worker needs passes.
             what => {
                 local.prepare(setup.groups, view.needs, &token.pass);
+                // The token is dropped: the run has stopped.
                 if local.was_refused_memory() {
                     self.stop_for_memory();
                     return Step::On;
@@ -60,7 +62,7 @@ impl<P: Run + Naming, C: Drop> Shared<P, C> {
         }
     }
 
-    // A move that makes no call, and after which no cell is bound.
+    // A move by the book's `step`: it makes no call and binds no cell. The passes for its births were prepared.
     fn move_on(&mut self, setup: &Setup<'_, P>, local: &mut Local<P>, token: Token<P>) -> Step {
         match self.book.step(
             setup.groups,
@@ -129,7 +131,8 @@ impl<P: Run + Naming, C: Drop> Shared<P, C> {
         }
     }
 
-    // Drops the calls that the last bind has cancelled, and notes that the worker has to tell the sites.
+    // Drops the calls that the last bind has cancelled, and notes that the worker has to tell the sites. A call that a worker polls outside isn't in
+    // `pending`: its result is dropped later.
     fn drop_cancelled(&mut self, local: &mut Local<P>) {
         for number in self.cancelled.iter() {
             self.pending.remove(number);
@@ -140,7 +143,7 @@ impl<P: Run + Naming, C: Drop> Shared<P, C> {
         }
     }
 
-    /// The tokens that wait for a cell go on, with this worker.
+    /// The tokens that wait for a cell, which is bound or lost, go on, with this worker.
     pub(crate) fn wake(&mut self, local: &mut Local<P>, cell: u64) {
         if self.book.wake(cell, &mut local.out.born).is_err() {
             self.stop_for_memory();

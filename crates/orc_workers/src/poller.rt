@@ -24,6 +24,7 @@ impl RandomSource for Fixed {
 /// What came of a poll.
 #[derive(Clone, Copy)]
 pub(crate) enum Polled {
+    /// It has this answer.
     Answered(Answer),
     /// It has no answer yet, and says when it is due.
     Waits(Due),
@@ -39,7 +40,7 @@ pub(crate) struct Poller {
 }
 
 impl Poller {
-    /// The error is refused memory.
+    /// A poller with a task of its own. The error is refused memory.
     pub(crate) fn new(alloc: Global) -> io::Result<Poller> {
         Ok(Poller {
             solo: Solo::new(&(Fixed, alloc), Doorbell::parking())?,

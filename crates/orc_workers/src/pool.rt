@@ -38,7 +38,8 @@ use std::thread::{Scope, Threads};
 /// How many words of groups there are: one for each group that may be open, and as many for killed groups whose last passes aren't left yet.
 const WORDS: u32 = 2 * MOST_GROUPS as u32;
 
-/// How many passes each worker has: more than the entries of a run need. Those of 16 workers together are under 2^31, as `Unnamed::new` requires.
+/// How many passes each worker has: twice what the entries of a run can need, since a move takes two at most (`needs_of`). Those of 16 workers
+/// together are under 2^31, as `Unnamed::new` requires.
 const PASSES: u32 = 4 * MOST_ENTRIES as u32;
 
 /// How a run is made.
@@ -175,6 +176,7 @@ where
         return Err(EngineFault::Broken);
     };
     let inputs = Inputs::new(graph, answers);
+    // The book keeps the journal (`true`): the workers read a call's request there.
     let Ok((book, token)) = Book::<P>::new(alloc, &inputs, true, limit, WORDS, pass) else {
         return Err(EngineFault::Memory);
     };
@@ -192,6 +194,7 @@ where
     play(
         rt, alloc, setup, supply, token, &shared, &why, sites, gate, workers,
     )?;
+    // `play` has waited for all threads, so nobody else has the lock.
     let (book, stop) = shared.into_inner().into_book();
     // This scheduler gives no turn: it finds from the records how the run ended.
     let scheduler = Scheduler::new(alloc, book.into_ledger(), true);
@@ -228,6 +231,7 @@ where
     let Ok(mut queues) = worker_queues::<Token<P>>(alloc, workers) else {
         return Err(EngineFault::Memory);
     };
+    // There is a queue for each worker, and one worker at least.
     let Some(queue) = queues.pop() else {
         return Err(EngineFault::Broken);
     };
@@ -260,7 +264,7 @@ where
     Ok(())
 }
 
-// What a worker has at first: passes.
+// What a worker has at first: passes. Broken if the supply has too few, which doesn't come up: it was made with `PASSES` for each worker.
 fn local_of<P: Naming>(
     alloc: Global,
     groups: &Groups<P>,
@@ -274,7 +278,7 @@ fn local_of<P: Naming>(
     }
 }
 
-// The workers beside the first one, each with one of these queues.
+// The workers beside the first one, each with one of these queues. Memory if memory is refused, else Broken as of `local_of`.
 fn others_of<'h, P: Run + Naming, R: Wait, S: Sites, G: Gate>(
     rt: &'h R,
     context: &'h Context<'h, P, S, G>,
@@ -300,7 +304,7 @@ fn others_of<'h, P: Run + Naming, R: Wait, S: Sites, G: Gate>(
     Ok(others)
 }
 
-// The first worker's thread is the calling one. Another that can't be started is left out.
+// Has all workers work, and waits until each has returned. The first worker's thread is the calling one. Another that can't be started is left out.
 fn run_all<'h, P, R, S, G>(
     rt: &R,
     first: Worker<'h, P, R, S, G>,

@@ -49,11 +49,13 @@ impl<P: Run + Naming, C: Drop> Shared<P, C> {
     /// Takes a pending call that is due, to be polled again. None if there is none, or if other workers have them all.
     pub(crate) fn take_due(&mut self) -> Option<OutsideWork<C>> {
         let number = self.find_due()?;
+        // The map has it: `find_due` has just looked.
         let call = self.pending.remove(&number)?;
         Some(OutsideWork::Ask(number, self.book.now(), call))
     }
 
-    /// The least number of a call that is due and that no worker has. On the way the book drops its notes on calls that don't pend any more.
+    /// The least number of a call that is due and that no worker has; None if there is no such call. On the way the book drops its notes on calls
+    /// that don't pend any more.
     pub(crate) fn find_due(&mut self) -> Option<u64> {
         let mut number = 0;
         // The prover asks for a bound; the numbers rise, so there are fewer rounds than calls.

@@ -7,6 +7,8 @@ use orc_word::{Groups, Naming};
 /// What a run goes by, namely its graph and the table that answers its calls, and the words of its groups.
 #[derive(Drop)]
 pub(crate) struct Setup<'h, P: Run + Naming> {
+    // The graph and the table.
     pub inputs: &'h Inputs<'h, P>,
+    // The words.
     pub groups: &'h Groups<P>,
 }

@@ -16,7 +16,7 @@ use std::alloc::Global;
 use std::collections::BTreeMap;
 use std::mem;
 
-/// The most moves in a turn under the lock, if another worker is awake.
+/// The most moves in a turn under the lock, if another worker is awake: it may wait for the lock.
 const MOVES: u32 = 16;
 
 /// The most moves in a turn, if all other workers rest.
@@ -44,9 +44,9 @@ pub(crate) enum OutsideWork<C: Drop> {
     None,
     /// To make this call, which the book has recorded.
     Make(Request),
-    /// To poll the call with this number again: it is due now, at this time.
+    /// To poll the call with this number (the first one) again: it is due now, at this time (the second one).
     Ask(u64, u64, Box<C>),
-    /// A token opens a group, and the words of killed groups leave no room for it.
+    /// To free words of groups: a token opens a group, and those of killed groups leave no room for it.
     MakeRoom,
     /// There is nothing to do until another worker has something for it.
     Rest,
@@ -65,7 +65,7 @@ pub(crate) struct Shared<P: Run + Naming, C: Drop> {
     stopper: Stopper,
     // How often workers at rest have been asked to look for work again.
     pub(crate) offers: u64,
-    // How many workers have begun. A thread that wasn't started isn't among them.
+    // How many workers have begun, those that rest too. A thread that wasn't started isn't among them.
     pub(crate) working: u32,
     // Of the working: those that rest.
     pub(crate) resting: u32,
@@ -107,7 +107,7 @@ impl<P: Run + Naming, C: Drop> Shared<P, C> {
         }
     }
 
-    /// The book, and why the run has stopped.
+    /// The book, and why the run has stopped. The first worker returns only once it has, so Broken doesn't come from here.
     pub(crate) fn into_book(self) -> (Book<P>, Stop) {
         let Shared {
             book,
@@ -140,13 +140,14 @@ impl<P: Run + Naming, C: Drop> Shared<P, C> {
         self.stop(Stop::Refused(LedgerFault::Memory));
     }
 
-    /// Whether all other workers rest.
+    /// Whether all other workers rest. The one that asks doesn't, and has the lock.
     pub(crate) fn is_alone(&self) -> bool {
         self.working <= self.resting.saturating_add(1)
     }
 
-    /// A worker's turn: it reports the result of its last call, and closes the groups that it was the last to leave. Then its tokens move until it
-    /// has work outside the lock or has made its moves. At the beginning of a round a call that is due comes before its tokens.
+    /// A worker's turn: it reports `event`, the result of its last call, and closes the groups that it was the last to leave. Then its tokens move
+    /// until it has work outside the lock or has made its moves. At the beginning of a round a call that is due comes before its tokens. None if it
+    /// has no token left or has made its moves.
     pub(crate) fn work(
         &mut self,
         setup: &Setup<'_, P>,
@@ -182,7 +183,7 @@ impl<P: Run + Naming, C: Drop> Shared<P, C> {
         OutsideWork::None
     }
 
-    // Enters the result of a worker's last call into the book.
+    // Enters the result of a worker's last call into the book. Once the run has stopped the result is dropped.
     fn take_call_event(&mut self, answers: &Answers, local: &mut Local<P>, event: CallEvent<C>) {
         if self.is_over() {
             return;
@@ -203,6 +204,7 @@ impl<P: Run + Naming, C: Drop> Shared<P, C> {
 
     // Keeps a call that waits until it is due, if it still pends.
     fn park(&mut self, answers: &Answers, number: u64, due: Due, call: Box<C>) {
+        // The call was cancelled meanwhile, and is dropped.
         let Some(request) = self.request(number) else {
             return;
         };
@@ -221,6 +223,7 @@ impl<P: Run + Naming, C: Drop> Shared<P, C> {
     fn make(&mut self, number: u64) -> OutsideWork<C> {
         match self.request(number) {
             Some(request) => OutsideWork::Make(request),
+            // This doesn't come up: the call was recorded in this turn, and its `nth` counts from 1.
             None => {
                 self.stop(Stop::Broken);
                 OutsideWork::Over
@@ -228,7 +231,7 @@ impl<P: Run + Naming, C: Drop> Shared<P, C> {
         }
     }
 
-    // What the call with this number asks, if it pends.
+    // What the call with this number asks; None if it doesn't pend.
     fn request(&self, number: u64) -> Option<Request> {
         let asked = self.book.request(number)?;
         // It counts from 1, as a `Request` asks. The book's contract doesn't say so.
@@ -264,6 +267,7 @@ impl<P: Run + Naming, C: Drop> Shared<P, C> {
             Ok(Ended::Run) => self.stop(Stop::Halted),
             Ok(Ended::Token(token)) => local.hold(token),
             Ok(Ended::Lost(cell)) => self.wake(local, cell),
+            // Nothing follows. The pass to the enclosing group is in `leave`.
             Ok(Ended::Group) => {}
             Err(refused) => self.stop(stop_of(refused.why)),
         }
@@ -287,6 +291,7 @@ pub(crate) fn stop_of(why: BookFault) -> Stop {
         BookFault::Full => Stop::Refused(LedgerFault::Full),
         BookFault::Limit => Stop::Refused(LedgerFault::Limit),
         BookFault::Memory => Stop::Refused(LedgerFault::Memory),
+        // The worker has called the book wrongly, and is to blame.
         BookFault::Gone | BookFault::Short | BookFault::Live | BookFault::Wrong => Stop::Broken,
     }
 }

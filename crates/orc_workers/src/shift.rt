@@ -32,17 +32,21 @@ const SPARE: usize = 4;
 /// A worker at work.
 pub(crate) struct Shift<'h, P: Run + Naming, R: Wait, S: Sites, G: Gate> {
     rt: &'h R,
+    // What it shares with the others.
     context: &'h Context<'h, P, S, G>,
     // Reads the reason why the run stops, without the lock.
     why: Reader<'h, Stop>,
+    // Its own side of the queues, from which others may steal.
     queue: WorkerQueue<Token<P>>,
     // At least the number of tokens in its queue: the worker doesn't learn which of them others steal.
     queued: usize,
+    // What it has for itself: tokens that are in no queue, and passes.
     local: Local<P>,
+    // Polls calls outside the lock.
     poller: Poller,
     // The result of its last call, which the next turn reports under the lock.
     event: CallEvent<S::Call>,
-    // Its turns in this round.
+    // Its turns since the one that began this round, which isn't counted.
     turns: u32,
     // How many turns in a row it has had more than `SPARE` tokens queued.
     rich: u32,
@@ -148,7 +152,8 @@ impl<'h, P: Run + Naming, R: Wait, S: Sites, G: Gate> Shift<'h, P, R, S, G> {
         work
     }
 
-    // Puts all its tokens into its queue, and takes out the one that has waited longest, which moves next.
+    // Puts all its tokens into its queue, and takes out the one that has waited longest, which moves next. If others have stolen them all, it takes
+    // none.
     fn take_oldest(&mut self) {
         self.share(0);
         if let Some(token) = self.queue.oldest() {
@@ -162,6 +167,7 @@ impl<'h, P: Run + Naming, R: Wait, S: Sites, G: Gate> Shift<'h, P, R, S, G> {
         self.settle();
         self.cancel();
         match work {
+            // The token that moves next stays with the worker.
             OutsideWork::None | OutsideWork::Rest => self.share(1),
             OutsideWork::MakeRoom => self.make_room(),
             OutsideWork::Make(request) => {
@@ -170,6 +176,7 @@ impl<'h, P: Run + Naming, R: Wait, S: Sites, G: Gate> Shift<'h, P, R, S, G> {
             }
             OutsideWork::Ask(number, now, call) => {
                 self.go_outside();
+                // Once the run has stopped the call is dropped and not polled.
                 if !self.finds_end() {
                     self.event = self.ask(number, now, call);
                 }
@@ -198,7 +205,8 @@ impl<'h, P: Run + Naming, R: Wait, S: Sites, G: Gate> Shift<'h, P, R, S, G> {
         self.local.out.cancelled.clear();
     }
 
-    // Moves its tokens into its queue, where others may steal them, but not the last `keep` ones.
+    // Moves its tokens into its queue, where others may steal them, but not the last `keep` ones, which move next. A push is refused only for want of
+    // memory: the run stops then, and tokens may be dropped.
     fn share(&mut self, keep: usize) {
         let count = self.local.out.born.len().saturating_sub(keep);
         if count == 0 {
@@ -251,6 +259,7 @@ impl<'h, P: Run + Naming, R: Wait, S: Sites, G: Gate> Shift<'h, P, R, S, G> {
 
     // Hands over all that others may need, before the worker makes or polls a call outside the lock and may wait there.
     fn go_outside(&mut self) {
+        // Neither the sites nor the gate wait, so the worker is back soon and keeps its passes and the token that moves next.
         if !self.context.may_wait {
             self.share(1);
             return;
@@ -331,6 +340,7 @@ impl<'h, P: Run + Naming, R: Wait, S: Sites, G: Gate> Shift<'h, P, R, S, G> {
     fn rest(&mut self) -> OutsideWork<S::Call> {
         self.local.go_to(None);
         self.settle();
+        // It was the last to leave a group, or a pass is to be left. The next turn closes the group.
         if !self.local.is_settled() {
             return OutsideWork::None;
         }

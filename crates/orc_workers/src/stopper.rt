@@ -8,7 +8,9 @@ use std::alloc::{AllocError, Global};
 /// the lock; under the lock they read `reason` here, which takes no atomic operation.
 #[derive(Drop)]
 pub(crate) struct Stopper {
+    // This side of the cell, which binds it.
     why: Cell<Stop>,
+    // Why the run has stopped; None while it goes on.
     reason: Option<Stop>,
     // The box that the bind takes; none once it did. It is made before the run begins, so that no run goes on for want of memory. Its value isn't
     // used.
@@ -16,7 +18,7 @@ pub(crate) struct Stopper {
 }
 
 impl Stopper {
-    /// For this cell. The error is refused memory.
+    /// For the cell `why`, which isn't bound yet. The error is refused memory.
     pub(crate) fn new(alloc: Global, why: &Cell<Stop>) -> Result<Stopper, AllocError> {
         let why = why.share()?;
         let unused = Some(Box::new(alloc, Stop::Broken)?);
@@ -29,6 +31,7 @@ impl Stopper {
 
     /// The run stops for this reason, if it hasn't stopped yet.
     pub(crate) fn stop(&mut self, reason: Stop) {
+        // Without the box the run has stopped before, and its first reason stands.
         if let Some(mut bound) = self.unused.take() {
             *bound = reason;
             self.reason = Some(reason);

@@ -17,9 +17,13 @@ use std::sync::Wait;
 #[derive(Drop)]
 pub(crate) struct Worker<'h, P: Run + Naming, R: Wait, S: Sites, G: Gate> {
     pub rt: &'h R,
+    // What it shares with the others.
     pub context: &'h Context<'h, P, S, G>,
+    // Its own side of the queues, from which others may steal.
     pub queue: WorkerQueue<Token<P>>,
+    // What it has for itself.
     pub local: Local<P>,
+    // Whether it works on the calling thread. That one has the run's first token.
     pub is_first: bool,
 }
 
