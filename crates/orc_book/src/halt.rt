@@ -92,7 +92,8 @@ impl<P: Run + Naming> Book<P> {
     }
 
     // Ends the group with this number, which has no members, and frees its word. If it was the left side of an otherwise that has not published, a
-    // token on the right side is out, with the group's pass to the enclosing one. Else that pass is to be left.
+    // token on the right side is out, with the group's pass to the enclosing one. Else that pass is to be left. A fault is one of `halt`, and has
+    // changed nothing.
     fn halt_group(
         &mut self,
         number: u32,

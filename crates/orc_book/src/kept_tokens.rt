@@ -188,6 +188,7 @@ impl Keeping {
                 *kept = 0;
                 true
             }
+            // Another token is kept in the slot, or none, or `kept` doesn't reach it.
             _ => false,
         }
     }

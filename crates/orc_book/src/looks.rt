@@ -96,6 +96,7 @@ impl<P: Run + Naming> Book<P> {
     pub fn names(&self)
         ensures { (i : ℕ) → All (λ v. group_of v ≡ Some (word_at self.now.posts i)) (passes_at self.now.posts i) }
     {
+        // The law of each post, one after another. The loop changes nothing.
         for post in self.posts.as_slice() {
             post.names();
         }

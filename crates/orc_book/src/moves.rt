@@ -93,6 +93,7 @@ impl<P: Run + Naming> Book<P> {
         ensures token { (t : Its) × IsToken self.now result.slot result.serial result.pass t }
         ensures same { (result.slot ≡ slot) × (result.pass ≡ pass) }
     {
+        // By the clause *held*.
         let Some(its) = self.ledger.held(slot) else {
             unreachable!()
         };

@@ -361,13 +361,14 @@ pub(crate) fn wake_at<J: Naming>(
 ) -> Option<Pass<J>>
     ensures { MatchOption result (posts.new.items ≡ posts.old.items) (λ pass. (group_of pass ≡ Some (word_at posts.old.items number)) × Changes posts.old.items number posts.new.items (λ p q. (length q.passes + 1 ≡ length p.passes) × (q.kept ≡ kept) × (q.out ≡ out) × (p.passes ≡ q.passes ++ pass ∷ []))) }
 {
-    // With a pass held, the post and the pass below are there.
+    // With a pass held, the post and the pass below are there, so that the arms for none never run.
     if held_in(posts, number) < 1 {
         return None;
     }
     let Some(post) = posts.get_mut(number as usize) else {
         unreachable!()
     };
+    // Where none is held this function has returned.
     let Some(pass) = post.take() else {
         unreachable!()
     };
@@ -408,6 +409,7 @@ pub(crate) fn spare_at<J: Naming>(
 {
     let held = held_in(posts, number);
     let out = out_in(posts, number);
+    // Tokens that are out come first; passes are held for the other members alone.
     if members.saturating_sub(out) < held {
         take_at(posts, number)
     } else {

@@ -62,7 +62,7 @@ fn bury_one<P: Run, J: Naming>(
     words.bury(word, above, pass);
 }
 
-// The first number of `from..to` whose group has no members, or else `to`.
+// The first number of `from..to` whose group has no members, as that of a group which is gone has none; `to` if there is none.
 fn next_empty<P: Run>(ledger: &Ledger<P>, from: u32, to: u32) -> u32
     requires { from ≤ to }
     ensures within { (from ≤ result) × (result ≤ to) }
@@ -93,6 +93,7 @@ pub(crate) fn bury_missing<P: Run, J: Naming>(
     ensures there { AreThere ledger.now words.new.stands }
 {
     let count = posts.len() as u32;
+    // From one such number to the next; each round goes on behind the last one, so the loop ends.
     let mut number = next_empty(ledger, 0, count);
     while number < count {
         bury_one(ledger, posts, words, number);
@@ -100,7 +101,7 @@ pub(crate) fn bury_missing<P: Run, J: Naming>(
     }
 }
 
-// The first number of `from..to` whose post may have passes that are too many or count tokens that are gone, or else `to`.
+// The first number of `from..to` whose post may have passes that are too many or count tokens that are gone; `to` if there is none.
 fn next_unsettled<P: Run, J: Naming>(
     ledger: &Ledger<P>,
     posts: &Vec<Post<J>>,
@@ -137,6 +138,7 @@ pub(crate) fn settle_all<P: Run, J: Naming>(
     ensures capacity { vec_capacity leave.new ≡ vec_capacity leave.old }
 {
     let count = posts.len() as u32;
+    // From one such number to the next; each round goes on behind the last one, so the loop ends.
     let mut number = next_unsettled(ledger, posts, 0, count);
     while number < count {
         let members = ledger.member_count(number) as usize;

@@ -128,6 +128,7 @@ impl<P: Run + Naming> Book<P> {
         }
     }
 
+    // The token becomes one on each side, with its pass and the last of `births.same`.
     fn step_fork(
         &mut self,
         inputs: &Inputs<'_, P>,
@@ -170,6 +171,7 @@ impl<P: Run + Naming> Book<P> {
         }
     }
 
+    // A pruning opens: the book keeps the last of `births.same` for the new group, and the last of `births.idle` opens that group's word.
     fn step_prune(
         &mut self,
         groups: &Groups<P>,
@@ -221,6 +223,7 @@ impl<P: Run + Naming> Book<P> {
         }
     }
 
+    // The token enters an otherwise: its own pass is kept for the new group, and the last of `births.idle` opens that group's word.
     fn step_other(
         &mut self,
         groups: &Groups<P>,

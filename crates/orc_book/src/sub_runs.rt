@@ -56,6 +56,7 @@ impl<P: Run + Naming> Book<P> {
             let why = BookFault::Wrong;
             return Err(Refused { why, back: token });
         }
+        // All entries are appended or none: a fault has changed nothing.
         match self.ledger.append_sub_run(token.slot, found.its, part) {
             Ok(()) => {}
             Err(LedgerFault::Limit) => {

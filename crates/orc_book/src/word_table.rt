@@ -26,11 +26,14 @@ pub(crate) enum Stand<P: Naming> {
     Dying(Owed<P>),
 }
 
-/// What a word stands for, without the pass: no group, the open group with this number, a killed one.
+/// What a word stands for, without the pass that it may hold.
 #[derive(Clone, Copy)]
 pub(crate) enum Kind {
+    /// No group.
     Free,
+    /// The open group with this number.
     Open(u32),
+    /// A killed group.
     Dying,
 }
 
@@ -162,6 +165,7 @@ impl<P: Naming> WordTable<P> {
         ensures freed { Turns self.old.stands word unused self.new.stands }
         ensures held { (f : View → ℕ) → in_words f self.new.stands ≡ in_words f self.old.stands }
     {
+        // By the clause *bare* no pass comes back.
         let _none = self.free(word);
     }
 

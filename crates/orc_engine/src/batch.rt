@@ -20,6 +20,7 @@ pub(crate) fn deal<'j, P: Run>(
     jobs: &'j mut [SubRunJob<P>],
     workers: usize,
 ) -> Result<Vec<WorkerQueue<Dealt<'j, P>>>, AllocError> {
+    // At least one queue, even where there is no job.
     let count = workers.min(jobs.len()).max(1);
     let mut worker_queues = worker_queues(alloc, count)?;
     // The last ones first, since a worker takes what was pushed last.
@@ -36,6 +37,7 @@ pub(crate) fn deal<'j, P: Run>(
 /// depends on it.
 #[derive(Drop)]
 pub(crate) struct Won {
+    // The place of a job that has won; `usize::MAX` for none.
     place: AtomicUsize,
 }
 

@@ -1,5 +1,9 @@
 //! One run on several threads. If many tokens stand at calls of definitions, the threads run these calls side by side, each as a sub-run, and the
 //! calling thread merges the results in a fixed order. So the journal depends neither on which thread is quicker nor on how many there are.
+//!
+//! A *job* is one of these calls. A job *races* if its token's side had other members when the jobs were listed, and has *won* if its call yields a
+//! value, or may (`SubRunJob::has_won`): the jobs behind it are in vain then. The first jobs of a list are *samples*, whose runs show whether the
+//! others are worth a thread. Counts are added with saturation only because the prover isn't told how small they are.
 
 ghost use Rattle.std.specs.Prelude.{◌≡◌, ◌≤◌, ◌<◌, ◌^◌, ◌↔◌, Err, is_some, IfOk, IfErr, IfSome, true, MatchOption};
 ghost use Rattle.std.specs.VecDeque.{deque_len};
@@ -106,7 +110,7 @@ struct Tally {
 }
 
 impl Tally {
-    // How many entries a sub-run that gave a result has on average.
+    // How many entries a sub-run that gave a result has on average; 0 if none did.
     fn mean(&self) -> usize {
         self.entries / self.over.max(1)
     }
@@ -286,6 +290,7 @@ where
         let now = scheduler.entries();
         let (entries, mean) = match trial {
             Trial::Good(mean) => (now.saturating_add(PATIENCE), mean),
+            // Ten times as long, as `PATIENCE` says; the last mean stays.
             Trial::Few => (now.saturating_add(10 * PATIENCE), plan.mean),
             // If sharing doesn't pay, the next attempt comes once the run has 16 times as many entries.
             Trial::Long | Trial::Vain => (now.saturating_mul(16), 0),
@@ -352,6 +357,7 @@ where
         if room == 0 {
             return Ok(Trial::Vain);
         }
+        // The last attempt has shown how long the sub-runs are.
         if mean > 0 {
             return self.run_batches(scheduler, mean, 0, jobs);
         }
@@ -398,10 +404,9 @@ where
         }
     }
 
-    // Does the jobs behind the first `done` ones, which are samples and done, in batches. While threads do a batch, this one merges the results of
-    // the jobs before it. `mean` is the number of entries that sub-runs have had on average; each batch brings it up to date. It goes on
-    // as long as batches are worth it (`trial_of`), no job has won a race, and the limit has room for the next batch. Gives how the last batch has
-    // gone.
+    // Does the jobs in batches, without the first `done` ones, the samples. While threads do a batch, this one merges the results of the jobs before
+    // it. `mean` is how many entries the sub-runs so far have had on average, and each batch gives the next one its own. The function goes on as long
+    // as batches are worth it (`trial_of`), no job has won a race, and the limit has room for the next batch. Gives how the last batch has gone.
     fn run_batches(
         &self,
         scheduler: &mut Scheduler<P>,
@@ -421,7 +426,7 @@ where
             // Jobs whose result was merged have none any more, so `before` may have them too.
             let (before, behind) = jobs.split_at_mut(from);
             let count = BATCH.min(behind.len());
-            // The limit has to have room for all of the batch, by what its runs have on average.
+            // The limit has to have room for all of the batch, if its runs are as long as the mean. `count` is never 0: that test is for the prover.
             if count == 0 || room == 0 || room / count < mean {
                 break;
             }

@@ -32,6 +32,7 @@ const ROOM: u64 = 4_000_000;
 /// The result of the run in an order.
 #[derive(Drop)]
 struct Trial {
+    // The fault Memory until the order was run.
     came: Result<Played, EngineFault>,
 }
 
@@ -52,6 +53,7 @@ fn places(alloc: Global, number: u64) -> Result<Vec<Trial>, AllocError>
 // What all runs have in common: the program, the table that answers its calls, and the most entries of a run's journal, cancels not counted.
 #[derive(Drop)]
 struct Surveyor<'s, R> {
+    // Starts the threads.
     rt: &'s R,
     alloc: Global,
     program: &'s Program,
@@ -133,6 +135,7 @@ impl<R: Threads + Sync> Surveyor<'_, R> {
         let mut entries: u64 = 0;
         for order in first..first + number {
             let trial = &trials[(order - first) as usize];
+            // The sum only decides on batches and threads; it can't overflow, which the prover isn't told.
             entries = entries.saturating_add(self.count(trial, order, seen)?);
         }
         // By `requires` there is one order at least.

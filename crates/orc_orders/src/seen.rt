@@ -17,6 +17,7 @@ use std::marker::Model;
 /// An outcome that came up: how a run ended, and what it published.
 #[derive(Drop)]
 pub struct Seen {
+    /// How the run ended.
     pub end: End,
     /// What was published, in order.
     pub values: Vec<Value>,

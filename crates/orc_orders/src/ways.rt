@@ -47,7 +47,7 @@ impl CaseTold {
         })
     }
 
-    // Adds the verdicts of one more way. If memory is refused nothing changes.
+    // Adds the verdicts of one more way, which has to be the next one. If memory is refused nothing changes.
     fn join(&mut self, alloc: Global, way: &WayTold) -> Result<(), AllocError>
         requires { self.old.ways + 1 < 2 ^ 64 }
         ensures { OnOk result (IsJoined self.old way.now self.new) }
@@ -66,6 +66,7 @@ impl CaseTold {
 /// The result of a way's trials.
 #[derive(Drop)]
 struct Tried {
+    // The fault Memory until the way was tried.
     came: Result<WayTold, TrialFault>,
 }
 
@@ -188,6 +189,7 @@ pub fn try_ways<'t, 'a, R: Threads + Sync>(
         };
         let mean = batch.tell(rt, threads, told)?;
         next += number;
+        // One way at least for each worker.
         number = BATCH.max(workers);
         threads = if mean.saturating_mul(number as u64) < WORTH {
             1

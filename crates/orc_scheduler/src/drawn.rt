@@ -66,6 +66,7 @@ impl<P: Run> Scheduler<P> {
             };
             match self.token_of(handle) {
                 Some(token) if self.is_seen(inputs, &token) => self.ready.settle_newest(),
+                // Nobody sees the token's next step, or it is gone.
                 _ => return,
             }
         }
@@ -123,6 +124,7 @@ impl<P: Run> Scheduler<P> {
         ensures stops { IfErr result (λ stop. Stops P.listing self.new.ledger stop) }
     {
         match self.ledger.call(inputs, slot, token, &mut self.args) {
+            // The call pends in the token's place.
             Ok(call) => {
                 self.note_made(&call)?;
                 Ok(Step::Done)
@@ -142,6 +144,7 @@ impl<P: Run> Scheduler<P> {
     {
         match call.found {
             Found::After(_, 0) => self.note_call(call.number),
+            // `note_due` notes it once time has come to it; one that is never answered has no turn.
             _ => Ok(()),
         }
     }

@@ -71,7 +71,7 @@ impl<P: Run> Scheduler<P> {
 
     // Gives each runnable token a turn, which ends at its next call of a definition. A token that stands at such a call stays there if over `moves`
     // moves have led to it, and every token stays where it is as long as `MOST_SIDES` sides are open. A token that stays goes behind the others, so
-    // that each is looked at once. The error is why the run stops.
+    // that the next one is looked at. The error is why the run stops.
     fn spread_once(&mut self, inputs: &Inputs<'_, P>, moves: u32) -> Result<(), Stop>
         ensures spread { IfOk result (λ _. HasSpread self.old.ledger (deque_len self.old.ready.handles) self.new.ledger (deque_len self.new.ready.handles)) }
         ensures stops { IfErr result (λ stop. Stops P.listing self.new.ledger stop) }

@@ -25,6 +25,7 @@ const UNSEEN: u32 = 64;
 /// Musuvathi and Nagarakatte (2010), who show that few changes of priorities find most bugs that depend on an order.
 #[derive(Drop)]
 pub(crate) struct Order {
+    // The generator, whose seed is the order's number.
     numbers: SplitMix64,
     // The pseudo-random number that was drawn last, of 64 bits; 0 before the first draw.
     last: u64,
@@ -59,6 +60,7 @@ impl Order {
         ensures { 0 < count → result < count }
     {
         self.last = self.numbers.next_u64();
+        // 1 for an empty list, so that nothing is divided by 0.
         let most = count.max(1) as u64;
         (self.last % most) as usize
     }

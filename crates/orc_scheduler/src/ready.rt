@@ -40,6 +40,7 @@ pub struct Ready {
 /// Whose turn an order draws.
 #[derive(Clone, Copy)]
 pub(crate) enum Drawn {
+    /// The token of this handle, which is in the queue no more.
     Token(Handle),
     /// The call with this number.
     Call(u64),
@@ -53,6 +54,7 @@ fn rank_at<P: Run>(
     order: &Order,
     at: usize,
 ) -> u64 {
+    // Behind the tokens: a call.
     let Some(handle) = handles.get(at) else {
         return order.rank_of_call(at.saturating_sub(handles.len()));
     };

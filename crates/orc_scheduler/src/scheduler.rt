@@ -83,6 +83,7 @@ pub struct Scheduler<P: Run> {
     pub(crate) keeps: bool,
     /// The tokens whose turn comes.
     pub ready: Ready,
+    // The tokens that wait, by the cells for which they do.
     waiting: Waiting,
     // Whether one move may take a token into a `>x>` and on through it, by `feed_through`. Not so in a run with an order.
     goes_through: bool,
@@ -288,7 +289,7 @@ impl<P: Run> Scheduler<P> {
                 break;
             }
             if self.is_held_back(inputs, &token) {
-                // Only a token that nothing encloses can be merged on its value.
+                // The token stays on its value, in no queue. Only one that nothing encloses (step 0 is the whole program) can be merged so.
                 if token.step == 0 {
                     self.holding.keep(slot);
                 } else {
@@ -397,6 +398,7 @@ impl<P: Run> Scheduler<P> {
         if self.ready.reserve().is_err() {
             return Err(Stop::Refused(LedgerFault::Memory));
         }
+        // First the fast way, which only nodes have; a token on a value has none.
         if let Standing::At(node, scope) = token.standing {
             let node = inputs.graph.node(node as usize);
             if let Some(step) = self.step_at(inputs, slot, token, scope, node)? {
@@ -540,6 +542,7 @@ impl<P: Run> Scheduler<P> {
                 }
             }
             Node::Stop => {
+                // Noted before the token is gone.
                 let group = self.ledger.group_of(token.step);
                 match self.ledger.end(slot, token) {
                     Ok(()) => {
@@ -571,6 +574,7 @@ impl<P: Run> Scheduler<P> {
         ensures why { IfErr result (λ fault. IsHindered P.listing self.old.ledger token fault) }
         ensures ready { self.new.ready ≡ self.old.ready }
     {
+        // What `advance` would do too; this asks for no node.
         if let Standing::On(value) = token.standing {
             return self
                 .ledger

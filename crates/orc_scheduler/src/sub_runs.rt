@@ -29,11 +29,14 @@ pub enum SubRunResult<P: Run> {
 /// A call at which a token stands, and the result of its sub-run.
 #[derive(Drop)]
 pub struct SubRunJob<P: Run> {
+    // The token that stands at the call.
     handle: Handle,
+    // The call: the definition's number and the arguments.
     task: SubRunTask,
     // Whether the token's side had other members when the job was listed. The first value of a pruning's side drops them, and the work done for them
     // is in vain.
     races: bool,
+    // The result of its sub-run; Nothing until it was run, and once `take` has taken it.
     came: SubRunResult<P>,
 }
 

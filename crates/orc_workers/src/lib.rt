@@ -6,6 +6,12 @@
 //!
 //! Each worker has tokens, passes to their groups, and a queue of its own. Outside the lock are also the cell with the reason why the run stops, and
 //! the words. The workers choose what moves, and when. Whatever they choose, the rules allow each entry: that is the book's own invariant.
+//!
+//! In its *turn* a worker holds the lock, closes groups and moves tokens (`Shared::work`). Outside the lock it makes and *polls* calls: it asks one
+//! for its answer. A worker without a token that finds no work is *idle*, and *rests* once it waits on the condition variable. To *offer* is to say
+//! under the lock that there is work again. A *birth* is a token or group that comes of a move; for it the worker has passes ready before the move.
+//!
+//! Counts are added with saturation only because the prover isn't told how small they are.
 #![tactic(auto)]
 
 mod context;

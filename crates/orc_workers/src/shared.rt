@@ -56,12 +56,14 @@ pub(crate) enum OutsideWork<C: Drop> {
 
 /// The book of a run, the calls that wait until they are due, what ends the run, and where the workers are.
 pub(crate) struct Shared<P: Run + Naming, C: Drop> {
+    // The run.
     pub(crate) book: Book<P>,
     // The calls that wait until they are due, by their numbers. A call that a worker is polling isn't here, but with that worker.
     pub(crate) pending: BTreeMap<u64, Box<C>>,
     // Lent to the book: for the arguments of a call, and for the numbers of the calls that a bind has cancelled.
     pub(crate) args: Args,
     pub(crate) cancelled: Vec<u64>,
+    // Why the run has stopped, if it has.
     stopper: Stopper,
     // How often workers at rest have been asked to look for work again.
     pub(crate) offers: u64,
@@ -165,6 +167,7 @@ impl<P: Run + Naming, C: Drop> Shared<P, C> {
         }
         let moves = if self.is_alone() { MOVES_ALONE } else { MOVES };
         for _move in 0..moves {
+            // The last move may have lost a token, a pass or a group.
             if local.was_refused_memory() {
                 self.stop_for_memory();
             }
@@ -175,6 +178,7 @@ impl<P: Run + Naming, C: Drop> Shared<P, C> {
                 return OutsideWork::None;
             };
             match self.step(setup, local, token) {
+                // On to the next move.
                 Step::On => {}
                 Step::Calls(number) => return self.make(number),
                 Step::Full => return OutsideWork::MakeRoom,
@@ -189,6 +193,7 @@ impl<P: Run + Naming, C: Drop> Shared<P, C> {
             return;
         }
         match event {
+            // There is nothing to report.
             CallEvent::None => {}
             CallEvent::Answered(number, answer) => self.answer(local, number, answer),
             CallEvent::Waits(number, due, call) => self.park(answers, number, due, call),

@@ -124,11 +124,13 @@ impl<'h, P: Run + Naming, R: Wait, S: Sites, G: Gate> Shift<'h, P, R, S, G> {
             return true;
         }
         match self.queue.next() {
+            // A stolen token wasn't counted. Its own queue is empty then, so the count is still not too small.
             Some(token) => {
                 self.queued = self.queued.saturating_sub(1);
                 self.local.hold(token);
                 true
             }
+            // Its own queue is empty, and it has found nothing to steal.
             None => {
                 self.queued = 0;
                 false
