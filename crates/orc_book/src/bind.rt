@@ -28,7 +28,8 @@ fn count_records<P: Run>(ledger: &Ledger<P>) -> Option<usize>
     count.checked_add(ledger.side_count())
 }
 
-// Makes room in `leave` for one pass more than there are records: so for all passes that the book holds, and the token's own.
+// Makes room in `leave` for one pass more than there are records: so for all passes that the book holds, and the token's own. The error is refused
+// memory.
 fn reserve_all<P: Run, J: Naming>(
     ledger: &Ledger<P>,
     leave: &mut Vec<Pass<J>>,

@@ -352,7 +352,8 @@ pub(crate) fn enter_at<J: Naming>(
     }
 }
 
-/// For a token that was kept and goes out: takes a pass out, and sets how many tokens are out and kept. If no pass is held, nothing changes.
+/// For a token that was kept and goes out: takes a pass out, and sets how many tokens are out and kept. None, and nothing changes, if no pass is
+/// held.
 pub(crate) fn wake_at<J: Naming>(
     posts: &mut Vec<Post<J>>,
     number: u32,

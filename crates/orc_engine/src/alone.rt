@@ -65,7 +65,8 @@ pub fn run_alone(
     }
 }
 
-// Runs a program whose graph is built, with a limit in range. None if the run keeps no journal, but only a journal can show how it ended.
+// Runs a program whose graph is built, with a limit in range. None if the run keeps no journal, but only a journal can show how it ended. The faults
+// are those of `run_alone` but Range.
 fn run_graph<P: Run>(
     alloc: Global,
     program: &Program,

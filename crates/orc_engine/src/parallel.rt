@@ -1,5 +1,6 @@
 //! One run on several threads. If many tokens stand at calls of definitions, the threads run these calls side by side, each as a sub-run, and the
-//! calling thread merges the results in a fixed order. So the journal depends neither on which thread is quicker nor on how many there are.
+//! calling thread merges the results in a fixed order. So the journal depends neither on which thread is quicker nor on how many there are. An error
+//! of type `Stop` is the reason why the run stops.
 //!
 //! A *job* is one of these calls. A job *races* if its token's side had other members when the jobs were listed, and has *won* if its call yields a
 //! value, or may (`SubRunJob::has_won`): the jobs behind it are in vain then. The first jobs of a list are *samples*, whose runs show whether the
@@ -145,7 +146,8 @@ pub fn run_parallel<R: Threads + Sync>(
     run_graph(&threads, program, &graph, answers, keeps, limit as usize)
 }
 
-/// Runs a program whose graph is built, as [`run_parallel`] does, with a limit and workers in range.
+/// Runs a program whose graph is built, as [`run_parallel`] does, with a limit and workers in range. The faults are those of `run_parallel` but
+/// Range.
 pub(crate) fn run_graph<R: Threads + Sync>(
     threads: &WorkerThreads<'_, R>,
     program: &Program,
@@ -180,7 +182,7 @@ pub(crate) fn run_graph<R: Threads + Sync>(
 }
 
 // Runs a program whose graph is built, and keeps its journal or only counts its entries. None if it keeps no journal, but only a journal can show how
-// the run ended. The type P names the run, whose program and sites the caller picks.
+// the run ended. The type P names the run, whose program and sites the caller picks. Faults are as of `run_graph`.
 fn run_named<P, R>(
     threads: &WorkerThreads<'_, R>,
     program: &Program,

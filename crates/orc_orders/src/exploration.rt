@@ -113,7 +113,8 @@ impl<R: Threads + Sync> Surveyor<'_, R> {
         Ok(played.summary.entries)
     }
 
-    // Runs `number` orders from `first` on, and counts their outcomes. Gives how many entries a run had on average.
+    // Runs `number` orders from `first` on, and counts their outcomes. Gives how many entries a run had on average. The fault is that of the first
+    // run with one, or Memory; outcomes before it are counted then.
     #[tactic(auto, using(crate::proofs::Counting::one_order_more))]
     fn go(
         &self,

@@ -117,7 +117,8 @@ impl Batch<'_, '_, '_> {
     }
 
     // Tries the ways and adds the verdicts of each to `told`. Gives the mean, over these ways, of the entries that all runs of a way have, and 0 if
-    // there are no ways. From it `try_ways` decides whether the next batch is worth threads; no contract speaks of it.
+    // there are no ways. From it `try_ways` decides whether the next batch is worth threads; no contract speaks of it. The fault is that of the first
+    // way with one, or Memory; the verdicts of the ways before it are added then.
     #[tactic(auto, using(crate::proofs::Adding::none_added, crate::proofs::Adding::all_added))]
     fn tell<R: Threads + Sync>(
         &self,

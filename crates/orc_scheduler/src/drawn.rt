@@ -1,4 +1,5 @@
-//! Turns in a run with an order (`--order`): it draws whose turn comes, that of a token or of a call that is due.
+//! Turns in a run with an order (`--order`): it draws whose turn comes, that of a token or of a call that is due. An error of type `Stop` is the
+//! reason why the run stops.
 
 ghost use Rattle.std.specs.Prelude.{◌≡◌, ◌≤◌, ◌<◌, true, false, IfOk, IfErr};
 ghost use Rattle.std.specs.VecDeque.{deque_len};

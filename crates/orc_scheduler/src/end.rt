@@ -70,7 +70,8 @@ impl<P: Run> Scheduler<P> {
         }
     }
 
-    // How a run ends whose term is said to have halted. The fault is Broken where it hasn't.
+    // How a run ends whose term is said to have halted. The fault is Broken where it hasn't. Never None, here and in `quiet`: the type is that of
+    // `end`.
     fn halted(&self, inputs: &Inputs<'_, P>) -> Result<Option<End>, EngineFault>
         ensures ended { IfOk result (λ end. MatchOption end (P.keeps ≡ false) (HasEnded P.listing inputs.now.answers.now self.now.ledger)) }
         ensures range { IfErr result (λ fault. fault ≡ EngineFault.Range → ⊥) }

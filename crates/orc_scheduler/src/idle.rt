@@ -1,5 +1,5 @@
 //! What comes next if no token is runnable: the answer of a call that is due, or a tick, or what the ledger finds. Calls that are due at the same
-//! time are answered in the order of their numbers.
+//! time are answered in the order of their numbers. An error of type `Stop` is the reason why the run stops.
 
 ghost use Rattle.std.specs.Prelude.{◌≡◌, ◌≤◌, true, false, IfOk, IfErr};
 ghost use Rattle.std.specs.VecDeque.{deque_len};

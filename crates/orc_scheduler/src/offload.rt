@@ -133,7 +133,7 @@ impl<P: Run> Scheduler<P> {
     }
 
     // Adds the call at which the token in this place of the queue stands (place 0 has waited longest), if it is of the kind that is asked for and the
-    // list has room.
+    // list has room. The error is refused memory.
     fn add_job(
         &self,
         inputs: &Inputs<'_, P>,

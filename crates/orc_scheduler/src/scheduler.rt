@@ -1,5 +1,6 @@
 //! The scheduler itself: it gives tokens their turns, makes their calls, and halts groups. Each function that goes on with a run brings it nearer its
-//! end (`IsNearer`, `Advances`), and each stop has a cause (`Stops`, all in `specs/Stops.antt`).
+//! end (`IsNearer`, `Advances`), and each stop has a cause (`Stops`, all in `specs/Stops.antt`). An error of type `Stop` is the reason why the run
+//! stops: the entry that was refused isn't in the journal, and the caller gives no turn any more.
 
 ghost use Rattle.std.specs.Prelude.{◌≡◌, ◌≤◌, ◌<◌, ◌+◌, ◌^◌, ℕ, true, false, IfOk, IfErr, IfSome, IfNone, OnErr};
 ghost use Rattle.std.specs.VecDeque.{deque_len};

@@ -86,7 +86,7 @@ impl<P: Run> SubRunJob<P> {
     }
 }
 
-// Makes the sub-run of a task: its program is the call alone, with the definitions of the run's program.
+// Makes the sub-run of a task: its program is the call alone, with the definitions of the run's program. Nothing if memory is refused, too.
 fn came_of<P: Run>(
     alloc: Global,
     inputs: &Inputs<'_, P>,
@@ -107,7 +107,8 @@ fn came_of<P: Run>(
     run_apart::<Brand, P>(alloc, &own, inputs.answers, keeps, task, limit)
 }
 
-// Makes the sub-run over its graph. The type Q names the sub-run, whose program is `graph`, and P the run to which it belongs.
+// Makes the sub-run over its graph, and says what came of it, as `SubRunResult` does. The type Q names the sub-run, whose program is `graph`, and P
+// the run to which it belongs.
 fn run_apart<Q: Run, P: Run>(
     alloc: Global,
     graph: &Graph,

@@ -102,7 +102,8 @@ where
     )
 }
 
-// Runs a program whose graph is built, with workers and a limit in range, and asks the sites and the gate. The journal is kept.
+// Runs a program whose graph is built, with workers and a limit in range, and asks the sites and the gate. The journal is kept. The faults are those
+// of `run_pool` but Range.
 fn run_graph<R, S, G>(
     rt: &R,
     alloc: Global,
@@ -136,7 +137,7 @@ where
 }
 
 // Does what `run_graph` does, once the words of the groups are made. The type P names the run, whose program and sites the caller picks, and the
-// table of words.
+// table of words. Faults are as of `run_graph`.
 fn run_named<'x, P, R, S, G>(
     rt: &'x R,
     alloc: Global,
