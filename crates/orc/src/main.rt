@@ -17,13 +17,13 @@ const EXPLAIN: &str = "ORC_EXPLAIN";
 /// The option that asks for explanations.
 const OPTION: &str = "--explain";
 
-/// The commands that take this option.
+/// The commands that take the option `--explain`.
 const EXPLAINING: [&str; 6] = ["run", "outcomes", "check", "draw", "print", "test"];
 
 /// The command that explains on standard output, too.
 const TESTING: &str = "test";
 
-/// A file of the system, or standard input.
+/// A file of the system, or standard input. `F` is the type of the system's open files.
 #[derive(Drop)]
 enum Input<F> {
     File(F),
@@ -55,12 +55,13 @@ fn fault_of(error: io::Error) -> ReadFault {
         }
         ErrorKind::IsADirectory => ReadFault::Failed(Unread::Folder),
         ErrorKind::PermissionDenied => ReadFault::Failed(Unread::Forbidden),
+        // Anything else, such as a device that fails.
         _ => ReadFault::Failed(Unread::Other),
     }
 }
 
-// Standard input, if it can be read. If it is closed, the system gives its file descriptor to the next file that is opened, which would then be read
-// in its place. So this is called before any file is opened.
+// Standard input, if it can be read, which an empty read shows; that takes no byte of it. If it is closed, the system gives its file descriptor to
+// the next file that is opened, which would then be read in its place. So this is called before any file is opened.
 fn standard_input(mut stdin: Stdin) -> Result<Stdin, ReadFault> {
     match stdin.read(&mut []) {
         Ok(_) => Ok(stdin),
@@ -69,7 +70,7 @@ fn standard_input(mut stdin: Stdin) -> Result<Stdin, ReadFault> {
 }
 
 impl<R: rt::Files + AllocGlobal> SystemFiles<'_, R> {
-    // The file of a path, or standard input for `-`.
+    // The file of a path, or standard input for `-`. The error is why it can't be opened; of a folder only its read tells that.
     fn open_input(&self, path: &str) -> Result<Input<R::File>, ReadFault> {
         if path == STANDARD_INPUT {
             return match self.stdin {
@@ -87,7 +88,7 @@ impl<R: rt::Files + AllocGlobal> SystemFiles<'_, R> {
 impl<R: rt::Files + AllocGlobal> Files for SystemFiles<'_, R> {
     type Reader = Input<R::File>;
 
-    // The first bytes of a file, `MOST` at most: a device may have no end.
+    // The first bytes of a file, `MOST` at most: a device may have no end. A text of `MOST` bytes is over each command's limit, which reports that.
     fn read(&mut self, path: &str) -> Result<Vec<u8>, ReadFault> {
         let mut bytes = Vec::new(self.rt.alloc());
         let mut front = self.open_input(path)?.take(MOST);
@@ -102,13 +103,14 @@ impl<R: rt::Files + AllocGlobal> Files for SystemFiles<'_, R> {
     }
 }
 
-// Writes a line on standard error, and ends with this status. If that can't be written either, nobody can be told.
+// Writes a line on standard error, and gives the exit with this status. If the line can't be written, nobody can be told.
 fn failed(rt: &impl Eprint, line: &str, status: u8) -> ExitCode {
     let _ = eprintln!(rt; "{line}");
     ExitCode::from(status)
 }
 
-// The exit if memory is refused before any command has begun, with the line and the status that a command would give.
+// The exit if memory is refused before any command has begun, with the line and the status that a command would give. That line names no file, so the
+// empty name isn't seen.
 fn refused(rt: &impl Eprint) -> ExitCode {
     let failure = Failure::Unread("", ReadFault::Memory);
     let _ = eprintln!(rt; "{failure}");
@@ -132,7 +134,7 @@ fn explains(rt: &HostRuntime, words: &[String]) -> bool {
     }
 }
 
-// Puts the option behind a command that takes it, unless it stands there.
+// Puts the option behind a command that takes it, unless it is among the words. The error is refused memory: the words are as they were.
 fn ask_for_explanations(alloc: Global, words: &mut Vec<String>) -> Result<(), AllocError> {
     let takes_it = match words.get(1) {
         Some(word) => EXPLAINING.iter().any(|command| word.as_str() == *command),
@@ -149,6 +151,7 @@ fn main(rt: HostRuntime) -> ExitCode {
     let args = match env::args(&rt) {
         Ok(args) => args,
         Err(error) if error.kind() == ErrorKind::OutOfMemory => return refused(&rt),
+        // Any other error is an argument that isn't text: a mistake in the command line (status 2).
         Err(_) => return failed(&rt, "error: an argument is not UTF-8", 2),
     };
     let Ok(mut words) = args.collect::<Vec<String>>(alloc) else {

@@ -16,10 +16,11 @@ use std::alloc::Global;
 /// last pass is left.
 pub(crate) const WORDS: u32 = 2 * MOST_GROUPS as u32;
 
-/// How many passes a run has if its row says nothing: more than its entries need.
+/// How many passes a run has if its row says nothing. That is more than its entries need: none takes more than the two of an `open`.
 pub(crate) const PASSES: u32 = 4 * MOST_ENTRIES as u32;
 
-/// A run whose first token is out, with these words, and passes out of this supply. None where memory is refused, or the supply is empty.
+/// A run whose first token is out, with `words` words for its groups, a journal of at most `limit` entries (cancels left out), and passes out of this
+/// supply. None where memory is refused, or the supply is empty. The journal is kept.
 pub(crate) fn begin<P: Run + Naming>(
     alloc: Global,
     setup: &Setup<'_, P>,

@@ -26,14 +26,14 @@ pub(crate) struct Stop {
     pub why: Odd,
 }
 
-/// A journal that was replayed: how many entries it has, and what the book says of the place to which they have led.
+/// A journal that was replayed: how many entries it has, cancels too, and what the book says of the place to which they have led.
 #[derive(Clone, Copy)]
 pub(crate) struct Replayed {
     pub entries: usize,
     pub state: State,
 }
 
-/// How many passes to the program's own group a replay keeps for the next records there, as a worker keeps some.
+/// How many passes to the program's own group a replay keeps for the next records there, as a worker keeps some. The number only bears on speed.
 const MOST_WARM: usize = 64;
 
 /// Nothing was replayed: a text can't be read, or the journal is of the first version.
@@ -117,12 +117,13 @@ fn replay_named<P: Run + Naming>(
     }
 }
 
-// Has the book do what the entries say.
+// Has the book do what the entries say, up to the first one that fails.
 fn follow<P: Run + Naming>(
     setup: &Setup<'_, P>,
     replay: &mut Replay<P>,
     journal: &Journal,
 ) -> Result<(), Stop> {
+    // Lent to `read`, which overwrites it.
     let mut entry = Entry::Tick(0);
     for at in 0..journal.len() {
         // Not reached: there is an entry at each place before the length.
@@ -139,8 +140,8 @@ fn follow<P: Run + Naming>(
     Ok(())
 }
 
-// The state to which the entries have led, if the book has written the same journal. The program's own group can be closed exactly if the term has
-// halted.
+// The state to which the entries have led. Other if the book has written another journal, if it has closed the program's own group though the term
+// hasn't halted, or if it hasn't though the term has.
 fn state_of<P: Run + Naming>(
     alloc: Global,
     setup: &Setup<'_, P>,
@@ -187,7 +188,7 @@ fn are_same(alloc: Global, answers: &Answers, one: &Journal, other: &Journal) ->
 }
 
 /// Reads a journal's text as `replay_text` does, compares it with itself, and gives how many entries it has; `bench/book` takes this time off. None
-/// if the text can't be read.
+/// if a text can't be read, or memory is refused.
 pub(crate) fn read_text(alloc: Global, source: &[u8], script: &[u8], text: &[u8]) -> Option<usize> {
     let loaded = load(alloc, source, script).ok()?;
     let journal = read_journal(alloc, text, &loaded.answers).ok()?;

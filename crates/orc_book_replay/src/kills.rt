@@ -1,4 +1,5 @@
-//! Groups that are killed: who may bind, and when their words are free again.
+//! Groups that are killed: who may bind, and when their words are free again. None as the result of a function means that something isn't as it has
+//! to be. `leave` is the list to which the book adds passes that are to be left.
 
 ghost use Rattle.std.specs.Prelude.{◌≡◌, ◌≤◌, true};
 
@@ -21,7 +22,8 @@ pub(crate) fn leave_one<P: Run + Naming>(
     so(!replay.passes.leave(setup.groups, pass).ok()?)
 }
 
-// Leaves the last pass to a group, and has the book close the group, which adds no entry. Gives what has become of the group.
+// Leaves the last pass to a group, and has the book close the group, which adds no entry: the callers' groups were killed, or are the program's own.
+// Gives what has become of the group.
 fn leave_last<P: Run + Naming>(
     setup: &Setup<'_, P>,
     replay: &mut Replay<P>,
@@ -36,7 +38,7 @@ fn leave_last<P: Run + Naming>(
     Some(ended)
 }
 
-// Leaves the last pass to a killed group, which ends without an entry. No other killed group's word is taken then.
+// Leaves the last pass to a killed group, the only one, which ends without an entry. No killed group's word is taken then.
 fn leave_killed<P: Run + Naming>(
     setup: &Setup<'_, P>,
     replay: &mut Replay<P>,
@@ -78,7 +80,8 @@ fn binds_not<P: Run + Naming>(
     }
 }
 
-// The right side of cell 1 is bound by its second token while its first one's call pends: two passes are to be left, and the call is gone.
+// In `x <x< (Rwait(0) | 1)` the second token of the right side binds while the first one's call pends. Two passes are to be left, that of the token
+// and that of the call; call 1 is cancelled, and so is gone.
 fn kill<P: Run + Naming>(
     setup: &Setup<'_, P>,
     replay: &mut Replay<P>,
@@ -100,8 +103,8 @@ fn kill<P: Run + Naming>(
     }
 }
 
-/// The second pass that is left after a kill is the group's last one: closing the group adds no entry, and gives the pass to the group outside it.
-/// Once that pass is left, and that of the token that publishes, the run has halted.
+/// The second pass that is left after a kill is the group's last one. To close the group adds no entry, and gives the pass to the group outside it
+/// that the book held for it, `owed`. Once that is left, and that of the token that publishes, the run has halted.
 pub(crate) fn ends_after_a_kill<P: Run + Naming>(
     alloc: Global,
     setup: &Setup<'_, P>,
@@ -171,6 +174,7 @@ pub(crate) fn keeps_words_of_the_killed<P: Run + Naming>(
     requires { P.keeps ≡ true }
 {
     let mut leave = Vec::new(alloc);
+    // The first pruning of `(x <x< 1) >y> (z <z< 2)` takes word 1, the only one beside the program's own, and is bound.
     enter_all(setup, &mut replay, "seq 1 2\nopen 2 1 3 4\n")?;
     let token = replay.take_token(4)?;
     replay.bind_only(setup, token, &mut leave).ok()?;

@@ -36,7 +36,8 @@ fn tell_rows<R: Print>(rt: &R, alloc: Global) -> io::Result<()> {
     Ok(())
 }
 
-// Replays a journal, or reads it alone.
+// Replays a journal, or only reads it where `is_read_alone`, and writes what has come of it: its entries and the state at its end, or the entry that
+// fails. Of a text that can't be read, `read 0` or `entry 0`.
 fn tell_journal<R: Print>(
     rt: &R,
     alloc: Global,
@@ -58,6 +59,7 @@ fn tell_journal<R: Print>(
 fn main(rt: HostRuntime) -> io::Result<()> {
     let alloc = rt.alloc();
     let words = env::args(&rt)?.collect::<Vec<String>>(alloc)?;
+    // Any word behind the journal counts as `--read`. With any other number of words the rows are shown.
     let ([_, source, script, journal] | [_, source, script, journal, _]) = words.as_slice() else {
         return tell_rows(&rt, alloc);
     };

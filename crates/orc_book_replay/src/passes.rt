@@ -8,9 +8,11 @@ ghost use Rattle.orc_word.specs.Views.{group_of};
 use orc_word::{Groups, Last, Naming, Pass, Supply};
 use std::alloc::{AllocError, Global};
 
-/// Passes that no record has, and the groups that were left last and are still to be closed.
+/// Passes that no record has, and the groups that are still to be closed.
 pub(crate) struct Passes<P: Naming> {
+    // The idle passes.
     supply: Supply<P>,
+    // The groups whose last pass was left, and which the book hasn't closed yet.
     pub lasts: Vec<Last<P>>,
     // Passes to the program's own group, kept for the next records there: that saves the atomic exchanges by which passes leave and enter.
     warm: Vec<Pass<P>>,
@@ -49,17 +51,18 @@ impl<P: Naming> Passes<P> {
         self.most_warm = most;
     }
 
-    /// A pass that names no group.
+    /// An idle pass. None if the supply is empty.
     pub(crate) fn idle(&mut self, groups: &Groups<P>) -> Option<Pass<P>>
         ensures { IfSome result (λ pass. group_of pass ≡ None) }
     {
         self.supply.take(groups)
     }
 
-    /// A pass to the group that this one names, if it names one.
+    /// Another pass to the group that `with` names. None if `with` is idle or the supply is empty.
     pub(crate) fn same(&mut self, groups: &Groups<P>, with: &Pass<P>) -> Option<Pass<P>>
         ensures { IfSome result (λ pass. group_of pass ≡ group_of with.now) }
     {
+        // `enter` requires that `with` names a group.
         if with.group().is_none() {
             return None;
         }
@@ -70,7 +73,7 @@ impl<P: Naming> Passes<P> {
         Some(groups.enter(with, idle))
     }
 
-    // A pass that was kept, if it is to the group that this one names.
+    // One of the passes in `warm`, if `with` names the program's own group too. None else, or if none is there.
     fn warm_as(&mut self, with: &Pass<P>) -> Option<Pass<P>>
         ensures { IfSome result (λ pass. group_of pass ≡ group_of with.now) }
     {
@@ -80,7 +83,9 @@ impl<P: Naming> Passes<P> {
         }
     }
 
-    /// Leaves a pass, which goes back into the supply. Says whether it was the last one to its group, which has to be closed then.
+    /// Leaves a pass, which goes back into the supply. True if it was the last one to its group, which is among `lasts` then and has to be closed. An
+    /// idle pass is the last one of none. The error is refused memory: the pass is left all the same, but nobody is told that its group has to be
+    /// closed.
     pub(crate) fn leave(&mut self, groups: &Groups<P>, pass: Pass<P>) -> Result<bool, AllocError> {
         if pass.group().is_none() {
             self.supply.give(groups, pass);
@@ -97,7 +102,7 @@ impl<P: Naming> Passes<P> {
         }
     }
 
-    // A pass to the program's own group is kept where there is room for it, any other one is left.
+    // Keeps a pass to the program's own group as long as `warm` has fewer than `most_warm`, and leaves any other one.
     fn put_away(&mut self, groups: &Groups<P>, pass: Pass<P>) -> Result<(), AllocError> {
         if pass.group() == Some(0) && self.warm.len() < self.most_warm {
             return match self.warm.push(pass) {
@@ -109,7 +114,7 @@ impl<P: Naming> Passes<P> {
         Ok(())
     }
 
-    /// All these passes are left, but those that are kept.
+    /// Empties a list of passes: leaves them, but those to the program's own group that `keep_warm` has kept.
     pub(crate) fn leave_all(
         &mut self,
         groups: &Groups<P>,
@@ -122,7 +127,7 @@ impl<P: Naming> Passes<P> {
         Ok(())
     }
 
-    /// The passes that were kept are left, and no more are kept.
+    /// Leaves the passes that `keep_warm` has kept, and keeps no more.
     pub(crate) fn leave_warm(&mut self, groups: &Groups<P>) -> Result<(), AllocError> {
         self.most_warm = 0;
         for _ in 0..u64::MAX {

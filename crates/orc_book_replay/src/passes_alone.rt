@@ -1,4 +1,4 @@
-//! Passes and words without a move of a token.
+//! Passes and words without a move of a token. None as the result of a row means that something isn't as it has to be.
 
 ghost use Rattle.std.specs.Prelude.{◌≤◌, IsSome};
 ghost use Rattle.orc_word.specs.Views.{group_of};
@@ -9,7 +9,7 @@ use crate::setup::Setup;
 use orc_log::Run;
 use orc_word::{Bit, Groups, Naming, Pass};
 
-/// A supply of three passes, one of which the first token has, gives two more, and then one that was given back.
+/// A supply of three passes, one of which the first token has, gives two more, then none, and then one that was given back.
 pub(crate) fn gives_passes_again<P: Run + Naming>(
     setup: &Setup<'_, P>,
     mut replay: Replay<P>,
@@ -39,18 +39,21 @@ fn one_wins<P: Run + Naming>(
     so(replay.passes.leave(setup.groups, two).ok()?)
 }
 
-// Whether a pass wins the mark that its group is killed.
+// Whether a pass wins the mark that its group is killed. None of an idle pass.
 fn wins<P: Naming>(groups: &Groups<P>, pass: &mut Pass<P>) -> Option<bool> {
+    // `mark` requires that the pass names a group, and `look` below does too.
     pass.group()?;
     Some(groups.mark(pass, Bit::Killed))
 }
 
+// Whether a pass's group has the mark *killed*. None of an idle pass.
 fn is_killed<P: Naming>(groups: &Groups<P>, pass: &mut Pass<P>) -> Option<bool> {
     pass.group()?;
     Some(groups.look(pass).killed)
 }
 
-/// A group's mark *killed* is won once, and once again after its word was opened anew.
+/// A group's mark *killed* is won once, and once again after its word was opened anew. The book has two words: 0 is the program's own, so this opens
+/// 1.
 pub(crate) fn is_killed_once<P: Run + Naming>(
     setup: &Setup<'_, P>,
     mut replay: Replay<P>,

@@ -1,4 +1,5 @@
-//! Calls that a book refuses, after which the run goes on.
+//! Calls that a book refuses, after which the run goes on. None as the result of a function means that something isn't as it has to be. `leave` is
+//! the list to which the book adds passes that are to be left.
 
 ghost use Rattle.std.specs.Prelude.{◌≡◌, ◌≤◌, true};
 
@@ -12,8 +13,9 @@ use orc_rules::value::Args;
 use orc_word::{Naming, Pass};
 use std::alloc::Global;
 
-// Leaves the only pass to the program's own group though the group's token is still there, so that the pass was the last one by the word. The book
-// refuses to close the group as Live, since it has a token. Gives the token back, with a pass that opens the group's word again.
+// Leaves the only pass to the program's own group though the group's token is still there: by the word, which counts passes, that was the last one.
+// The book refuses to close the group as Live, since its records have a token there. Gives the token back, with a pass that opens the group's word
+// again.
 fn leaves_early<P: Run + Naming>(
     setup: &Setup<'_, P>,
     replay: &mut Replay<P>,
@@ -64,7 +66,7 @@ pub(crate) fn is_live<P: Run + Naming>(
     has_written(alloc, setup, replay, lines)
 }
 
-// The token of a call of the book that has to be refused as Wrong.
+// The token that a call of the book gives back, which has to be refused as Wrong. It is token 1, the only one.
 fn wrong<P: Run + Naming, T: Drop>(answer: Result<T, Refused<Token<P>>>) -> Option<Token<P>> {
     match answer {
         Ok(_) => None,
@@ -75,6 +77,7 @@ fn wrong<P: Run + Naming, T: Drop>(answer: Result<T, Refused<Token<P>>>) -> Opti
     }
 }
 
+// The book refuses to fork token 1 as Wrong, and gives back the pass that was lent, which is left. Gives the token back.
 fn forks_not<P: Run + Naming>(
     setup: &Setup<'_, P>,
     replay: &mut Replay<P>,
@@ -115,7 +118,7 @@ pub(crate) fn refuses_other_moves<P: Run + Naming>(
     has_written(alloc, setup, replay, "seq 1 2\n")
 }
 
-/// The book refuses a token's pruning for this reason, and gives back all that it was lent. Gives the token back.
+/// The book refuses a token's pruning for this reason, and gives back both passes that it was lent; they are left. Gives the token back.
 pub(crate) fn prunes_not<P: Run + Naming>(
     setup: &Setup<'_, P>,
     replay: &mut Replay<P>,
@@ -139,8 +142,8 @@ pub(crate) fn prunes_not<P: Run + Naming>(
     }
 }
 
-/// A pass that no record has names the next free word: a pruning is refused as Live then, and is done once that pass was left. `halt` of that word is
-/// refused as Gone, since the word stands for no group.
+/// A pass that no record has names word 1, which the book would take next: a pruning is refused as Live then, and is done once that pass was left.
+/// `halt` of that word is refused as Gone, since the word stands for no group.
 pub(crate) fn refuses_words_that_are_named<P: Run + Naming>(
     alloc: Global,
     setup: &Setup<'_, P>,

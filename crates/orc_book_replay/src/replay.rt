@@ -1,5 +1,11 @@
 //! Journals replayed by calls of the book, entry by entry. A token is out while the replay has it. The book keeps a token that waits.
 //!
+//! Of an entry the replay looks at the token, call, cell or otherwise that it names, and at a tick's time. The other marks and values in it are
+//! compared once the replay is over, when the whole journals are (`journals.rt`).
+//!
+//! A replay ends at its first error, so what a refused call gives back is dropped. Memory also stands for an empty supply of passes: a supply has
+//! more than a run needs, except in rows that say how many.
+//!
 //! Loops that end by `break` go over `0..u64::MAX`, so that the prover sees an end.
 
 ghost use Rattle.std.specs.Prelude.{◌≡◌, ◌<◌, IfSome, vec_len};
@@ -16,17 +22,18 @@ use orc_word::{Last, Naming, Pass};
 use std::alloc::Global;
 use std::mem;
 
-/// A killed group uses its word until its last pass is left. If killed groups use this many words, the replay looks through all tokens for passes of
-/// killed groups (`sweep`). With more slots it waits until more words are in use, so that each bind pays for few looks.
+/// A killed group uses its word until its last pass is left. If killed groups use this many words, the replay looks through all slots for tokens that
+/// went with a killed group, and leaves their passes (`sweep`). With more slots it waits until more words are in use, so that each bind pays for few
+/// looks.
 const FEW_DYING: usize = 64;
 
-/// However many slots there are, it looks through them once killed groups use this many words.
+/// However many slots there are, it looks through them once killed groups use this many words: half of those that open groups leave (`WORDS`).
 const MOST_DYING: usize = 512;
 
 /// Why the replay of an entry fails.
 #[derive(Clone, Copy, Debug, PartialEq, Eq)]
 pub(crate) enum Odd {
-    /// No such token is out, or no such call pends.
+    /// No such token is out, no such call pends, or another bind has killed the group before.
     Gone,
     /// The side that the entry ends still has a pass: by the rules the tokens inside may only make moves of marks, and the book makes these first.
     Live,
@@ -34,10 +41,11 @@ pub(crate) enum Odd {
     Wrong,
     /// Something else comes next than this tick.
     Time,
-    /// The book has done something else than the entry says.
+    /// The book has done something else than the entry says. Of a replay as a whole (`journals.rt`) also: a text can't be read.
     Other,
     /// A limit is reached.
     Limit,
+    /// Memory was refused, or the supply of passes is empty.
     Memory,
 }
 
@@ -66,18 +74,19 @@ pub(crate) struct Replay<P: Run + Naming> {
     pub book: Book<P>,
     pub passes: Passes<P>,
     sides: Sides,
-    // The tokens that are out, by their slots.
+    // The tokens that are out, by their slots. A token that went with a killed group stays here until its slot is looked at or taken again.
     out: Vec<Place<P>>,
     // The slot of each token, by its mark; there is no mark 0.
     slots: Vec<usize>,
     // The slots in which a token may wait that the book doesn't keep yet.
     listed: Vec<usize>,
-    // The calls that the last bind has cancelled.
+    // The numbers of the calls that the last bind has cancelled, in rising order.
     pub cancelled: Vec<u64>,
     // How many of these cancels the journal's entries haven't named yet.
     owed: usize,
-    // Lent to the book's calls.
+    // Passes that no record has any more: `settle` leaves them after each entry.
     leave: Vec<Pass<P>>,
+    // Lent to the book's calls: passes for a step's new records, what came out of the last call, and the arguments of the last call of a site.
     births: Births<P>,
     step: StepOut<P>,
     args: Args,
@@ -115,7 +124,7 @@ impl<P: Run + Naming> Drop for Replay<P> {
 }
 
 impl<P: Run + Naming> Replay<P> {
-    /// A run that has begun, with this number of words. Its first token is out.
+    /// A run that has begun: `token` is out, its first one, with mark 1. `words` is how many words the book has for its groups.
     pub(crate) fn begin(
         alloc: Global,
         book: Book<P>,
@@ -127,6 +136,7 @@ impl<P: Run + Naming> Replay<P> {
             return Err(Odd::Memory);
         };
         let mut slots = Vec::new(alloc);
+        // For the mark 0, which no token has.
         if slots.push(0).is_err() {
             return Err(Odd::Memory);
         }
@@ -148,7 +158,8 @@ impl<P: Run + Naming> Replay<P> {
         Ok(replay)
     }
 
-    /// Has the book do what an entry says, by the call for its kind. A `cancel` has come with its bind, and is compared.
+    /// Has the book do what an entry says, by the call for its kind, and then leaves the passes that no record has any more. A `cancel` was made by
+    /// the book with its bind, and is compared; any other entry is Other while the journal hasn't named all cancels of the last bind.
     pub(crate) fn enter(&mut self, setup: &Setup<'_, P>, entry: &Entry) -> Result<(), Odd> {
         if let Entry::Cancel(number) = entry {
             return self.cancel(*number);
@@ -162,12 +173,14 @@ impl<P: Run + Naming> Replay<P> {
             Entry::Lost(cell) => self.halt(setup, Side::Right(*cell))?,
             Entry::Right(mark, _) => self.halt(setup, Side::Left(*mark))?,
             Entry::Tick(time) => self.tick(setup, *time)?,
+            // All others are the next move of a token.
             _ => self.advance(setup, entry)?,
         }
         self.settle(setup)
     }
 
-    // A token does what the entry says.
+    // The token that the entry names makes its next move, by the call for this kind of entry. The book refuses a call that isn't for that move as
+    // Wrong.
     fn advance(&mut self, setup: &Setup<'_, P>, entry: &Entry) -> Result<(), Odd> {
         match entry {
             Entry::End(mark) | Entry::Void(mark) => {
@@ -211,7 +224,7 @@ impl<P: Run + Naming> Replay<P> {
         }
     }
 
-    // The token with this mark, which has to be out, for its next move.
+    // The token with this mark, for its next move. Gone if it isn't out.
     fn take(&mut self, mark: u64) -> Result<Token<P>, Odd> {
         match self.take_token(mark) {
             Some(token) => Ok(token),
@@ -219,7 +232,7 @@ impl<P: Run + Naming> Replay<P> {
         }
     }
 
-    /// The token with this mark, if it is out. The replay doesn't have it any more then.
+    /// Takes the token with this mark out of the replay. None if it isn't out, after which the replay has what it had.
     pub(crate) fn take_token(&mut self, mark: u64) -> Option<Token<P>> {
         let slot = self.slots.get(mark as usize).copied()?;
         let place = self.out.get_mut(slot)?;
@@ -227,11 +240,12 @@ impl<P: Run + Naming> Replay<P> {
         if token.serial == mark {
             return Some(token);
         }
+        // A later token has this slot: it stays.
         place.token = Some(token);
         None
     }
 
-    /// Takes a token that has come out with the next mark.
+    /// Takes a new token, which has to have the next mark; else the error is Other.
     pub(crate) fn stand(&mut self, token: Token<P>) -> Result<(), Odd> {
         if token.serial != self.slots.len() as u64 {
             return Err(Odd::Other);
@@ -242,10 +256,12 @@ impl<P: Run + Naming> Replay<P> {
         self.hold(token)
     }
 
-    /// Takes a token that is out into its slot. The pass of a token that was there, and is gone, has to be left.
+    /// Takes a token that is out, new or not, into its slot. If another token is there, that one went with a killed group, and its pass has to be
+    /// left.
     pub(crate) fn hold(&mut self, token: Token<P>) -> Result<(), Odd> {
         let slot = token.slot;
         self.reach(slot)?;
+        // Not refused: `reach` has made the place.
         let Some(place) = self.out.get_mut(slot) else {
             return Err(Odd::Memory);
         };
@@ -261,7 +277,7 @@ impl<P: Run + Naming> Replay<P> {
         }
     }
 
-    // Makes places up to this slot.
+    // Makes places up to this slot, as far as they aren't there.
     fn reach(&mut self, slot: usize) -> Result<(), Odd> {
         for _ in 0..u64::MAX {
             if slot < self.out.len() {
@@ -278,7 +294,8 @@ impl<P: Run + Naming> Replay<P> {
         Ok(())
     }
 
-    /// The book keeps the tokens that are out and wait, as it has to before time goes on.
+    /// Hands the tokens that are out and wait to the book, as has to be done before time goes on. It looks only at slots into which a token has come
+    /// since the last time: any other token that is out was seen not to wait, and begins to wait only as a new token.
     pub(crate) fn keep_waiting(&mut self, setup: &Setup<'_, P>) -> Result<(), Odd> {
         for _ in 0..u64::MAX {
             let Some(slot) = self.listed.pop() else { break };
@@ -290,8 +307,10 @@ impl<P: Run + Naming> Replay<P> {
         Ok(())
     }
 
-    // Looks at the token that is out in a slot. If it is gone its pass has to be left, and if it waits the book gets it.
+    // Looks at the token that is out in a slot, if one is. If it went with a killed group its pass has to be left, if it waits the book gets it, and
+    // else it stays.
     fn look_at(&mut self, setup: &Setup<'_, P>, slot: usize) -> Result<(), Odd> {
+        // Not reached: callers name slots that have a place.
         let Some(place) = self.out.get_mut(slot) else {
             return Ok(());
         };
@@ -311,7 +330,7 @@ impl<P: Run + Naming> Replay<P> {
         }
     }
 
-    // Adds a pass to those that have to be left.
+    // Adds a pass to those that `settle` leaves.
     fn drop_pass(&mut self, pass: Pass<P>) -> Result<(), Odd> {
         match self.leave.push(pass) {
             Ok(()) => Ok(()),
@@ -319,6 +338,7 @@ impl<P: Run + Naming> Replay<P> {
         }
     }
 
+    // The entries `end` and `void`: the token is gone, and its pass has to be left.
     fn end(&mut self, setup: &Setup<'_, P>, token: Token<P>) -> Result<(), Odd> {
         match self.book.end(setup.inputs, token) {
             Ok(pass) => self.drop_pass(pass),
@@ -326,6 +346,7 @@ impl<P: Run + Naming> Replay<P> {
         }
     }
 
+    // The entries `seq` and `def`: a token with the next mark comes in this one's place, and has its pass.
     fn go_on(&mut self, setup: &Setup<'_, P>, token: Token<P>) -> Result<(), Odd> {
         match self.book.go_on(setup.inputs, token) {
             Ok(token) => self.stand(token),
@@ -333,6 +354,7 @@ impl<P: Run + Naming> Replay<P> {
         }
     }
 
+    // The entry `fork`: the second token gets another pass to the group. The left token has the lower mark, so it stands first.
     fn fork(&mut self, setup: &Setup<'_, P>, token: Token<P>) -> Result<(), Odd> {
         let Some(same) = self.passes.same(setup.groups, &token.pass) else {
             return Err(Odd::Memory);
@@ -346,6 +368,7 @@ impl<P: Run + Naming> Replay<P> {
         }
     }
 
+    // The entry `open`: an idle pass opens the word of the right side's group, and the book holds a pass to the token's group for that one.
     fn prune(&mut self, setup: &Setup<'_, P>, token: Token<P>, cell: u64) -> Result<(), Odd> {
         let around = token.pass.group();
         let Some(same) = self.passes.same(setup.groups, &token.pass) else {
@@ -382,7 +405,8 @@ impl<P: Run + Naming> Replay<P> {
         }
     }
 
-    // Notes that a side was entered: its group has the word `word`, and is inside the group with the word `around`.
+    // Notes that a side was entered: its group has the word `word`, and is inside the group with the word `around`. None is a pass that names no
+    // group, which no token of the book has.
     fn enter_side(
         &mut self,
         word: Option<u32>,
@@ -398,7 +422,8 @@ impl<P: Run + Naming> Replay<P> {
         }
     }
 
-    // Notes that a publication has left the left sides between one group and an enclosing one.
+    // Notes that a publication has left the left sides from the group `from` outwards, up to the group `to`, which it doesn't leave. Other if a right
+    // side is among them: a publication binds its cell and doesn't leave it.
     fn leave_sides(&mut self, from: Option<u32>, to: Option<u32>) -> Result<(), Odd> {
         match (from, to) {
             (Some(from), Some(to)) if self.sides.leave(from, to) => Ok(()),
@@ -406,6 +431,8 @@ impl<P: Run + Naming> Replay<P> {
         }
     }
 
+    // The entry `send`, a publication into a `>x>`. The move needs an idle pass if the publication leaves the token's group. One is lent in any case;
+    // if it isn't used it stays in `births` for the next.
     fn send(&mut self, setup: &Setup<'_, P>, token: Token<P>) -> Result<(), Odd> {
         let inside = token.pass.group();
         if self.births.idle.is_empty()
@@ -439,6 +466,7 @@ impl<P: Run + Naming> Replay<P> {
         self.stand(token)
     }
 
+    // The entry `publish`: the value leaves all left sides around the token.
     fn publish(&mut self, setup: &Setup<'_, P>, token: Token<P>) -> Result<(), Odd> {
         // The program's own group has the word 0.
         self.leave_sides(token.pass.group(), Some(0))?;
@@ -448,6 +476,7 @@ impl<P: Run + Naming> Replay<P> {
         }
     }
 
+    // The entry `call`: the book has to give the call the number `wanted`, by which later entries name it.
     fn call(&mut self, setup: &Setup<'_, P>, token: Token<P>, wanted: u64) -> Result<(), Odd> {
         match self.book.call(setup.inputs, token, &mut self.args) {
             Ok(number) if number == wanted => Ok(()),
@@ -456,6 +485,7 @@ impl<P: Run + Naming> Replay<P> {
         }
     }
 
+    // Answers the pending call with this number: with a value, on which a token stands then, or with a halt, after which its pass has to be left.
     fn answer(&mut self, number: u64, answer: Answer) -> Result<(), Odd> {
         match self.book.returned(number, answer) {
             Ok(Answered::Token(token)) => self.stand(token),
@@ -464,7 +494,8 @@ impl<P: Run + Naming> Replay<P> {
         }
     }
 
-    // Binds a cell: all that was in its right side is dropped, and the tokens that wait for the cell come out.
+    // The entry `bind`: the token's value goes to the cell, all that was in the cell's right side is dropped, and the tokens that wait for the cell
+    // come out. Other if the token isn't in this cell's right side.
     fn bind(&mut self, setup: &Setup<'_, P>, token: Token<P>, cell: u64) -> Result<(), Odd> {
         let Some(inside) = token.pass.group() else {
             return Err(Odd::Other);
@@ -489,7 +520,8 @@ impl<P: Run + Naming> Replay<P> {
         self.sweep(setup)
     }
 
-    /// Has the book bind, and does nothing else for it. Adds the passes that are to be left to a list.
+    /// Has the book bind, and does nothing else for it: `leave` gets the passes that are to be left, `cancelled` has the calls that went, and no
+    /// token comes out that waits for the cell. The error is the book's.
     pub(crate) fn bind_only(
         &mut self,
         setup: &Setup<'_, P>,
@@ -501,7 +533,8 @@ impl<P: Run + Naming> Replay<P> {
             .bind(setup.groups, setup.inputs, token, leave, cancelled)
     }
 
-    // How many words killed groups may use before the replay sweeps: as many as a 16th of the slots, but from `FEW_DYING` to `MOST_DYING`.
+    // How many words killed groups may use before a bind sweeps: as many as a 16th of the slots, so that a sweep looks at 16 slots
+    // for each of them; but from `FEW_DYING` to `MOST_DYING`.
     fn most_dying(&self) -> usize {
         let most = self.out.len() / 16;
         if most < FEW_DYING {
@@ -513,7 +546,7 @@ impl<P: Run + Naming> Replay<P> {
         }
     }
 
-    // Compares a `cancel` entry with the next of the calls that the last bind has cancelled.
+    // Compares a `cancel` entry with the next of the calls that the last bind has cancelled. Other if it is another one, or no more follow.
     fn cancel(&mut self, number: u64) -> Result<(), Odd> {
         // Not reached: no more cancels are owed than there are.
         let Some(at) = self.cancelled.len().checked_sub(self.owed) else {
@@ -527,7 +560,7 @@ impl<P: Run + Naming> Replay<P> {
         Ok(())
     }
 
-    /// The tokens that wait for a cell go on.
+    /// Takes the tokens that the book has kept for this cell, which was bound or lost. They have their old marks and slots.
     pub(crate) fn wake(&mut self, cell: u64) -> Result<(), Odd> {
         if self.book.wake(cell, &mut self.step.born).is_err() {
             return Err(Odd::Memory);
@@ -541,7 +574,8 @@ impl<P: Run + Naming> Replay<P> {
         Ok(())
     }
 
-    // Leaves the passes of tokens that went with a killed group.
+    // Leaves the passes of tokens that went with a killed group, wherever they are. It costs a look at each slot, so it is put off: `bind` does it
+    // when words get few, and other calls when without it nothing comes as the entry says.
     fn sweep(&mut self, setup: &Setup<'_, P>) -> Result<(), Odd> {
         for slot in 0..self.out.len() {
             self.look_at(setup, slot)?;
@@ -549,7 +583,8 @@ impl<P: Run + Naming> Replay<P> {
         self.settle(setup)
     }
 
-    // Leaves the passes that are to be left, and closes groups that end without an entry once their last pass was left.
+    // Leaves the passes that are to be left, and closes groups that end without an entry once their last pass was left. To close a group may give the
+    // pass to the group outside it, so this is repeated until no such group is there.
     fn settle(&mut self, setup: &Setup<'_, P>) -> Result<(), Odd> {
         for _ in 0..u64::MAX {
             if self
@@ -563,7 +598,9 @@ impl<P: Run + Naming> Replay<P> {
                 break;
             };
             match self.book.halt(last, &mut self.leave) {
+                // It is closed; its pass to the group outside it is in `leave`, for the next turn.
                 Ok(Ended::Group) => {}
+                // It ends with an entry, which none in the journal stands for.
                 Ok(_) => return Err(Odd::Other),
                 Err(refused) => return Err(Odd::from(refused.why)),
             }
@@ -571,7 +608,7 @@ impl<P: Run + Naming> Replay<P> {
         Ok(())
     }
 
-    // A group whose last pass was left and which ends without an entry.
+    // Takes a group out of those whose last pass was left, one that ends without an entry. None if there is none.
     fn silent_last(&mut self) -> Option<Last<P>> {
         let sides = &self.sides;
         let place = self
@@ -582,7 +619,7 @@ impl<P: Run + Naming> Replay<P> {
         Some(self.passes.lasts.swap_remove(place))
     }
 
-    // The group of this side, if its last pass was left.
+    // Takes the group of this side out of those whose last pass was left. None if it still has a pass, or isn't open.
     fn last_of(&mut self, side: Side) -> Option<Last<P>> {
         let sides = &self.sides;
         let place = self
@@ -593,7 +630,8 @@ impl<P: Run + Naming> Replay<P> {
         Some(self.passes.lasts.swap_remove(place))
     }
 
-    // Halts a side: a cell is lost, or the right side of an otherwise starts.
+    // Halts a side: a cell is lost, or the right side of an otherwise starts. If the group still has passes, they may be those of tokens that went
+    // with a killed group, so it tries once more after a sweep. Live if one is left even then.
     fn halt(&mut self, setup: &Setup<'_, P>, side: Side) -> Result<(), Odd> {
         if let Some(last) = self.last_of(side) {
             return self.close(last);
@@ -605,7 +643,8 @@ impl<P: Run + Naming> Replay<P> {
         }
     }
 
-    // Closes the group of a side that an entry ends: whoever waits for its cell goes on, or the right side of its otherwise starts.
+    // Closes the group of a side that an entry ends: tokens that wait for its cell come out, or a token starts the right side of its otherwise. Other
+    // if the group ends without an entry.
     fn close(&mut self, last: Last<P>) -> Result<(), Odd> {
         match self.book.halt(last, &mut self.leave) {
             Ok(Ended::Lost(cell)) => self.wake(cell),
@@ -615,8 +654,9 @@ impl<P: Run + Naming> Replay<P> {
         }
     }
 
-    // Lets time go on to this time. If the book says that something else comes next, that may be a group which ends without an entry once the passes
-    // of gone tokens are left. So it tries once more after a sweep.
+    // Lets time go on to this time, once the book keeps all tokens that wait. If it says that something else comes next, that may be a group which
+    // ends without an entry once the passes of gone tokens are left. So it tries once more after a sweep. Time if the next tick is to another time,
+    // or none comes.
     fn tick(&mut self, setup: &Setup<'_, P>, time: u64) -> Result<(), Odd> {
         self.keep_waiting(setup)?;
         if self.ticks(setup, time)? {
@@ -629,7 +669,8 @@ impl<P: Run + Naming> Replay<P> {
         Err(Odd::Time)
     }
 
-    // Whether what comes next is a tick, which is to this time then.
+    // Whether a tick comes next; the book has made it then. Time if that is to another time than `time`. False if something else comes: nothing has
+    // changed then.
     fn ticks(&mut self, setup: &Setup<'_, P>, time: u64) -> Result<bool, Odd> {
         match self.book.next(setup.inputs) {
             Ok(Next::Ticked) if self.book.now() == time => Ok(true),
@@ -639,8 +680,8 @@ impl<P: Run + Naming> Replay<P> {
         }
     }
 
-    /// Leaves all passes that can be left. If the last one to the program's own group is among them it closes that group, and says so: the run has
-    /// halted.
+    /// Leaves all passes that can be left. If the last one to the program's own group is among them it closes that group and gives true: the run has
+    /// halted. Else false: a token is out or kept, a call pends, or a group is open.
     pub(crate) fn close_run(&mut self, setup: &Setup<'_, P>) -> Result<bool, Odd> {
         self.sweep(setup)?;
         if self.passes.leave_warm(setup.groups).is_err() {
@@ -656,7 +697,7 @@ impl<P: Run + Naming> Replay<P> {
         }
     }
 
-    /// Whether the book keeps the token with this mark, which waits.
+    /// Whether the book keeps the token with this mark: it is there, waits, and the replay doesn't have it. False of a mark that no token has, too.
     pub(crate) fn keeps(&self, setup: &Setup<'_, P>, mark: u64) -> bool {
         let Some(slot) = self.slots.get(mark as usize) else {
             return false;
@@ -667,7 +708,7 @@ impl<P: Run + Naming> Replay<P> {
         }
     }
 
-    /// Whether the token with this mark is out.
+    /// Whether the replay has the token with this mark. False of a mark that no token has, too.
     pub(crate) fn is_out(&self, mark: u64) -> bool {
         let Some(slot) = self.slots.get(mark as usize) else {
             return false;

@@ -1,4 +1,5 @@
-//! Rows: what a row does with a book, and what the book has to answer.
+//! Rows: what a row does with a book, and what the book has to answer. None as the result of a function means that something isn't as it has to be;
+//! memory that is refused counts as that, too.
 
 ghost use Rattle.std.specs.Prelude.{◌≡◌, ◌≤◌, true};
 ghost use Rattle.orc_rules.specs.declared.limits.TheConstants.{MOST_ENTRIES};
@@ -35,17 +36,18 @@ pub(crate) enum Step {
     Keeps(u64),
     /// The token with this mark is out.
     IsOut(u64),
-    /// `Book::next` gives this.
+    /// `Book::next` gives this. If that is `Ticked`, the book has made the tick.
     Next(Next),
     /// The logical time is this.
     Now(u64),
-    /// The least number of a call that is due now is this, or none is due.
+    /// The least number of a call that is due now is this; None if none is due.
     Due(Option<u64>),
-    /// The book refuses this answer of the call with this number, for this reason.
+    /// The call with this number, the answer that the book refuses for it, and the reason.
     Refuses(u64, Answer, BookFault),
     /// The journal has this many entries, cancels not counted.
     Entries(usize),
-    /// The replay has left all passes to the program's own group and the book closes it, or not yet.
+    /// Whether the run has halted: once the replay has left all passes that it can, the book closes the program's own group. If it has, this is the
+    /// last step, since that closes the run.
     HasEnded(bool),
 }
 
@@ -64,13 +66,14 @@ pub(crate) enum Shows {
     RefusesOtherMoves,
     RefusesWordsThatAreNamed,
     /// If the token that has waited longest always moves next: the number of entries before a move is refused, the reason, and how many of the lent
-    /// passes remain then.
+    /// passes to the program's group (one, for a fork) remain then.
     MakesMoves(usize, BookFault, usize),
     /// The number of entries that a single token makes before a limit of the engine is reached.
     IsFullAfter(usize),
 }
 
-/// A program, the limit of its journal, the words and the passes of its book, and what that shows.
+/// A row: its name says what it shows, in the words that the program writes. `limit` is the most entries of the journal, cancels left out; `words`
+/// and `passes` are how many of them the book has.
 #[derive(Clone, Copy)]
 pub(crate) struct Row {
     pub name: &'static str,
@@ -87,14 +90,16 @@ pub(crate) fn so(holds: bool) -> Option<()> {
     if holds { Some(()) } else { None }
 }
 
-/// The book does these entries, a line each, and keeps the tokens that wait then.
+/// The book does these entries, a line each, and keeps the tokens that wait then. None if a line is no entry or the book doesn't do as it says.
 pub(crate) fn enter_all<P: Run + Naming>(
     setup: &Setup<'_, P>,
     replay: &mut Replay<P>,
     lines: &str,
 ) -> Option<()> {
+    // Lent to `read_entry`, which overwrites it.
     let mut entry = Entry::Tick(0);
     let mut rest = lines.as_bytes();
+    // A line has a byte at least, so there are no more lines than bytes.
     for _line in 0..lines.len() {
         if rest.is_empty() {
             break;
@@ -106,7 +111,7 @@ pub(crate) fn enter_all<P: Run + Naming>(
     so(rest.is_empty())
 }
 
-/// The book has written these entries, a line each, and no other.
+/// The journal of the whole run has these entries, a line each, and no other.
 pub(crate) fn has_written<P: Run + Naming>(
     alloc: Global,
     setup: &Setup<'_, P>,
@@ -123,7 +128,7 @@ pub(crate) fn has_written<P: Run + Naming>(
     so(is_whole && text.as_slice() == wanted.as_slice())
 }
 
-// Whether the answer of a book is this one.
+// Whether two answers of `Book::next` are the same one.
 fn is_next(one: Next, other: Next) -> bool {
     match (one, other) {
         (Next::Work, Next::Work) => true,
@@ -133,6 +138,7 @@ fn is_next(one: Next, other: Next) -> bool {
     }
 }
 
+// Does a step or asks the book. Some if the book does, says or refuses what the step wants.
 fn is_so<P: Run + Naming>(setup: &Setup<'_, P>, replay: &mut Replay<P>, step: &Step) -> Option<()> {
     match *step {
         Step::Does(lines) => enter_all(setup, replay, lines),
@@ -140,6 +146,7 @@ fn is_so<P: Run + Naming>(setup: &Setup<'_, P>, replay: &mut Replay<P>, step: &S
         Step::IsOut(mark) => so(replay.is_out(mark)),
         Step::Next(next) => so(is_next(replay.book.next(setup.inputs).ok()?, next)),
         Step::Now(time) => so(replay.book.now() == time),
+        // The least number over 0: calls are numbered from 1.
         Step::Due(wanted) => so(replay.book.due_beyond(0) == wanted),
         Step::Refuses(call, answer, fault) => match replay.book.returned(call, answer) {
             Ok(_) => None,
@@ -150,6 +157,7 @@ fn is_so<P: Run + Naming>(setup: &Setup<'_, P>, replay: &mut Replay<P>, step: &S
     }
 }
 
+// All steps hold, one after another, and the journal has the lines of the steps `Does`, and no others.
 fn are_so<P: Run + Naming>(
     alloc: Global,
     setup: &Setup<'_, P>,
@@ -168,6 +176,7 @@ fn are_so<P: Run + Naming>(
     has_written(alloc, setup, replay, lines.as_str())
 }
 
+// What the row shows holds of this run, which has just begun.
 fn show_with<P: Run + Naming>(
     alloc: Global,
     setup: &Setup<'_, P>,
@@ -195,6 +204,8 @@ fn show_with<P: Run + Naming>(
     }
 }
 
+// `show` for a graph that is built. In contracts `P` stands for the run and its table of words; the caller picks it. `limit` and `count` are those of
+// the row (`count` its number of words), in variables of which the contract speaks.
 fn show_named<P: Run + Naming>(
     alloc: Global,
     words: Unnamed,
@@ -223,14 +234,15 @@ fn show_named<P: Run + Naming>(
     show_with(alloc, &setup, replay, row.shows)
 }
 
-/// Whether a book does what a row shows.
+/// Some if a book does what a row shows. None if it doesn't, if the row's texts are no program and script, or if memory is refused.
 pub(crate) fn show(alloc: Global, row: &Row) -> Option<()> {
     let loaded = load(alloc, row.source.as_bytes(), row.script.as_bytes()).ok()?;
     let graph = Graph::build(alloc, &loaded.program).ok()?;
     let limit = row.limit;
     let count = row.words;
     let passes = row.passes;
-    // The ranges that `Unnamed::new` and the ledger require; each row is within them.
+    // The ranges that `Unnamed::new` and the ledger require (passes: fewer than 2^31), and the two words of which some rows speak; each row is within
+    // them.
     if limit < 1 || limit > MOST_ENTRIES as usize || count < 2 || count > 65_536 {
         return None;
     }

@@ -1,4 +1,7 @@
-//! What each group is, by the number of its word: the whole program, the right side of a cell, or the left side of an otherwise.
+//! What each group is, by the number of its word: the whole program, the right side of a cell, or the left side of an otherwise. The replay notes
+//! this beside the book, to know which entry ends a group, or that none does.
+//!
+//! Words are numbers below the number of words. For any other one the program's own group is answered, and nothing is noted.
 
 use orc_rules::limits::MOST_GROUPS;
 use std::alloc::{AllocError, Global};
@@ -6,23 +9,27 @@ use std::alloc::{AllocError, Global};
 /// What a group is.
 #[derive(Clone, Copy, PartialEq, Eq)]
 pub(crate) enum Side {
-    /// The program's own.
+    /// The program's own group.
     Whole,
-    /// The right side of this cell.
+    /// The right side of the pruning that opened this cell.
     Right(u64),
-    /// The left side of the otherwise with this mark.
+    /// The left side of an otherwise, which the mark of the token that entered it names.
     Left(u64),
 }
 
-/// A group, the word of the group outside it, whether it has published, and whether a bind has dropped it.
+/// A group.
 #[derive(Clone, Copy)]
 struct Group {
     side: Side,
+    // The word of the group outside it. That one keeps its word until this one is closed.
     parent: u32,
+    // Whether a publication has left it, so that it ends without an entry.
     is_left: bool,
+    // Whether a bind has dropped it by itself; the groups inside it aren't marked.
     is_killed: bool,
 }
 
+// The program's own group. Nothing is outside it, so its `parent` isn't looked at.
 const WHOLE: Group = Group {
     side: Side::Whole,
     parent: 0,
@@ -37,6 +44,7 @@ pub(crate) struct Sides {
 }
 
 impl Sides {
+    /// `words` is how many words there are, 1 at least. A word that no side was entered with has the program's group in its place.
     pub(crate) fn new(alloc: Global, words: u32) -> Result<Sides, AllocError> {
         let mut groups = Vec::new(alloc);
         for _word in 0..words {
@@ -45,6 +53,7 @@ impl Sides {
         Ok(Sides { groups })
     }
 
+    // The group that has this word, or had it last.
     fn group(&self, word: u32) -> Group {
         match self.groups.get(word as usize) {
             Some(group) => *group,
@@ -52,6 +61,7 @@ impl Sides {
         }
     }
 
+    /// What the group with this word is.
     pub(crate) fn side(&self, word: u32) -> Side {
         self.group(word).side
     }
@@ -68,8 +78,9 @@ impl Sides {
         }
     }
 
-    /// Notes that a publication has left the left sides between the group `from` and the enclosing group `to`. Says whether no right side is between
-    /// them. Groups are nested at most `MOST_GROUPS` deep, so the loop reaches `to`.
+    /// Notes that a publication has left the left sides from the group `from` outwards, up to the group `to`, which it doesn't leave. False if one of
+    /// them is a right side, whose cell would have taken the publication. Open groups are nested at most `MOST_GROUPS` deep, so the loop reaches
+    /// `to`.
     pub(crate) fn leave(&mut self, from: u32, to: u32) -> bool {
         let mut word = from;
         for _outwards in 0..MOST_GROUPS {
@@ -88,7 +99,8 @@ impl Sides {
         false
     }
 
-    /// The word of a cell's right side, where that is this group or encloses it.
+    /// The word of the right side of `cell`, if that is the group `from` or only left sides are between them. None otherwise: a publication from
+    /// there goes to another cell, or to none.
     pub(crate) fn right_side(&self, from: u32, cell: u64) -> Option<u32> {
         let mut word = from;
         for _outwards in 0..MOST_GROUPS {
@@ -102,13 +114,15 @@ impl Sides {
         None
     }
 
+    /// Notes that a bind has dropped the group with this word, and with it all groups inside it.
     pub(crate) fn kill(&mut self, word: u32) {
         if let Some(group) = self.groups.get_mut(word as usize) {
             group.is_killed = true;
         }
     }
 
-    /// Whether a group ends without an entry: it has published, or it or an enclosing one was killed.
+    /// Whether a group ends without an entry: it has published, or it or an enclosing one was killed. Each enclosing group has a word of its own, so
+    /// the loop reaches the program's group, with word 0, after `2 * MOST_GROUPS` groups at most: no run has more words (`WORDS`).
     pub(crate) fn goes_silently(&self, word: u32) -> bool {
         if self.group(word).is_left {
             return true;

@@ -1,4 +1,4 @@
-//! Tokens that move by `step`, in the order in which they came.
+//! Tokens that move by `step`, in the order in which they came. None as the result of a row means that something isn't as it has to be.
 
 ghost use Rattle.std.specs.Prelude.{◌≡◌, true};
 
@@ -11,7 +11,7 @@ use orc_log::Run;
 use orc_word::Naming;
 use std::alloc::Global;
 
-// What the first moves write: none of them, one, two, three and four.
+// What the first moves of `(1 | 2) >x> Add(x, 10)` write: none of them, one, two, three and four.
 const MOVES: [&str; 5] = [
     "",
     "seq 1 2\n",
@@ -20,7 +20,8 @@ const MOVES: [&str; 5] = [
     "seq 1 2\nfork 2 3 4\nsend 3 5 1\nsend 4 6 2\n",
 ];
 
-// Has the token that has waited longest move by `step`, until the book refuses a move. Gives the reason.
+// Has the token that has waited longest move by `step`, until the book refuses a move. Gives the reason. None if no token is left, or a hundred moves
+// were accepted: the rows have four.
 fn move_in_line<P: Run + Naming>(
     setup: &Setup<'_, P>,
     replay: &mut Replay<P>,
@@ -42,7 +43,8 @@ fn move_in_line<P: Run + Naming>(
     None
 }
 
-// The first token needs no pass to enter a `>x>`, and is gone after that. Gives the token that came in its place.
+// The first token needs no pass to enter a `>x>`, and is gone after that: with another pass to its group the book refuses it as Gone. The token that
+// came in its place is in `out`.
 fn moves_once<P: Run + Naming>(
     setup: &Setup<'_, P>,
     replay: &mut Replay<P>,
@@ -75,7 +77,7 @@ fn moves_once<P: Run + Naming>(
     }
 }
 
-// The second token needs one pass to its own group.
+// The token in `out`, at the fork, needs one pass to its own group.
 fn needs_one<P: Run + Naming>(
     setup: &Setup<'_, P>,
     replay: &Replay<P>,
@@ -86,8 +88,9 @@ fn needs_one<P: Run + Naming>(
     so(matches!(view.what, Action::Fork) && view.needs.same == 1 && view.needs.idle == 0)
 }
 
-/// The tokens of `(1 | 2) >x> Add(x, 10)` move in the order in which they came. One pass is lent for the fork, and an idle one, which no publication
-/// needs here. The book accepts `entries` moves and refuses the next for the reason `why`; `left` of the lent passes remain then.
+/// The tokens of `(1 | 2) >x> Add(x, 10)` move in the order in which they came. One pass to the program's group is lent for the fork, and an idle one
+/// for the publications, which don't use it, as they leave no group. The book accepts `entries` moves, an entry each, and refuses the next for the
+/// reason `why`; `left` passes of the first kind (0 or 1) remain then.
 pub(crate) fn makes_moves<P: Run + Naming>(
     alloc: Global,
     setup: &Setup<'_, P>,
@@ -112,7 +115,7 @@ pub(crate) fn makes_moves<P: Run + Naming>(
     has_written(alloc, setup, replay, MOVES.get(entries)?)
 }
 
-/// A single token moves by `step` until the book is full, which has `entries` entries then.
+/// A single token moves by `step` until the book is full: `entries` moves are accepted, and the next one is refused as Full and adds nothing.
 pub(crate) fn goes_on_until_full<P: Run + Naming>(
     alloc: Global,
     setup: &Setup<'_, P>,
@@ -133,7 +136,7 @@ pub(crate) fn goes_on_until_full<P: Run + Naming>(
     }
 }
 
-// The token that came last moves, with an idle pass where it needs one.
+// The token that came last moves, with an idle pass that it may need. The error is the book's, or Gone if no token is there.
 fn move_one<P: Run + Naming>(
     setup: &Setup<'_, P>,
     replay: &mut Replay<P>,

@@ -1,4 +1,7 @@
 //! The rows: what each shows, in the words that the program writes for it.
+//!
+//! The entries in a row's steps are those that Orc's rules allow of its program. A token gets the next mark, a call and a cell the next number, each
+//! from 1; of two tokens that come at once the left one has the lower mark.
 
 use crate::begin::{PASSES, WORDS};
 use crate::rows::{Row, Shows, Step};
@@ -57,6 +60,8 @@ fn with_words(
     }
 }
 
+// `g(x) <x< 10` has cell 1, and `Add(a, x) <x< 1` in its body cell 2. Token 5 is at `Add(a, x)`: its `a` is cell 1 and its `x` cell 2. Once it is out
+// again it runs on, so the run hasn't ended yet.
 const WAITS_FOR_TWO: [Step; 9] = [
     Step::Does("open 1 1 2 3\ndef 2 4\nopen 4 2 5 6\n"),
     Step::Keeps(5),
@@ -69,6 +74,8 @@ const WAITS_FOR_TWO: [Step; 9] = [
     Step::HasEnded(true),
 ];
 
+// `Rwait(3)` is due at time 3 and answers a signal: before that, with 5, and a second time its answer is refused. `Ift(false)` halts, so the
+// otherwise goes to its right side, 9.
 const IS_DUE: [Step; 13] = [
     Step::Does("other 1 2\nseq 2 3\ncall 3 1 Rwait(3)\n"),
     Step::Refuses(1, SIGNAL, BookFault::Wrong),
@@ -85,6 +92,7 @@ const IS_DUE: [Step; 13] = [
     Step::HasEnded(true),
 ];
 
+// The left value goes through the `>x>` whole before the right one. The rules allow this order.
 const TWO_VALUES: [Step; 2] = [
     Step::Does(
         "seq 1 2\nfork 2 3 4\nsend 3 5 1\ncall 5 1 Add(1, 10)\nreturn 1 6 11\npublish 6 11\nsend 4 7 2\ncall 7 2 Add(2, 10)\nreturn 2 8 12\npublish 8 12\n",
@@ -92,21 +100,27 @@ const TWO_VALUES: [Step; 2] = [
     Step::HasEnded(true),
 ];
 
+// Token 4 has the value 1, token 5 the value 2: either may bind cell 1, for which token 2 waits. The one that binds decides what is published.
 const BINDS_LEFT: [Step; 2] = [
     Step::Does("open 1 1 2 3\nfork 3 4 5\nbind 4 1 1\npublish 2 1\n"),
     Step::HasEnded(true),
 ];
 
+// The other one binds (`BINDS_LEFT`).
 const BINDS_RIGHT: [Step; 2] = [
     Step::Does("open 1 1 2 3\nfork 3 4 5\nbind 5 1 2\npublish 2 2\n"),
     Step::HasEnded(true),
 ];
 
+// The 1 is published by token 3, in the left side of the otherwise, and so its right side never starts: no entry says that the side ends.
 const LEAVES_LEFT_SIDE: [Step; 2] = [
     Step::Does("seq 1 2\nother 2 3\nsend 3 4 1\ncall 4 1 Add(1, 1)\nreturn 1 5 2\npublish 5 2\n"),
     Step::HasEnded(true),
 ];
 
+// Call 1 is outside the pruning of cell 1. Inside its right side are calls 3 (beside), 4 (in an otherwise) and 2 (in a pruning), made in another
+// order than they stand in the program. The bind cancels these three in the order of their numbers. Without the cancels the journal has 13 entries.
+// Call 1 is never answered, so the run is quiet in the end and hasn't halted.
 const CANCELS: [Step; 6] = [
     Step::Does("fork 1 2 3\ncall 2 1 N()\nopen 3 1 4 5\nfork 5 6 7\nfork 7 8 9\nfork 9 10 11\n"),
     Step::Does("other 8 12\nopen 10 2 13 14\ncall 14 2 N()\ncall 6 3 N()\ncall 12 4 N()\n"),
@@ -116,6 +130,7 @@ const CANCELS: [Step; 6] = [
     Step::Next(Next::Quiet),
 ];
 
+// The journal has 11 entries and one cancel, and its row's limit is 11.
 const CANCELS_AT_THE_LIMIT: [Step; 4] = [
     Step::Does(
         "open 1 1 2 3\nfork 3 4 5\nseq 4 6\nseq 5 7\ncall 6 1 Rwait(2)\ncall 7 2 Rwait(1)\n",
@@ -125,6 +140,7 @@ const CANCELS_AT_THE_LIMIT: [Step; 4] = [
     Step::HasEnded(true),
 ];
 
+// `Add(2, 3)` is due at once, and so is call 1, until the bind of the other token cancels it.
 const IS_CANCELLED: [Step; 6] = [
     Step::Does("open 1 1 2 3\nfork 3 4 5\ncall 5 1 Add(2, 3)\n"),
     Step::Due(Some(1)),
@@ -183,6 +199,7 @@ pub(crate) fn rows() -> [Row; 23] {
             "",
             Shows::Steps(&LEAVES_LEFT_SIDE),
         ),
+        // The first token takes one of the three passes.
         with_words(
             "a supply gives the passes that it has, and those that come back",
             "stop",
@@ -190,6 +207,7 @@ pub(crate) fn rows() -> [Row; 23] {
             3,
             Shows::GivesPassesAgain,
         ),
+        // Word 0 is the program's own, and word 1 the one that is opened. Three passes would do.
         with_words(
             "one of two passes wins that their group is killed, and so again when its word is opened anew",
             "stop",
@@ -209,6 +227,7 @@ pub(crate) fn rows() -> [Row; 23] {
             "",
             Shows::GivesALostMarkBack,
         ),
+        // Word 1 is the only one for the two prunings. The row needs far fewer than 100 passes.
         with_words(
             "a killed group's word is taken until its last pass is left",
             "(x <x< 1) >y> (z <z< 2)",
@@ -234,6 +253,8 @@ pub(crate) fn rows() -> [Row; 23] {
             "",
             Shows::RefusesOtherMoves,
         ),
+        // The moves are `seq`, `fork` (which takes the lent pass) and two `send`; the next token is at a call, which is no move for `step`. So it is
+        // refused as Wrong.
         row(
             "four moves of three tokens take one pass, and a token that has moved is gone",
             PIPE,
@@ -270,12 +291,14 @@ pub(crate) fn rows() -> [Row; 23] {
             11,
             Shows::Steps(&CANCELS_AT_THE_LIMIT),
         ),
+        // Each left side takes two entries, a `def` and a `seq`; one more `def` comes before the `seq` that is refused.
         row(
             "a token in 4,096 left sides of a >x> enters no more",
             "def f() = f() >> 1\nf()",
             "",
             Shows::IsFullAfter(8_193),
         ),
+        // Of 1,024 groups one is the program's own. Each other one takes two entries, a `def` and an `other`, and one more `def` follows.
         row(
             "a token in 1,023 left sides of an otherwise enters no more",
             "def f() = f() ; 1\nf()",

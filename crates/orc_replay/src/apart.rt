@@ -1,4 +1,5 @@
-//! Rows on sub-runs: a ledger of its own runs a call of a definition, and the ledger of the enclosing run merges what that wrote.
+//! Rows on sub-runs: a ledger of its own runs a call of a definition, and the ledger of the enclosing run merges what that wrote. In contracts `P`
+//! stands for the enclosing run and `Q` for the sub-run; `limit` is the most entries of a journal, 1 at least.
 
 ghost use Rattle.std.specs.Prelude.{◌≡◌, ◌≤◌, true, false};
 ghost use Rattle.orc_rules.specs.declared.limits.TheConstants.{MOST_ENTRIES};
@@ -19,7 +20,8 @@ const SLOTS: usize = 4;
 
 // Runs a task (a call of a definition) by a ledger of its own, in which each token moves in turn. None if a move is refused, or the run isn't over
 // after `limit` rounds. If the call isn't outermost, the enclosing run doesn't publish what it yields: then a token that would publish stays where it
-// is, and its value is the result. `keeps` says whether the ledger keeps the journal or only counts its entries.
+// is, and its value is the result. `keeps` says whether the ledger keeps the journal or only counts its entries. A token has made its moves after as
+// many rounds as there may be entries, since it moves or waits in each.
 fn run_apart<Q: Run, P: Run>(
     alloc: Global,
     graph: &Graph,
@@ -40,6 +42,7 @@ fn run_apart<Q: Run, P: Run>(
 {
     let inputs = Inputs::new(graph, answers);
     let mut ledger = Ledger::<Q>::begin(alloc, keeps, limit, graph.root()).ok()?;
+    // The slot of the last token that would publish and was left where it is.
     let mut last = None;
     for _round in 0..limit {
         for slot in 0..SLOTS {
@@ -80,7 +83,8 @@ fn move_on<Q: Run>(
     }
 }
 
-// The sub-run of a task, if it is over within a hundred entries. `Brand` is a fresh name for the ledger's type.
+// The sub-run of a task, if it is over within a hundred entries, which only the endless `f() = f()` reaches. `Brand` is a fresh name for the sub-run,
+// which contracts call `Q` in `run_apart`.
 fn part_of<P: Run>(
     alloc: Global,
     inputs: &Inputs<'_, P>,
@@ -97,7 +101,7 @@ fn part_of<P: Run>(
 }
 
 // The slot of the first token that stands at a call of a definition whose arguments have values. All tokens move until there is one, ten times at
-// most.
+// most: in these programs it takes one round. None if there is none by then, or a move is refused.
 fn at_call<P: Run>(alloc: Global, ledger: &mut Ledger<P>, inputs: &Inputs<'_, P>) -> Option<usize> {
     for _round in 0..10_usize {
         for slot in 0..SLOTS {
@@ -141,7 +145,7 @@ fn taken<P: Run>(
     }
 }
 
-// The text of the journal after the merge.
+// The text of the journal after the merge, or why the merge was refused. None where something before it fails.
 fn text_named<P: Run>(
     alloc: Global,
     graph: &Graph,
@@ -173,7 +177,7 @@ struct Known {
     entries: usize,
 }
 
-// What is known after the merge of a run that doesn't keep its journal.
+// What is known after the merge of a run that doesn't keep its journal. None also if the merge is refused.
 fn known_named<P: Run>(
     alloc: Global,
     graph: &Graph,
@@ -195,6 +199,7 @@ fn known_named<P: Run>(
     Some(Known { values, entries })
 }
 
+// `text_named` for a source, without a script. `begin` requires a limit of 1 at least; the rows' limits are 100 at most.
 fn text_of(alloc: Global, source: &[u8], limit: usize) -> Option<Result<Vec<u8>, LedgerFault>> {
     let loaded = load(alloc, source, b"").ok()?;
     let graph = Graph::build(alloc, &loaded.program).ok()?;
@@ -204,6 +209,7 @@ fn text_of(alloc: Global, source: &[u8], limit: usize) -> Option<Result<Vec<u8>,
     text_named::<Brand>(alloc, &graph, &loaded.answers, limit)
 }
 
+// `known_named` for a source, without a script. The limit is in the same range.
 fn known_of(alloc: Global, source: &[u8], limit: usize) -> Option<Known> {
     let loaded = load(alloc, source, b"").ok()?;
     let graph = Graph::build(alloc, &loaded.program).ok()?;
@@ -213,7 +219,7 @@ fn known_of(alloc: Global, source: &[u8], limit: usize) -> Option<Known> {
     known_named::<Brand>(alloc, &graph, &loaded.answers, limit)
 }
 
-// Whether the journal after the merge is this one.
+// Whether the merge isn't refused, and the journal after it is this one.
 fn has_text(alloc: Global, source: &[u8], limit: usize, journal: &[u8]) -> bool {
     match text_of(alloc, source, limit) {
         Some(Ok(text)) => text.as_slice() == journal,
@@ -221,6 +227,7 @@ fn has_text(alloc: Global, source: &[u8], limit: usize, journal: &[u8]) -> bool 
     }
 }
 
+// The call of `f` is the whole run, four entries.
 const SOURCE: &[u8] = b"def f(n) = Add(n, 1)\nf(4)";
 
 // The rules allow these entries in this order alone.
@@ -234,7 +241,7 @@ pub(crate) fn stands_in_its_place(alloc: Global) -> bool {
         && text_of(alloc, b"def f() = f()\nf()", 100).is_none()
 }
 
-// Programs, and the entries that the rules allow, one journal each.
+// Programs, and the one journal up to the merge that the rules allow each.
 const PLACES: [(&[u8], &[u8]); 5] = [
     // A call whose sub-run opens a cell.
     (

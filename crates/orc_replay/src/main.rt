@@ -16,8 +16,8 @@ use orc_rules::entry::State;
 use std::alloc::Global;
 use std::{env, fs, io};
 
-/// Replays a journal's text. Gives how many entries it has, and the state (Halted, Quiet, Running) in which the ledger is at its end. The error for a
-/// text that can't be read is a `Stop` at 0.
+/// Replays a journal's text. Gives how many entries it has, cancels too, and the state (Halted, Quiet, Running) in which the ledger is at its end.
+/// The error for a text that can't be read is a `Stop` at 0; the others are those of `replay_journal`.
 pub(crate) fn replay_text(
     alloc: Global,
     source: &[u8],
@@ -38,6 +38,7 @@ pub(crate) fn replay_text(
     Ok((journal.len(), state))
 }
 
+// Writes a line on one family of rows.
 fn tell<R: Print>(rt: &R, what: &str, holds: bool) -> io::Result<()> {
     let word = if holds { "holds" } else { "WRONG" };
     println!(rt; "{word}: {what}")
@@ -86,6 +87,7 @@ fn tell_all<R: Print>(rt: &R, alloc: Global) -> io::Result<()> {
 fn main(rt: HostRuntime) -> io::Result<()> {
     let alloc = rt.alloc();
     let words = env::args(&rt)?.collect::<Vec<String>>(alloc)?;
+    // With any other number of words the rows are shown.
     let [_, source, script, journal] = words.as_slice() else {
         return tell_all(&rt, alloc);
     };

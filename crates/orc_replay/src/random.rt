@@ -9,13 +9,14 @@ use orc_outcome::End;
 use orc_rules::entry::State;
 use std::alloc::{AllocError, Global};
 
+// Sites that answer in turn, later, by their argument, with a halt, and never.
 const SCRIPT: &[u8] =
     b"A() = 1 then halt then 2 after 1\nB(_) = 5 after 2\nC(1) = true\nC(_) = halt after 1\nN() = never\n";
 
 /// How many programs are made.
 const PROGRAMS: u64 = 300;
 
-/// The most entries of a run.
+/// The most entries of a run: few enough that some programs are cut (`are_replayed`).
 const ENTRIES: u64 = 60;
 
 /// A linear congruential generator: pseudo-random numbers that are the same each time.
@@ -30,6 +31,7 @@ impl Dice {
         requires { 1 ≤ n }
         ensures { result < n }
     {
+        // The usual constants of a generator of 64 bits (Knuth's MMIX). The low bits repeat soon, so the number is taken from the high ones.
         self.state = self
             .state
             .wrapping_mul(6_364_136_223_846_793_005)
@@ -39,7 +41,7 @@ impl Dice {
 }
 
 // Expressions of a level: `%` stands for an expression of the level below, `$` for the variable of the level, and `^` for an expression of the level
-// below that may use this variable too.
+// below that may use this variable too. `f` is the definition with which each program begins.
 const EXPRESSIONS: [&[u8]; 7] = [
     b"(% | %)",
     b"(% >$> ^)",
@@ -50,7 +52,7 @@ const EXPRESSIONS: [&[u8]; 7] = [
     b"(% | % >> signal)",
 ];
 
-// Expressions without levels: `#` stands for a value, or a variable that is bound.
+// Expressions of level 0: `#` stands for a value, or a variable that is bound. It is there twice, to be taken twice as often.
 const LEAVES: [&[u8]; 11] = [
     b"stop",
     b"Rwait(0)",
@@ -65,18 +67,20 @@ const LEAVES: [&[u8]; 11] = [
     b"#",
 ];
 
-/// A sign that is still to be written, of an expression of `level` levels (4 at most). Bit n of `names` says that the variable of level n is bound
-/// there.
+/// A sign that is still to be written.
 #[derive(Clone, Copy)]
 struct Part {
+    // A byte of the text, or one of `%`, `^`, `$`, `#`, which stand for more.
     sign: u8,
+    // The level of the expression in which it stands, 0 to 4.
     level: u32,
+    // Bit n says that the variable of level n is bound there.
     names: u32,
 }
 
-// Puts an expression before the parts that are still to be written.
+// Puts an expression of this level before the parts that are still to be written. They are a stack, so its last sign is pushed first.
 fn put(dice: &mut Dice, parts: &mut Vec<Part>, level: u32, names: u32) -> Result<(), AllocError> {
-    // The second `%` changes nothing: it shows the prover that the index is in range.
+    // The `% 11` and `% 7`, the lengths of the tables, change nothing: they show the prover that the index is in range.
     let signs = if level == 0 {
         LEAVES[dice.pick(11) as usize % 11]
     } else {
@@ -98,12 +102,12 @@ const VARIABLES: [&[u8]; 9] = [
 
 const VALUES: [&[u8]; 4] = [b"0", b"1", b"2", b"true"];
 
-// The name of the variable of a level.
+// The name of the variable of a level. No level is over 4, and `% 9` shows the prover that the index is in range.
 fn variable(level: u32) -> &'static [u8] {
     VARIABLES[level as usize % 9]
 }
 
-// A value; in half of the cases a variable that is bound, if one is.
+// A value; in half of the cases a variable that is bound, if one is: the first from level `start` on, round from 8 to 1.
 fn value(dice: &mut Dice, names: u32) -> &'static [u8] {
     let start = dice.pick(8) as u32;
     if dice.pick(2) == 0 {
@@ -122,6 +126,7 @@ fn program(alloc: Global, seed: u64) -> Result<Vec<u8>, AllocError> {
     let mut dice = Dice { state: seed };
     let mut text = Vec::from_slice(alloc, b"def f(v1, v2) = (v2 | B(v1) >> v1)\n")?;
     let mut parts = Vec::new(alloc);
+    // Three or four levels, so that each operator may be inside each other one.
     let levels = if dice.pick(2) == 0 { 3 } else { 4 };
     put(&mut dice, &mut parts, levels, 0)?;
     // No program has so many parts.
@@ -132,6 +137,7 @@ fn program(alloc: Global, seed: u64) -> Result<Vec<u8>, AllocError> {
         let below = level.saturating_sub(1);
         match sign {
             b'%' => put(&mut dice, &mut parts, below, names)?,
+            // `% 9` changes nothing: it shows the prover that the shift is below 32.
             b'^' => put(&mut dice, &mut parts, below, names | 1_u32 << (level % 9))?,
             b'$' => text.extend_from_slice(variable(level))?,
             b'#' => text.extend_from_slice(value(&mut dice, names))?,
@@ -141,7 +147,8 @@ fn program(alloc: Global, seed: u64) -> Result<Vec<u8>, AllocError> {
     Ok(text)
 }
 
-// Whether a run that ends so may leave the ledger in this state. If the limit cuts a run, its last moves of marks may be missing.
+// Whether a run that ends so may leave the ledger in this state. After a run that its limit cuts a token can still move, or time can go on. No
+// program here is large enough for the other limits.
 fn fits(end: End, state: State) -> bool {
     match end {
         End::Halted => state == State::Halted,
@@ -165,7 +172,7 @@ fn replayed(alloc: Global, source: &[u8]) -> Option<End> {
     }
 }
 
-// How many runs halt, are quiet, and are cut. None where a program isn't replayed.
+// How many runs halt, are quiet, and are cut by the limit, in this order. None where a program isn't replayed.
 fn ends(alloc: Global) -> Option<[u32; 3]> {
     let mut ends = [0_u32; 3];
     for seed in 1..PROGRAMS + 1 {
@@ -173,13 +180,15 @@ fn ends(alloc: Global) -> Option<[u32; 3]> {
         match replayed(alloc, source.as_slice())? {
             End::Halted => ends[0] = ends[0].saturating_add(1),
             End::Quiet => ends[1] = ends[1].saturating_add(1),
+            // `fits` accepts no other end than Limit.
             _ => ends[2] = ends[2].saturating_add(1),
         }
     }
     Some(ends)
 }
 
-/// Whether all programs are replayed, and enough runs of each kind are among them. The seeds are fixed, so the counts are the same each time.
+/// Whether all programs are replayed, and some runs of each kind are among them: over 20 that halt, over 20 that are quiet, and over 5 that are cut.
+/// The seeds are fixed, so the counts are the same each time.
 pub(crate) fn are_replayed(alloc: Global) -> bool {
     let Some(counts) = ends(alloc) else {
         return false;

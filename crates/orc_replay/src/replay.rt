@@ -1,4 +1,7 @@
 //! Journals replayed by calls of the ledger, entry by entry.
+//!
+//! Of an entry the replay looks at the token, call, cell or otherwise that it names, at the value and cell that a token's move takes, and at a tick's
+//! time. Once the replay is over the whole journals are compared.
 
 ghost use Rattle.std.specs.Prelude.{◌≡◌, ◌<◌, true, IfSome, vec_len};
 
@@ -22,7 +25,7 @@ use std::marker::Brand;
 pub enum Odd {
     /// The ledger has no such token, call or side.
     Gone,
-    /// The token does something else next than the entry says.
+    /// The token does something else next than the entry says, or waits.
     Word,
     /// The side that the entry ends has a token. By the rules it may only make moves of marks (entries without a rule), and the ledger makes these
     /// first.
@@ -31,7 +34,7 @@ pub enum Odd {
     Wrong,
     /// Something else comes next than this tick.
     Time,
-    /// The ledger wrote another entry.
+    /// The ledger wrote another entry. Of a whole replay also: a text can't be read, or the journal is of the first version.
     Other,
     /// A limit is reached.
     Limit,
@@ -45,16 +48,19 @@ pub struct Stop {
     pub why: Odd,
 }
 
-// The right side of the pruning of this cell, or the left side of the otherwise with this number.
+// What an open group is.
 #[derive(Clone, Copy, PartialEq, Eq)]
 enum Side {
+    // The right side of the pruning that opened this cell.
     Right(u64),
+    // The left side of an otherwise. Its number is the mark of the token that entered it.
     Left(u64),
 }
 
 // An open group: the members of a side.
 #[derive(Clone, Copy)]
 struct OpenGroup {
+    // The ledger's number of the group; 0 is the program's own, which isn't noted.
     number: u32,
     side: Side,
     // The number of the group outside it; 0 for the program's own.
@@ -68,8 +74,9 @@ pub struct Replay<P: Run> {
     pub ledger: Ledger<P>,
     // The slot in which the ledger keeps each token, by the token's serial (its mark in the journal); there is no serial 0.
     slots: Vec<usize>,
+    // The open groups, in any order.
     groups: Vec<OpenGroup>,
-    // Lent to the ledger's calls.
+    // Lent to the ledger's calls, and looked at by none of the replay's.
     scopes: Vec<StoredScope>,
     cancelled: Vec<u64>,
     args: Args,
@@ -106,7 +113,7 @@ impl From<LedgerFault> for Odd {
     }
 }
 
-// Whether the entry is what the token does next.
+// Whether the entry is what the token does next. The marks and numbers that the entry gives to what is new are compared afterwards.
 fn says(what: Action, entry: &Entry) -> bool {
     match (what, entry) {
         (Action::Halt, Entry::End(_)) => true,
@@ -120,12 +127,13 @@ fn says(what: Action, entry: &Entry) -> bool {
         (Action::Publish(value), Entry::Publish(_, v)) => value == *v,
         (Action::Send(value), Entry::Send(_, _, v)) => value == *v,
         (Action::Bind(cell, value), Entry::Bind(_, c, v)) => cell == *c && value == *v,
+        // Another kind of entry, or the token waits.
         _ => false,
     }
 }
 
 impl<P: Run> Replay<P> {
-    /// Token 1 stands at the program's main term.
+    /// A run that has begun: token 1 stands at the program's main term. The error is refused memory.
     pub fn begin(alloc: Global, graph: &Graph) -> Result<Replay<P>, Odd>
         requires keeps { P.keeps ≡ true }
         requires graph { graph.now ≡ P.listing }
@@ -149,7 +157,8 @@ impl<P: Run> Replay<P> {
         })
     }
 
-    /// Has the ledger do what an entry says, by the call for its kind. A `cancel` comes with its bind. Where memory is refused nothing has changed.
+    /// Has the ledger do what an entry says, by the call for its kind, and then closes the groups that end without an entry. A `cancel` is refused as
+    /// Other: the ledger makes it with its bind. Where memory is refused nothing has changed.
     pub fn enter(&mut self, inputs: &Inputs<'_, P>, entry: &Entry) -> Result<(), Odd> {
         self.make_room()?;
         match entry {
@@ -174,7 +183,8 @@ impl<P: Run> Replay<P> {
         self.close_published()
     }
 
-    // Makes room for the notes on an entry: two tokens and a group. So no memory is refused for them once the ledger has moved.
+    // Makes room for the notes on an entry: two tokens and a group, the most that one brings (`open`). So no memory is refused for them once the
+    // ledger has moved.
     fn make_room(&mut self) -> Result<(), Odd> {
         if self.slots.try_reserve(2).is_err() || self.groups.try_reserve(1).is_err() {
             return Err(Odd::Memory);
@@ -190,7 +200,7 @@ impl<P: Run> Replay<P> {
         }
     }
 
-    // A token makes its next move, if that is the entry.
+    // The token with this serial makes its next move, if that is the entry: Gone if it isn't there, Word if it does something else next.
     fn advance(&mut self, inputs: &Inputs<'_, P>, serial: u64, entry: &Entry) -> Result<(), Odd> {
         let Some(slot) = self.slots.get(serial as usize).copied() else {
             return Err(Odd::Gone);
@@ -209,6 +219,7 @@ impl<P: Run> Replay<P> {
             .ledger
             .advance(inputs, slot, token, &mut self.scopes, &mut self.cancelled)?;
         match moved {
+            // A call of a site is another call of the ledger. No token comes of it, so nothing has to be noted.
             Moved::Calls => {
                 self.ledger.call(inputs, slot, token, &mut self.args)?;
                 Ok(())
@@ -217,7 +228,8 @@ impl<P: Run> Replay<P> {
         }
     }
 
-    // Notes what the move of a token has done that stood in this slot and group.
+    // Notes what a token's move has done: the tokens that came of it, a side that was entered, and groups that a publication has left. The token
+    // stood in `slot` and in the group with the number `group`, and its successor, if it has one, is in the same slot.
     fn follow(&mut self, entry: &Entry, slot: usize, group: u32, moved: Moved) -> Result<(), Odd> {
         match moved {
             Moved::On => {
@@ -240,15 +252,18 @@ impl<P: Run> Replay<P> {
                 self.leave(group, outer)
             }
             Moved::Gone(_) => match entry {
+                // The value leaves all left sides around the token, up to the program's own group.
                 Entry::Publish(_, _) => self.leave(group, 0),
+                // The token has ended, and has published nothing.
                 _ => Ok(()),
             },
             Moved::Bound(cell, _) => self.drop_side(cell),
+            // Not reached: `advance` has taken the first, and `says` accepts no entry for a token that waits.
             Moved::Calls | Moved::Waits => Err(Odd::Word),
         }
     }
 
-    // Notes that the newest token is in this slot, and gives its group. The error is Other if the token there has another serial than the next one.
+    // Notes that the newest token is in this slot, and gives the number of its group. Other if the token there has another serial than the next one.
     fn stand(&mut self, slot: usize) -> Result<u32, Odd> {
         let Some(token) = self.ledger.held(slot) else {
             return Err(Odd::Gone);
@@ -276,7 +291,7 @@ impl<P: Run> Replay<P> {
         }
     }
 
-    // The place of the group with this number among the open ones.
+    // The index of the group with this number in `groups`. None if it isn't open, or is the program's own.
     fn place_of(&self, number: u32) -> Option<usize> {
         self.groups.iter().position(|open| open.number == number)
     }
@@ -301,7 +316,8 @@ impl<P: Run> Replay<P> {
         Err(Odd::Other)
     }
 
-    // Drops the group of a cell's right side, and all groups inside it.
+    // Drops the group of a cell's right side, which a bind has ended, and all groups inside it: each turn drops one whose parent isn't there any
+    // more. No more than `MOST_GROUPS` are open, so the loop ends by `return`. Other if the cell has no open right side.
     fn drop_side(&mut self, cell: u64) -> Result<(), Odd> {
         let Some(place) = self
             .groups
@@ -320,14 +336,15 @@ impl<P: Run> Replay<P> {
         Err(Odd::Other)
     }
 
-    // A group whose parent is gone.
+    // The index in `groups` of a group whose parent isn't there. None if there is none.
     fn orphan(&self) -> Option<usize>
         ensures { IfSome result (λ place. place < vec_len self.now.groups) }
     {
         self.groups.iter().position(|open| open.parent != 0 && self.place_of(open.parent).is_none())
     }
 
-    // Halts a group, and once more where memory was refused.
+    // Has the ledger halt a group, and once more where memory was refused, since nothing has changed then. `enter` can't be called again for that:
+    // the entry before was made.
     fn halt_again(&mut self, number: u32) -> Result<Halted, HaltFault> {
         match self.ledger.halt(number) {
             Err(HaltFault::Refused(LedgerFault::Memory)) => self.ledger.halt(number),
@@ -335,7 +352,8 @@ impl<P: Run> Replay<P> {
         }
     }
 
-    // Closes the groups that have published and have no members left: they end without an entry.
+    // Closes the groups that have published and have no members left: they end without an entry. To close one may take the last member from the group
+    // outside it, so it looks again after each. No more than `MOST_GROUPS` are open, so the loop ends by `return`.
     fn close_published(&mut self) -> Result<(), Odd> {
         for _outwards in 0..MOST_GROUPS {
             let Some(place) = self.groups.iter().position(|open| open.has_published
@@ -346,13 +364,14 @@ impl<P: Run> Replay<P> {
             let open = self.groups.swap_remove(place);
             match self.halt_again(open.number) {
                 Ok(Halted::Closed(parent)) if parent == open.parent => {}
+                // Refused, or another end or parent than what was noted.
                 _ => return Err(Odd::Other),
             }
         }
         Err(Odd::Other)
     }
 
-    // Halts a side: a cell is lost, or the right side of an otherwise starts.
+    // Halts a side: a cell is lost, or the right side of an otherwise starts. Gone if the side isn't open, Live if its group has members.
     fn halt(&mut self, side: Side) -> Result<(), Odd> {
         let Some(place) = self.groups.iter().position(|open| open.side == side) else {
             return Err(Odd::Gone);
@@ -367,6 +386,7 @@ impl<P: Run> Replay<P> {
                 self.stand(slot)?;
                 Ok(())
             }
+            // It had published and ends without an entry.
             Ok(Halted::Closed(_)) => Err(Odd::Other),
             Err(HaltFault::Gone) => Err(Odd::Gone),
             Err(HaltFault::Live) => Err(Odd::Live),
@@ -374,7 +394,7 @@ impl<P: Run> Replay<P> {
         }
     }
 
-    // Answers a pending call: with a value, on which a token stands then, or with a halt.
+    // Answers the pending call with this number: with a value, on which a token stands then, or with a halt.
     fn answer(&mut self, number: u64, answer: Answer) -> Result<(), Odd> {
         match self.ledger.returned(number, answer) {
             Ok(Some(slot)) => {
@@ -389,7 +409,7 @@ impl<P: Run> Replay<P> {
         }
     }
 
-    // Lets time go on to `wanted`. The error is Time if the ledger says that something else comes next.
+    // Lets time go on to `wanted`. Time if the ledger says that something else comes next, or a tick to another time.
     fn tick(&mut self, inputs: &Inputs<'_, P>, wanted: u64) -> Result<(), Odd> {
         let next = self.ledger.next(inputs);
         // Shows the prover the ledger's invariant, which `tick` needs; nothing runs.
@@ -414,9 +434,11 @@ impl<P: Run> Replay<P> {
         }
     }
 
-    // Has the ledger do what the entries say, except for the cancels behind a bind, which it has written with the bind.
+    // Has the ledger do what the entries say, up to the first one that fails. An entry whose place the ledger's journal has reached already is passed
+    // over: it is a cancel, which the ledger has written with its bind. `replay_named` compares it.
     fn follow_journal(&mut self, inputs: &Inputs<'_, P>, journal: &Journal) -> Result<(), Stop> {
         for at in 0..journal.len() {
+            // Not reached: there is an entry at each place before the length.
             let Some(entry) = journal.get(at) else {
                 return Ok(());
             };
@@ -442,7 +464,8 @@ fn are_same(alloc: Global, answers: &Answers, one: &Journal, other: &Journal) ->
     Some(whole && other_whole && text.as_slice() == other_text.as_slice())
 }
 
-// `replay_journal` for a graph that is built. The type P names the run.
+// `replay_journal` for a graph that is built. In contracts `P` stands for the run; the caller picks it. If the ledger has written another journal,
+// the error is Other at the last entry.
 fn replay_named<P: Run>(
     alloc: Global,
     graph: &Graph,

@@ -19,19 +19,20 @@ use std::marker::Brand;
 /// What a row does with a ledger, or what the ledger has to say.
 #[derive(Clone, Copy)]
 pub(crate) enum Step {
-    /// The ledger does these entries, a line each. It does a cancel with the bind before it, so a cancel's line is only compared with the journal.
+    /// The ledger does these entries, a line each, and writes exactly these. It does a cancel with the bind before it, so a cancel's line is only
+    /// compared with the journal.
     Does(&'static str),
     /// The token with this mark waits.
     Waits(u64),
     /// `Ledger::next` gives this.
     Next(Next),
-    /// The least number of a call that is due now is this, or none is due.
+    /// The least number of a call that is due now is this; None if none is due.
     Due(Option<u64>),
-    /// The ledger refuses this answer of the call with this number, for this reason.
+    /// The call with this number, the answer that the ledger refuses for it, and the reason.
     Refuses(u64, Answer, ReturnFault),
-    /// The call with this number was made at this time, and is the n-th of its site with its arguments, n from 1.
+    /// Of a pending call its number, the time at which it was made, and the how manieth it is of its site with its arguments, each number from 1.
     Asked(u64, u64, u64),
-    /// The term has halted, or it hasn't.
+    /// Whether the term has halted.
     Halted(bool),
 }
 
@@ -45,7 +46,7 @@ pub(crate) struct Row {
 
 const SIGNAL: Answer = Answer::Value(Value::Signal);
 
-// What the token with this mark does next. No row has a hundred tokens.
+// What the token with this mark does next. None if no such token is there. No row has a hundred tokens, so slots from 100 on are empty.
 fn next_action<P: Run>(ledger: &Ledger<P>, inputs: &Inputs<'_, P>, serial: u64) -> Option<Action> {
     for slot in 0..100_usize {
         if let Some(token) = ledger.held(slot)
@@ -59,8 +60,10 @@ fn next_action<P: Run>(ledger: &Ledger<P>, inputs: &Inputs<'_, P>, serial: u64) 
 
 // Whether the lines are entries, and the ledger has done them. A cancel is passed over, since it has come with its bind.
 fn does<P: Run>(replay: &mut Replay<P>, inputs: &Inputs<'_, P>, lines: &str) -> bool {
+    // Lent to `read_entry`, which overwrites it.
     let mut entry = Entry::Tick(0);
     let mut rest = lines.as_bytes();
+    // A line has a byte at least, so there are no more lines than bytes.
     for _line in 0..lines.len() {
         let Some(behind) = read_entry(rest, inputs.answers, &mut entry) else {
             return rest.is_empty();
@@ -85,6 +88,7 @@ fn step_holds<P: Run>(replay: &mut Replay<P>, inputs: &Inputs<'_, P>, step: &Ste
             )
         }
         Step::Next(next) => replay.ledger.next(inputs) == next,
+        // The least number over 0: calls are numbered from 1.
         Step::Due(number) => replay.ledger.due_beyond(0) == number,
         Step::Refuses(call, answer, fault) => { replay.ledger.returned(call, answer) == Err(fault) }
         Step::Asked(call, made_at, nth) => match replay.ledger.request(call) {
@@ -95,7 +99,7 @@ fn step_holds<P: Run>(replay: &mut Replay<P>, inputs: &Inputs<'_, P>, step: &Ste
     }
 }
 
-// Whether the journal has exactly the lines of the steps.
+// Whether the journal has exactly the lines of the steps `Does`. The error is refused memory.
 fn has_lines<P: Run>(
     alloc: Global,
     ledger: &Ledger<P>,
@@ -115,7 +119,8 @@ fn has_lines<P: Run>(
     Ok(whole && text.as_slice() == wanted.as_slice())
 }
 
-// The first step that doesn't hold, from 0; the number of steps if all hold, but the journal has other lines. None if the row holds.
+// The first step that doesn't hold, from 0, or 0 if no run can begin; the number of steps if all hold, but the journal has other lines. None if the
+// row holds. In contracts `P` stands for the run; the caller picks it.
 fn wrong_step<P: Run>(
     alloc: Global,
     graph: &Graph,
@@ -163,7 +168,8 @@ pub(crate) fn hold(alloc: Global, rows: &[Row]) -> bool {
     true
 }
 
-/// Tokens wait, and cells are lost.
+/// Tokens wait, and cells are lost. In these rows and those of `CALLS` the entries are those that Orc's rules allow of the program: a token gets the
+/// next mark, a call and a cell the next number, each from 1, and of two tokens that come at once the left one has the lower mark.
 pub(crate) const WAITS: [Row; 4] = [
     // The inner x is bound first, and the call still waits for the outer one.
     Row {
@@ -249,7 +255,8 @@ pub(crate) const CALLS: [Row; 6] = [
             Step::Does("publish 2 1\n"),
         ],
     },
-    // Of two calls that are due the one made last may be answered first.
+    // Of two calls that are due the one made last may be answered first. The answers go by the order of the calls: the second one halts, and the
+    // third and all later ones give 3, two units after they were made.
     Row {
         source: "Flip() | Flip() | Flip() | Flip()",
         script: "Flip() = 1 then halt then 3 after 2",
@@ -292,8 +299,8 @@ pub(crate) const CALLS: [Row; 6] = [
     },
 ];
 
-// Moves the token in slot 0 until the ledger refuses a move. Gives how many entries the journal has then, and the reason. None if the ledger can't
-// begin, or no token is in slot 0 any more.
+// Moves the token in slot 0 until the ledger refuses a move, `limit` times at most. Gives how many entries the journal has then, and the reason,
+// Limit if no move was refused. None if the ledger can't begin, or no token is in slot 0 any more.
 fn refused_at<P: Run>(
     alloc: Global,
     graph: &Graph,
@@ -329,8 +336,8 @@ fn refused(alloc: Global, source: &[u8], limit: usize) -> Option<(usize, LedgerF
     refused_at::<Brand>(alloc, &graph, &loaded.answers, limit)
 }
 
-// Programs, their limits, how many entries there are when a move is refused, and why: 4,096 left sides of a `>x>` take two entries each, and one more
-// `def` follows; so do 1,023 left sides of a `;`.
+// Programs, the limits of their journals, how many entries there are when a move is refused, and why: 4,096 left sides of a `>x>` take two entries
+// each, and one more `def` follows; so do 1,023 left sides of a `;`. The limit of 100,000 isn't reached.
 const LIMITS: [(&[u8], usize, usize, LedgerFault); 3] = [
     (
         b"def f() = f() >> 1\nf()",
@@ -352,7 +359,8 @@ pub(crate) fn limits_refuse(alloc: Global) -> bool {
     true
 }
 
-// Programs, and journals that the rules allow, with an entry before moves of marks that the ledger makes first.
+// Programs, journals that the rules allow, with an entry before moves of marks that the ledger makes first, and where and why their replay fails: in
+// the first two a side is ended before its token has made its `end`, and in the last time goes on before it.
 const EARLY: [(&[u8], &[u8], Stop); 3] = [
     (
         b"stop <x< stop",
@@ -390,7 +398,7 @@ pub(crate) fn marks_move_first(alloc: Global) -> bool {
     true
 }
 
-// Programs, scripts, journals that the rules allow, how many entries these have, and where they lead.
+// Programs, scripts, journals that the rules allow, how many entries these have, and the states to which they lead.
 const WRITTEN: [(&[u8], &[u8], &[u8], usize, State); 3] = [
     (
         b"(1 | 2) >x> Add(x, 10)",
