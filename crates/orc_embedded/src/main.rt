@@ -21,16 +21,16 @@ use std::{io, thread};
 /// The workflow asks a hotel and a hostel for a bed. The first answer gets the guest.
 const WORKFLOW: &[u8] = b"val price = Hotel(2) | Hostel(2)\nprice";
 
-/// The script: what the two services answer, and after how much logical time.
+/// The script: what the two services answer, and after how much logical time. The hotel is first, so the call of the hostel is cancelled.
 const SERVICES: &[u8] = b"Hotel(_) = 70 after 3\nHostel(_) = 35 after 5\n";
 
 /// How many threads run the workflow.
 const WORKERS: usize = 2;
 
-/// The most entries of the run's journal.
+/// The most entries of the run's journal: far more than this workflow needs.
 const LIMIT: u64 = 1000;
 
-// Runs the workflow, and then sends the clerk home.
+// Runs the workflow, and then sends the clerk home, whatever has come of the run: else the clerk would wait for calls forever.
 fn run<R: Threads + Wait + Sync>(
     rt: &R,
     alloc: Global,
@@ -51,12 +51,14 @@ fn run<R: Threads + Wait + Sync>(
         &Open,
         options,
     );
+    // This fails only if the clerk is gone already.
     let _ = office.jobs.send(rt, None);
     played
 }
 
 fn main(rt: HostRuntime) -> io::Result<()> {
     let alloc = rt.alloc();
+    // The two texts are right, so nothing but memory can be missing.
     let (Ok(loaded), Ok((jobs, inbox))) = (
         load(alloc, WORKFLOW, SERVICES),
         unbounded::<Job, Global>(alloc),

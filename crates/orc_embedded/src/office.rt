@@ -12,10 +12,11 @@ use std::sync::atomic::{AtomicU64, Ordering};
 use std::thread;
 use std::time::{Clock, Duration};
 
-/// What the clerk gets for a call: the channel by which to say that it was served. None says that no more calls come.
+/// What the clerk gets for a call: the channel by which to say that the call was served. None says that no more calls come.
 pub type Job = Option<Sender<(), Global>>;
 
-/// The clerk's work: serves calls until no more come, a millisecond each, and gives how many there were.
+/// The clerk's work: serves calls until no more come, a millisecond each, and gives how many there were. A call that was cancelled meanwhile is
+/// served all the same.
 pub fn serve<R: Wait + Clock>(rt: &R, jobs: &Receiver<Job, Global>) -> u64 {
     let mut served = 0u64;
     for job in jobs.iter(rt) {
@@ -24,6 +25,7 @@ pub fn serve<R: Wait + Clock>(rt: &R, jobs: &Receiver<Job, Global>) -> u64 {
         };
         thread::sleep(rt, Duration::from_millis(1));
         served = served.saturating_add(1);
+        // This fails if the call was dropped: then nobody waits for it.
         let _ = done.send(rt, ());
     }
     served
@@ -45,6 +47,8 @@ pub struct Office<'a, R: Wait> {
 impl<'a, R: Wait> Sites for Office<'a, R> {
     type Call = Errand<'a, R>;
 
+    // Hands the call to the clerk. The error is refused memory, or that the clerk is gone. The channel `done` has room for the clerk's one message,
+    // so the clerk never waits.
     fn call(&self, request: &Request) -> Result<Errand<'a, R>, AllocError> {
         let (tell, done) = bounded(self.alloc, 1)?;
         if self.jobs.send(self.rt, Some(tell)).is_err() {
@@ -64,6 +68,7 @@ impl<'a, R: Wait> Sites for Office<'a, R> {
         self.cancelled.fetch_add(1, Ordering::SeqCst);
     }
 
+    // The answers are the table's, but the clerk has to get each call: if this were true the engine might make none.
     fn goes_by_table(&self) -> bool {
         false
     }
@@ -79,11 +84,12 @@ pub struct Errand<'a, R: Wait> {
     now: u64,
     // By this channel the clerk says that it has served the call.
     done: Receiver<(), Global>,
-    // Where a call that the clerk has dropped waits. Nothing wakes it.
+    // Where a call that the clerk has dropped waits, and who polled it. Nothing wakes it.
     source: Source,
     waker: Option<Waker>,
 }
 
+// The lines that begin with `ghost` are for the prover: the answer is the script's (`gives`).
 impl<R: Wait> Future for Errand<'_, R> {
     ghost use Rattle.orc_site.specs.Call.{IsReply};
 
@@ -103,6 +109,7 @@ impl<R: Wait> Future for Errand<'_, R> {
     }
 }
 
+// For the prover: which time was handed in last, when the call is due, that any errand may be polled, and that it answers only when it is due.
 impl<R: Wait> SiteFuture for Errand<'_, R> {
     ghost use Rattle.orc_site.specs.Call.{due_of};
 

@@ -20,8 +20,8 @@ const SLOTS: usize = 4;
 
 // Runs a task (a call of a definition) by a ledger of its own, in which each token moves in turn. None if a move is refused, or the run isn't over
 // after `limit` rounds. If the call isn't outermost, the enclosing run doesn't publish what it yields: then a token that would publish stays where it
-// is, and its value is the result. `keeps` says whether the ledger keeps the journal or only counts its entries. A token has made its moves after as
-// many rounds as there may be entries, since it moves or waits in each.
+// is, and its value is the result. `keeps` says whether the ledger keeps the journal or only counts its entries. Each round
+// adds an entry if a token can move, so `limit` rounds are enough.
 fn run_apart<Q: Run, P: Run>(
     alloc: Global,
     graph: &Graph,

@@ -147,8 +147,8 @@ fn program(alloc: Global, seed: u64) -> Result<Vec<u8>, AllocError> {
     Ok(text)
 }
 
-// Whether a run that ends so may leave the ledger in this state. After a run that its limit cuts a token can still move, or time can go on. No
-// program here is large enough for the other limits.
+// Whether a run that ends so may leave the ledger in this state. After a run that its limit cuts something can still happen, if only a move of marks.
+// A run of so few entries reaches no other limit.
 fn fits(end: End, state: State) -> bool {
     match end {
         End::Halted => state == State::Halted,

@@ -5,7 +5,8 @@ use std::alloc::Global;
 use std::io;
 use std::io::{Empty, Read, Write};
 
-/// Files of which the first `good` ones that are read are empty, and the next one can't be read: its fault is `fault`.
+/// Files of which the first `good` ones that are read or opened are empty, and all others can't be: their fault is `fault`. Their names make no
+/// difference.
 #[derive(Drop)]
 pub struct FailingFiles {
     pub alloc: Global,
@@ -30,7 +31,8 @@ impl Files for FailingFiles {
     }
 }
 
-/// A file in memory that gives `at_once` bytes at a time, and fails once it has given `good` bytes in all.
+/// A file in memory that gives at most `at_once` bytes at a time, and fails once it has given `good` bytes in all. `bytes` are those still to be
+/// given; once none is left it is at its end, if it hasn't failed before.
 #[derive(Drop)]
 pub struct ShortReader<'a> {
     pub bytes: &'a [u8],
@@ -56,11 +58,14 @@ impl Read for ShortReader<'_> {
     }
 }
 
-/// A writer that takes `room` bytes in all, at most `at_once` of them in one call, and then fails.
+/// A writer that takes some bytes and then fails.
 #[derive(Drop)]
 pub struct ShortWriter {
+    /// The bytes that it has taken.
     pub taken: Vec<u8>,
+    /// How many more bytes it takes.
     pub room: usize,
+    /// How many of them it takes in one call at most.
     pub at_once: usize,
 }
 
@@ -81,6 +86,7 @@ impl Write for ShortWriter {
 }
 
 impl ShortWriter {
+    /// A writer that takes `room` bytes in all, at most `at_once` of them in one call.
     pub fn new(alloc: Global, room: usize, at_once: usize) -> ShortWriter {
         ShortWriter {
             taken: Vec::new(alloc),

@@ -21,16 +21,18 @@ pub struct Folder {
 }
 
 impl Folder {
+    /// A folder without files.
     pub fn new(alloc: Global) -> Folder {
         Folder {
             files: Vec::new(alloc),
         }
     }
 
-    /// Puts a file there, in the place of the one that has its name.
+    /// Puts a file there, in the place of the one that has its name, if there is one.
     pub fn put(&mut self, name: &'static str, bytes: Vec<u8>) -> Result<(), AllocError> {
         match self.files.iter().position(|file| file.name == name) {
             Some(at) => {
+                // There is a file at that place, as it was just found there.
                 if let Some(file) = self.files.get_mut(at) {
                     file.bytes = bytes;
                 }
@@ -40,7 +42,7 @@ impl Folder {
         Ok(())
     }
 
-    /// What the file of this name holds.
+    /// What the file of this name holds. None if there is none.
     pub fn find(&self, name: &str) -> Option<&[u8]> {
         for file in &self.files {
             if file.name == name {
@@ -97,7 +99,7 @@ impl Done {
     }
 }
 
-// The text that bytes are, in UTF-8.
+// The text that bytes are. The error is that they aren't UTF-8.
 fn text_of(bytes: Vec<u8>) -> io::Result<String> {
     match String::from_utf8(bytes) {
         Ok(text) => Ok(text),
@@ -105,7 +107,8 @@ fn text_of(bytes: Vec<u8>) -> io::Result<String> {
     }
 }
 
-/// Does one command line over the files of a folder and a standard output: the status, and what standard error has.
+/// Does one command line over the files of a folder and a standard output: the status, and what standard error has. `words` begin with the program's
+/// name. The error, here and in `orc`, is that a text that the program wrote isn't UTF-8.
 pub fn orc_into<R: Threads + Wait + Sync, W: Write>(
     rt: &R,
     alloc: Global,

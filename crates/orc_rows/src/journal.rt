@@ -2,16 +2,20 @@
 
 use std::alloc::{AllocError, Global};
 
-/// What a journal says: how many entries it has, how many of them aren't cancels, what it publishes, and its last time.
+/// What a journal says.
 #[derive(Drop)]
 pub struct Told<'a> {
+    /// How many entries it has.
     pub entries: u64,
+    /// How many of them aren't cancels.
     pub counted: u64,
+    /// The values that it publishes, a line each.
     pub published: String,
+    /// The time of its last tick, in digits; 0 if it has none.
     pub time: &'a str,
 }
 
-/// Reads a journal's text.
+/// Reads a journal's text. It isn't checked: a line that is none of a journal's counts as an entry.
 pub fn read_journal<'a>(alloc: Global, text: &'a str) -> Result<Told<'a>, AllocError> {
     let mut told = Told {
         entries: 0,
@@ -48,7 +52,7 @@ pub fn count_lines(text: &str, wanted: &str) -> u64 {
     times
 }
 
-/// The first line that begins so.
+/// The first line of a text that begins with `front`. None if no line does.
 pub fn line_with<'a>(text: &'a str, front: &str) -> Option<&'a str> {
     for line in text.lines() {
         if line.starts_with(front) {
@@ -58,13 +62,13 @@ pub fn line_with<'a>(text: &'a str, front: &str) -> Option<&'a str> {
     None
 }
 
-// The number of a call that a line records, and the call itself.
+// The number of a call that a line records, and the call itself, as in `call 2 1 Primary(3)`. None if the line records no call.
 fn call_of(line: &str) -> Option<(&str, &str)> {
     let (_, numbered) = line.strip_prefix("call ")?.split_once(' ')?;
     numbered.split_once(' ')
 }
 
-// Whether a journal has a return of a call.
+// Whether a journal has a return, by a value or a halt, of the call with this number.
 fn has_returned(text: &str, number: &str) -> bool {
     for line in text.lines() {
         if let Some(returned) = line.strip_prefix("return ") {
@@ -78,7 +82,7 @@ fn has_returned(text: &str, number: &str) -> bool {
     false
 }
 
-/// Whether a journal has a call that is written so, and no return of any such call.
+/// Whether a journal has a call that is written as `wanted`, such as `Primary(3)`, and no return of any such call.
 pub fn is_lost(text: &str, wanted: &str) -> bool {
     let mut is_called = false;
     for line in text.lines() {

@@ -11,7 +11,7 @@ use std::thread::Threads;
 /// The fields that such a row may have.
 pub const FIELDS: &str = "line source script journal test status text begins err has";
 
-/// Signs that need a shell. Only `checks/rows` tries a row whose command line has one of these.
+/// Signs that need a shell. Only `checks/rows` tries a row whose command line has one of these signs.
 const SHELL: [char; 6] = [';', '|', '<', '>', '$', '"'];
 
 /// Whether a command line can be done without a shell.
@@ -29,7 +29,8 @@ fn words_of<'a>(alloc: Global, line: &'a str) -> Result<Vec<&'a str>, AllocError
 }
 
 impl<R: Threads + Wait + Sync> Trial<'_, R> {
-    // Notes standard output that isn't what the row says.
+    // Notes standard output that isn't what the row says: what it begins with, or the whole text, or a line that it has once. It is empty if the row
+    // says none of these.
     fn look_at_output(&mut self, done: &Done) -> Result<(), AllocError> {
         let out = done.out.as_str();
         let is_right = if let Some(front) = self.row.field("begins") {
@@ -50,7 +51,8 @@ impl<R: Threads + Wait + Sync> Trial<'_, R> {
         self.note("standard output", out)
     }
 
-    /// Tries a row that is a command line.
+    /// Tries a row that is a command line; one that needs a shell isn't tried and isn't counted. The error is refused memory, or output that isn't
+    /// UTF-8.
     pub fn try_line(&mut self, line: &str) -> io::Result<()> {
         if !is_plain(line) {
             return Ok(());

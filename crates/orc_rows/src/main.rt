@@ -30,7 +30,7 @@ use streams::try_streams;
 use table::{Row, read_rows};
 use trial::Trial;
 
-// Tries a row: a command line, a journal or a program, by its fields.
+// Tries a row: a command line, a journal or a program, by its fields. A field that such a row may not have is a failure, and the row isn't tried.
 fn try_row<R: Threads + Wait + Sync>(rt: &R, alloc: Global, row: &Row) -> io::Result<Report> {
     let mut trial = Trial::new(rt, alloc, row)?;
     let (line, has_journal) = (row.field("line"), row.has("journal"));
@@ -54,7 +54,7 @@ fn try_row<R: Threads + Wait + Sync>(rt: &R, alloc: Global, row: &Row) -> io::Re
     Ok(trial.report)
 }
 
-// Tries all rows of a table.
+// Tries all rows of a table, whose text this is.
 fn try_table<R: Threads + Wait + Sync>(rt: &R, alloc: Global, table: &str) -> io::Result<Report> {
     let mut report = Report::new(alloc);
     for row in &read_rows(alloc, table)? {
@@ -66,6 +66,7 @@ fn try_table<R: Threads + Wait + Sync>(rt: &R, alloc: Global, table: &str) -> io
 fn main(rt: HostRuntime) -> io::Result<ExitCode> {
     let alloc = rt.alloc();
     let words = env::args(&rt)?.collect::<Vec<String>>(alloc)?;
+    // 1 if some row or stream does otherwise, or a table has no row.
     let mut status = ExitCode::SUCCESS;
     for name in words.iter().skip(1) {
         let table = fs::read_to_string(&rt, name.as_str())?;

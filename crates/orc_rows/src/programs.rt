@@ -1,5 +1,8 @@
 //! Rows that are a program: it is run on 1, 2, 4 and 16 workers, or on those that its row names, and with `--unordered`. Each run has to do what the
 //! row says.
+//!
+//! `words` are those of a command line, which begin with `orc run`. A function that tries another option pushes it, and takes it off again. The
+//! errors are refused memory, or a text of the program or the row that isn't UTF-8.
 
 use crate::folder::Done;
 use crate::journal::{Told, count_lines, is_lost, line_with, read_journal};
@@ -21,10 +24,10 @@ const WORKERS: &str = "1 2 4 16";
 /// The number of workers of a run with `--unordered`, in which they race each other.
 const RACERS: &str = "4";
 
-/// The longest journal, in entries, for which the explanation of the run's end is tried: for a long one it takes long.
+/// The longest journal, in entries, of a run whose end is explained here: an explanation replays the journal, which takes long for a long one.
 const MOST_EXPLAINED: u64 = 10_000;
 
-// The words of a command line that runs the row's program.
+// The words of a command line that runs the row's program on `workers` workers, with more words behind that.
 fn words_of<'a>(
     alloc: Global,
     workers: &'a str,
@@ -52,7 +55,7 @@ fn joined(alloc: Global, words: &[&str]) -> Result<String, AllocError> {
     Ok(text)
 }
 
-// The state in which a run with this status leaves its program.
+// The state in which a run with this status leaves its program: 3 says that it waits forever, and 4 that a limit has cut it.
 fn state_of(status: u8) -> &'static str {
     match status {
         0 => "Halted",
@@ -66,8 +69,8 @@ fn is_end(status: u8) -> bool {
     matches!(status, 0 | 3 | 4)
 }
 
-// Where a line of an explanation underlines: the byte of its first `^`, and how many `^` there are. None if the line isn't a `|`, with nothing but
-// blanks before it, and then blanks and a `^`.
+// Where a line of an explanation underlines, such as `  |     ^^^`: the byte of its first `^`, from 0, and how many `^` there are. None if the line
+// isn't a `|`, with nothing but blanks before it, and then blanks and a `^`.
 fn underlined(line: &str) -> Option<(usize, usize)> {
     let (front, rest) = line.split_once('|')?;
     let marks = rest.trim_start();
@@ -81,7 +84,7 @@ fn underlined(line: &str) -> Option<(usize, usize)> {
     ))
 }
 
-// What the explanation of a fault underlines in the line above the `^`; empty if it underlines nothing.
+// What the explanation of a fault underlines first, in the line above the `^`; empty if it underlines nothing.
 fn marked(text: &str) -> &str {
     for (above, line) in text.lines().zip(text.lines().skip(1)) {
         if let Some((at, many)) = underlined(line) {
@@ -92,7 +95,8 @@ fn marked(text: &str) -> &str {
 }
 
 impl<R: Threads + Wait + Sync> Trial<'_, R> {
-    // Notes in what the explanation of a fault differs from the row.
+    // Notes in what the explanation of a fault differs from the row: what it underlines, and parts of its text, a line each. It isn't asked for if
+    // the row says neither.
     fn look_at_fault(&mut self, words: &mut Vec<&str>) -> io::Result<()> {
         if !self.row.has("marks") && !self.row.has("explains") {
             return Ok(());
@@ -114,7 +118,7 @@ impl<R: Threads + Wait + Sync> Trial<'_, R> {
         Ok(())
     }
 
-    // Notes in what a run's publications differ from the row.
+    // Notes in what a run's publications, a line each, differ from the row: `nothing` if there are none, and any will do if the row doesn't say.
     fn look_at_values(&mut self, out: &str) -> io::Result<()> {
         let words = out.split_whitespace().collect::<Vec<&str>>(self.alloc)?;
         let mut values = joined(self.alloc, words.as_slice())?;
@@ -140,7 +144,7 @@ impl<R: Threads + Wait + Sync> Trial<'_, R> {
         Ok(())
     }
 
-    // Notes in what a journal's lines differ from the row.
+    // Notes in what a journal's lines differ from the row: a line that it has once, what no line begins with, a call that hasn't returned.
     fn look_at_lines(&mut self, text: &str) -> Result<(), AllocError> {
         if let Some(line) = self.row.field("has") {
             if count_lines(text, line) != 1 {
@@ -160,7 +164,8 @@ impl<R: Threads + Wait + Sync> Trial<'_, R> {
         Ok(())
     }
 
-    // Notes in what the explanation of a run's end differs from that end.
+    // Notes in what the first line of the explanation of a run's end differs from that end: how it ended, when, and after how many entries. `told` is
+    // what the run's journal says, and `plain` what the run without `--explain` did.
     fn look_at_end(&mut self, words: &mut Vec<&str>, told: &Told, plain: &Done) -> io::Result<()> {
         let is_halted = plain.status == 0;
         // Of a run that published something and halted, only what looks like a mistake is explained.
@@ -174,6 +179,7 @@ impl<R: Threads + Wait + Sync> Trial<'_, R> {
         if is_halted && done.err.is_empty() {
             return Ok(());
         }
+        // Status 4 has several ends: the limit of entries, or one that the row names.
         let end = match plain.status {
             4 => self.row.field("end").unwrap_or("Limit"),
             status => state_of(status),
@@ -189,7 +195,8 @@ impl<R: Threads + Wait + Sync> Trial<'_, R> {
         Ok(())
     }
 
-    // Notes in what the journal of a run with this status differs from the row, or from what a check says of it.
+    // Notes in what the journal of a run with this status differs from the row, or from what a check says of it. The row may say another thing of the
+    // check, and else that has to be how many entries there are and in which state they leave the program.
     fn look_at_journal<'t>(&mut self, text: &'t str, status: u8) -> io::Result<Told<'t>> {
         let bytes = Vec::from_slice(self.alloc, text.as_bytes())?;
         self.folder.put("a.journal", bytes)?;
@@ -207,7 +214,8 @@ impl<R: Threads + Wait + Sync> Trial<'_, R> {
         Ok(told)
     }
 
-    // Runs the program again with `--journal`, and notes in what its journal differs from the row or from the run without it.
+    // Runs the program again with `--journal`, and notes in what its journal differs from the row or from `plain`, the run without it. By `refuses` a
+    // row says what a check has to say that reads another script.
     fn try_run_journal(&mut self, words: &mut Vec<&str>, plain: &Done) -> io::Result<()> {
         words.push("--journal")?;
         let done = self.run(words.as_slice())?;
@@ -238,8 +246,9 @@ impl<R: Threads + Wait + Sync> Trial<'_, R> {
         Ok(())
     }
 
-    // Notes in what the run of a command line differs from the row. One that ended is made again with `--journal`, unless the row has `text`; one
-    // that met a fault is made again with `--explain`, if the row says what that underlines or says.
+    // Notes in what the run of a command line differs from the row. One that came to an end is made again with `--journal`, unless the row has
+    // `text`, which is all of standard output. One that met a fault writes nothing there, and is made again with `--explain`, if the row says what
+    // that underlines or says.
     fn look_at_run(&mut self, words: &mut Vec<&str>, done: &Done) -> io::Result<()> {
         self.look_at_status(done)?;
         let out = done.out.as_str();
@@ -259,8 +268,8 @@ impl<R: Threads + Wait + Sync> Trial<'_, R> {
         self.try_run_journal(words, done)
     }
 
-    // Runs the program with `--unordered`, and notes in what its journal differs from the row. The values, too, are read from this journal, since a
-    // second run may publish others.
+    // Runs the program with `--unordered` and the words `more`, and notes in what its journal differs from the row. The values, too, are read from
+    // this journal, since a second run may publish others.
     fn try_unordered(&mut self, more: &str) -> io::Result<()> {
         let mut words = words_of(self.alloc, RACERS, more)?;
         words.extend_from_slice(["--unordered", "--journal"].as_slice())?;
@@ -273,10 +282,10 @@ impl<R: Threads + Wait + Sync> Trial<'_, R> {
         Ok(())
     }
 
-    /// Tries a row that is a program: with each of its lines of words, on each number of workers, and with `--unordered` where the run before that came
-    /// to an end, and not to a fault. A row that says which text or workers it wants isn't tried with `--unordered`.
+    /// Tries a row that is a program: with each of its lines of words, on each number of workers, and with `--unordered` where the run before that
+    /// came to an end, and not to a fault. A row that says which text or workers it wants isn't tried with `--unordered`.
     pub fn try_program(&mut self) -> io::Result<()> {
-        // What the run before this one has written.
+        // What the run before this one has written. None before the first.
         let mut last: Option<String> = None;
         let may_race = !self.row.has("text") && !self.row.has("workers");
         for more in self.row.field("words").unwrap_or("").split('\n') {

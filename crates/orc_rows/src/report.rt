@@ -3,7 +3,7 @@
 use std::alloc::{AllocError, Global};
 use std::io;
 
-/// How many failures are written in full; the others are only counted.
+/// How many failures of a row are written in full; the others are only counted.
 const MOST_TOLD: u64 = 20;
 
 /// How many bytes of a text are shown at most.
@@ -14,8 +14,9 @@ const MOST_SHOWN: usize = 400;
 pub struct Report {
     pub passed: u64,
     pub failed: u64,
+    // The first failures, as `print` writes them.
     told: String,
-    // What the command line that is being tried did otherwise than it has to.
+    // What the command line that is being tried did otherwise than it has to, a line each; empty if nothing was noted yet.
     wrong: String,
 }
 
@@ -40,7 +41,8 @@ impl Report {
         self.wrong.push('\n')
     }
 
-    /// Counts a command line of a row, whose sentence this is. It is a failure if something was noted since the last call.
+    /// Counts a command line of a row, whose sentence this is. It is a failure if something was noted since the last call; nothing is noted after
+    /// this.
     pub fn count(&mut self, sentence: &str, line: &str) -> Result<(), AllocError> {
         if self.wrong.is_empty() {
             self.passed = self.passed.saturating_add(1);
@@ -58,19 +60,19 @@ impl Report {
         Ok(())
     }
 
-    /// Adds what another report counts and tells.
+    /// Adds what another report counts and tells. All command lines of the other one were counted.
     pub fn add(&mut self, other: &Report) -> Result<(), AllocError> {
         self.passed = self.passed.saturating_add(other.passed);
         self.failed = self.failed.saturating_add(other.failed);
         self.told.push_str(other.told.as_str())
     }
 
-    /// Whether something was tried, and all did what it has to.
+    /// Whether something was tried, and each command line did what it has to.
     pub fn is_right(&self) -> bool {
         self.failed == 0 && self.passed > 0
     }
 
-    /// Writes the failures of a table, and its counts.
+    /// Writes the failures of a table and how many there are; or that no row was tried, or that each does what it says.
     pub fn print<R: Print>(&self, rt: &R, table: &str) -> io::Result<()> {
         if self.failed > 0 {
             let (failed, told) = (self.failed, self.told.as_str());
@@ -88,7 +90,7 @@ fn front_of(text: &str) -> &str {
     if text.len() <= MOST_SHOWN {
         return text;
     }
-    // A character has at most four bytes, so one of these four places is where one begins.
+    // A character has at most four bytes, so at one of these four places one begins. The empty text below is never given.
     for back in 0..4 {
         if let Some(front) = text.get(..MOST_SHOWN.saturating_sub(back)) {
             return front;

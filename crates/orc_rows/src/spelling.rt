@@ -8,7 +8,7 @@ const LETTERS: [(char, u8); 3] = [('n', b'\n'), ('r', b'\r'), ('t', b'\t')];
 /// How many hexadecimal digits follow `\x`.
 const DIGITS: usize = 2;
 
-// The byte that the front of a text spells, whose `\` has been taken, and what follows it.
+// The byte that the front of a text spells, whose `\` has been taken, and what follows it. None if it is no escape.
 fn escaped(text: &str) -> Option<(u8, &str)> {
     for (letter, byte) in LETTERS.iter() {
         if let Some(rest) = text.strip_prefix(*letter) {
@@ -23,10 +23,11 @@ fn escaped(text: &str) -> Option<(u8, &str)> {
     }
 }
 
-// A text without its escapes. A `\c` ends it.
+// A text without its escapes. A `\c` ends it. A `\` before anything else stands for itself.
 fn unescape(alloc: Global, text: &str) -> Result<Vec<u8>, AllocError> {
     let mut bytes = Vec::new(alloc);
     for (at, part) in text.split('\\').enumerate() {
+        // Before the first `\` there is no escape.
         if at == 0 {
             bytes.extend_from_slice(part.as_bytes())?;
         } else if part.starts_with('c') {
@@ -42,7 +43,8 @@ fn unescape(alloc: Global, text: &str) -> Result<Vec<u8>, AllocError> {
     Ok(bytes)
 }
 
-// How often a text is repeated, the text, and what follows: the front of some bytes (`9 times TEXT]`), whose `[` has been taken.
+// How often a text is repeated, the text, and what follows: the front of some bytes (`9 times TEXT]`), whose `[` has been taken. None if the bytes
+// don't begin so.
 fn counted(bytes: &[u8]) -> Option<(u32, &[u8], &[u8])> {
     let end = bytes.iter().position(|byte| *byte == b']')?;
     let (inside, rest) = (
@@ -61,10 +63,11 @@ fn counted(bytes: &[u8]) -> Option<(u32, &[u8], &[u8])> {
     }
 }
 
-// Bytes with each text as often as they say.
+// Bytes with each `[9 times TEXT]` written out. A `[` before anything else stands for itself.
 fn repeat(alloc: Global, bytes: &[u8]) -> Result<Vec<u8>, AllocError> {
     let mut whole = Vec::new(alloc);
     for (at, part) in bytes.split(|byte| *byte == b'[').enumerate() {
+        // Before the first `[` nothing is repeated.
         if at == 0 {
             whole.extend_from_slice(part)?;
         } else if let Some((times, text, rest)) = counted(part) {
@@ -80,13 +83,13 @@ fn repeat(alloc: Global, bytes: &[u8]) -> Result<Vec<u8>, AllocError> {
     Ok(whole)
 }
 
-/// The bytes that a text spells.
+/// The bytes that a text spells. Escapes come first, so that TEXT may have some.
 pub fn spell(alloc: Global, text: &str) -> Result<Vec<u8>, AllocError> {
     let bytes = unescape(alloc, text)?;
     repeat(alloc, bytes.as_slice())
 }
 
-/// Whether a text is as wanted: a `*` of what is wanted stands for anything.
+/// Whether a text is as wanted: the first `*` of what is wanted stands for anything, and any other for itself.
 pub fn is_like(wanted: &str, got: &str) -> bool {
     match wanted.split_once('*') {
         Some((front, end)) => match got.strip_prefix(front) {
@@ -97,7 +100,7 @@ pub fn is_like(wanted: &str, got: &str) -> bool {
     }
 }
 
-/// Whether a text is a line that is as wanted, with its LF.
+/// Whether a text is one line that is as wanted, and the LF that ends it.
 pub fn is_line(wanted: &str, got: &str) -> bool {
     match got.strip_suffix('\n') {
         Some(line) => is_like(wanted, line),
@@ -105,7 +108,7 @@ pub fn is_line(wanted: &str, got: &str) -> bool {
     }
 }
 
-/// Whether a text is one of those that ` or ` separates.
+/// Whether a text is one of those in `list`, which ` or ` separates.
 pub fn is_one_of(list: &str, got: &str) -> bool {
     list.split(" or ").any(|text| text == got)
 }

@@ -10,10 +10,12 @@ use std::io::Write;
 use std::sync::Wait;
 use std::thread::Threads;
 
+// Two calls: the left one answers 5 at time 2, and the right one halts, so that 6 is published at time 0.
 const SOURCE: &str = "Pair(1, 9) | (Pair(2, 9) ; 6)";
 
 const SCRIPT: &str = "Pair(1, _) = 5 after 2\nPair(_, _) = halt\n";
 
+// The first entry of a run of this program, after which it is still running.
 const JOURNAL: &str = "orc-journal 2\nfork 1 2 3\n";
 
 const RUN: &[&str] = &["orc", "run", "a.orc", "--script", "a.script"];
@@ -45,7 +47,7 @@ const HELP: &[&str] = &["orc", "print", "--help"];
 
 const VERSION: &[&str] = &["orc", "--version"];
 
-// Command lines, and what each writes to standard output; the text of `HELP` isn't given here.
+// Command lines, and what each writes to standard output; the text of `HELP` isn't given here, so it is empty.
 const WHOLE: [(&[&str], &str); 7] = [
     (RUN, "6\n5\n"),
     (OUTCOMES, "order 0 (3 of 3) Halted: 6 5\n"),
@@ -60,12 +62,13 @@ const WHOLE: [(&[&str], &str); 7] = [
     (HELP, ""),
 ];
 
-// The line on standard error if standard output didn't take all, and below it the status.
+// The line on standard error if standard output didn't take all.
 const UNWRITTEN: &str = "orc: write\n";
 
+// The status then.
 const UNWRITTEN_STATUS: u8 = 6;
 
-// Tries command lines over files in memory, and counts those that do what they have to.
+// Tries command lines over files in memory, and reports on them. The errors of its functions are refused memory, or a text that isn't UTF-8.
 #[derive(Drop)]
 struct Streams<'a, R> {
     rt: &'a R,
@@ -75,7 +78,7 @@ struct Streams<'a, R> {
 }
 
 impl<R: Threads + Wait + Sync> Streams<'_, R> {
-    // Notes a text that isn't the one it has to be.
+    // Notes a text that isn't the one it has to be; `what` are words that introduce it.
     fn expect(&mut self, what: &str, wanted: &str, got: &str) -> Result<(), AllocError> {
         if wanted == got {
             return Ok(());
@@ -101,7 +104,7 @@ impl<R: Threads + Wait + Sync> Streams<'_, R> {
         self.report.note("the status is", text.as_str())
     }
 
-    // Counts a command line, of which all was looked at.
+    // Counts a command line, of which all was looked at. `sentence` says what was tried.
     fn count(&mut self, sentence: &str, words: &[&str]) -> Result<(), AllocError> {
         let mut line = String::new(self.alloc);
         for word in words {
@@ -111,7 +114,7 @@ impl<R: Threads + Wait + Sync> Streams<'_, R> {
         self.report.count(sentence, line.as_str().trim_end())
     }
 
-    // Does a command line over the files and this standard output, which doesn't take all.
+    // Does a command line over the files and this standard output, which doesn't take all: the status and standard error have to say so.
     fn is_unwritten<W: Write>(&mut self, words: &[&str], out: &mut W) -> io::Result<()> {
         let (status, err) = orc_into(self.rt, self.alloc, words, &self.folder, out)?;
         self.expect_status(UNWRITTEN_STATUS, status)?;
@@ -120,7 +123,7 @@ impl<R: Threads + Wait + Sync> Streams<'_, R> {
     }
 
     // A writer takes one byte in each call, and fails at the first call, the second and so on, until it takes all. What it has is always a prefix of
-    // the text.
+    // the text, and the command says that the text wasn't written, except the last time.
     fn fails_at_each_call_of_a_writer(&mut self) -> io::Result<()> {
         for (words, text) in WHOLE.iter() {
             let whole = orc(self.rt, self.alloc, words, &self.folder)?;
@@ -128,6 +131,7 @@ impl<R: Threads + Wait + Sync> Streams<'_, R> {
                 self.expect("another text is written", text, whole.out.as_str())?;
             }
             let bytes = whole.out.as_bytes();
+            // Room for no byte, for one, and so on.
             for room in 0..bytes.len() {
                 let mut out = ShortWriter::new(self.alloc, room, 1);
                 self.is_unwritten(words, &mut out)?;
@@ -157,7 +161,7 @@ impl<R: Threads + Wait + Sync> Streams<'_, R> {
         Ok(())
     }
 
-    // A writer that takes 2 bytes and then fails has a prefix of the text, however many bytes it takes at once.
+    // A writer that takes 2 bytes and then fails has a prefix of the text, `123`, however many bytes it takes at once.
     fn fails_at_a_short_writer(&mut self) -> io::Result<()> {
         let words: &[&str] = &["orc", "run", "sum.orc"];
         for at_once in [1, 2, 10].iter() {
@@ -169,7 +173,8 @@ impl<R: Threads + Wait + Sync> Streams<'_, R> {
         Ok(())
     }
 
-    // Text that standard error doesn't take changes no status, whatever went wrong.
+    // Text that standard error doesn't take changes no status, whatever went wrong: a journal isn't a program (1), there is no file `b.orc` (6), and
+    // no file is named (2).
     fn keeps_its_status_without_standard_error(&mut self) -> io::Result<()> {
         let rows: [(&[&str], u8); 4] = [
             (&["orc", "run", "a.journal"], 1),
@@ -178,6 +183,7 @@ impl<R: Threads + Wait + Sync> Streams<'_, R> {
             (RUN, 0),
         ];
         for (words, wanted) in rows.iter() {
+            // It takes three bytes, less than any line on standard error, in two calls.
             let mut err = ShortWriter::new(self.alloc, 3, 2);
             let status = self.status_with(words, &mut err);
             self.expect_status(*wanted, status)?;
@@ -195,7 +201,9 @@ impl<R: Threads + Wait + Sync> Streams<'_, R> {
         command(self.rt, self.alloc, words, &mut files, &mut out, err)
     }
 
-    // A command reads FILE, JOURNAL and the script in this order, before it does anything else. Here each is empty, so that FILE is no program.
+    // A command reads FILE, JOURNAL and the script in this order, before it does anything else. Here each is empty, so that FILE is no program; but
+    // the line is that of the first file that can't be read, and the status that of its reason: 6, or 5 for memory. The number says how many can be
+    // read.
     fn blames_the_first_file_that_is_not_read(&mut self) -> io::Result<()> {
         let rows: [(&[&str], usize, &str); 6] = [
             (RUN, 0, "orc: read a.orc\n"),
@@ -212,7 +220,8 @@ impl<R: Threads + Wait + Sync> Streams<'_, R> {
         Ok(())
     }
 
-    // Tries a command line over files of which the first few can be read, and the next one can't, for this reason.
+    // Tries a command line over files of which the first `good` ones can be read, and the next one can't, for this reason. It has to write this line
+    // on standard error and end with the status `wanted`.
     fn is_unread(
         &mut self,
         words: &[&str],
@@ -232,20 +241,22 @@ impl<R: Threads + Wait + Sync> Streams<'_, R> {
         Ok(())
     }
 
-    // A check says the same of a journal whether it comes byte by byte or in larger pieces. If the journal can't be read to its end, it says that
-    // alone.
+    // A check says the same of a journal whether it comes byte by byte or in larger pieces, the largest longer than the journal. If the journal can't
+    // be read to its end, it says that alone.
     fn checks_a_journal_that_comes_in_pieces(&mut self) -> io::Result<()> {
         let bytes = JOURNAL.as_bytes();
         for at_once in [1, 2, 7, 1_000].iter() {
             self.is_checked(bytes, *at_once, usize::MAX, Ok(()), b"ok 1 Running\n")?;
         }
+        // The last one gives all bytes and fails where the journal's end should be.
         for good in 0..=bytes.len() {
             self.is_checked(bytes, 3, good, Err(Unchecked::Unread), b"")?;
         }
         Ok(())
     }
 
-    // Checks a journal that comes a few bytes at a time, from a file that fails once it has given `good` bytes in all.
+    // Checks a journal that comes at most `at_once` bytes at a time, from a file that fails once it has given `good` bytes in all. The answer has to
+    // be `wanted`, and `text` what the check writes.
     fn is_checked(
         &mut self,
         bytes: &[u8],
@@ -276,7 +287,7 @@ impl<R: Threads + Wait + Sync> Streams<'_, R> {
     }
 }
 
-/// Tries command lines over files and streams that fail.
+/// Tries command lines over files and streams that fail, and reports on them.
 pub fn try_streams<R: Threads + Wait + Sync>(rt: &R, alloc: Global) -> io::Result<Report> {
     let mut folder = Folder::new(alloc);
     for (name, text) in [

@@ -4,7 +4,7 @@ use std::alloc::Global;
 use std::io;
 use std::io::ErrorKind;
 
-/// How many columns a field's name has, with the blanks behind it.
+/// How many columns a field's name has, with the blanks behind it. Names are ASCII, so they are as many bytes.
 const NAME_WIDTH: usize = 10;
 
 /// A field of a row: its name, and its text, of one line or more.
@@ -14,10 +14,12 @@ pub struct Field<'a> {
     pub text: String,
 }
 
-/// A row: what it shows, and its fields.
+/// A row.
 #[derive(Drop)]
 pub struct Row<'a> {
+    /// What it shows: the last line `== ..` above it; empty if there is none.
     pub sentence: &'a str,
+    /// Its fields, in the order of the table.
     pub fields: Vec<Field<'a>>,
 }
 
@@ -29,7 +31,7 @@ impl<'a> Row<'a> {
         }
     }
 
-    /// The text of a field, if the row has it.
+    /// The text of the first field with this name. None if the row has none.
     pub fn field(&self, name: &str) -> Option<&str> {
         for field in &self.fields {
             if field.name == name {
@@ -39,11 +41,12 @@ impl<'a> Row<'a> {
         None
     }
 
+    /// Whether the row has a field with this name.
     pub fn has(&self, name: &str) -> bool {
         self.field(name).is_some()
     }
 
-    /// The name of a field of the row that isn't among `names`.
+    /// The name of the first field of the row that isn't among `names`, which a blank separates. None if all are.
     pub fn stranger(&self, names: &str) -> Option<&'a str> {
         for field in &self.fields {
             if !names.split(' ').any(|name| name == field.name) {
@@ -54,7 +57,7 @@ impl<'a> Row<'a> {
     }
 }
 
-// The error of a line that no row can have.
+// The error for a line that no row can have: it is shorter than a field's name with its blanks, or goes on a field before there is one.
 fn odd_line() -> io::Error {
     io::Error::from(ErrorKind::InvalidData)
 }
@@ -78,11 +81,12 @@ fn add_line<'a>(alloc: Global, row: &mut Row<'a>, line: &'a str) -> io::Result<(
     Ok(())
 }
 
-/// The rows of a table. A line that is none of a row's is an error.
+/// The rows of a table. The error is a line that no row can have, or refused memory.
 pub fn read_rows<'a>(alloc: Global, table: &'a str) -> io::Result<Vec<Row<'a>>> {
     let mut rows = Vec::new(alloc);
     let mut row = Row::new(alloc, "");
     for line in table.lines() {
+        // A remark.
         if line.starts_with("# ") {
             continue;
         }
@@ -91,11 +95,13 @@ pub fn read_rows<'a>(alloc: Global, table: &'a str) -> io::Result<Vec<Row<'a>>> 
         } else if !line.is_empty() {
             add_line(alloc, &mut row, line)?;
         } else if !row.fields.is_empty() {
+            // An empty line ends a row. The next one has the same sentence, until a line `== ..` gives another.
             let sentence = row.sentence;
             rows.push(row)?;
             row = Row::new(alloc, sentence);
         }
     }
+    // The last row, if no empty line ends it.
     if !row.fields.is_empty() {
         rows.push(row)?;
     }

@@ -1,4 +1,5 @@
-//! A row that is being tried, and what command lines over its files have to say.
+//! A row that is being tried, and what command lines over its files have to say. The errors of all functions are refused memory, or a text of the
+//! program that isn't UTF-8.
 
 use crate::folder::{Done, Folder, orc};
 use crate::report::Report;
@@ -28,10 +29,11 @@ const FILES: [(&str, &str); 5] = [
     ("journal", "a.journal"),
 ];
 
-/// The two ways in which a journal is drawn: options of `orc draw`.
+/// The two ways in which a journal is drawn, by two words of `orc draw` each: an SVG (`--theme dark`), and a text (`--text --all`).
 const DRAWN: [(&str, &str); 2] = [("--theme", "dark"), ("--text", "--all")];
 
-// The files of a row, as its fields spell them.
+// The files of a row, as its fields spell them. A row that gives no script has an empty one, and so it is with the script `instead`. The last line of
+// a journal has a LF in each case, which the field doesn't give.
 fn folder_of(alloc: Global, row: &Row) -> Result<Folder, AllocError> {
     let mut folder = Folder::new(alloc);
     folder.put("a.script", Vec::new(alloc))?;
@@ -49,6 +51,7 @@ fn folder_of(alloc: Global, row: &Row) -> Result<Folder, AllocError> {
 }
 
 impl<'a, R: Threads + Wait + Sync> Trial<'a, R> {
+    /// A row with its files, of which nothing was tried. The error is refused memory.
     pub fn new(rt: &'a R, alloc: Global, row: &'a Row<'a>) -> Result<Trial<'a, R>, AllocError> {
         Ok(Trial {
             rt,
@@ -59,7 +62,7 @@ impl<'a, R: Threads + Wait + Sync> Trial<'a, R> {
         })
     }
 
-    /// Does a command line over the row's files.
+    /// Does a command line over the row's files. `words` begin with the program's name.
     pub fn run(&self, words: &[&str]) -> io::Result<Done> {
         orc(self.rt, self.alloc, words, &self.folder)
     }
@@ -69,7 +72,7 @@ impl<'a, R: Threads + Wait + Sync> Trial<'a, R> {
         self.report.note(label, text)
     }
 
-    /// Notes a number that isn't what a field of the row says.
+    /// Notes a number that isn't what a field of the row says. Nothing is noted if the row hasn't this field.
     pub fn look_at_number(&mut self, field: &str, got: u64) -> Result<(), AllocError> {
         let Some(wanted) = self.row.field(field) else {
             return Ok(());
@@ -81,7 +84,7 @@ impl<'a, R: Threads + Wait + Sync> Trial<'a, R> {
         self.report.note(field, got.as_str())
     }
 
-    /// Counts the command line that was tried.
+    /// Counts the command line that was tried: as a failure if something was noted since the last count.
     pub fn count(&mut self, line: &str) -> Result<(), AllocError> {
         self.report.count(self.row.sentence, line)
     }
@@ -98,7 +101,8 @@ impl<'a, R: Threads + Wait + Sync> Trial<'a, R> {
         self.report.note("standard error", done.err.as_str())
     }
 
-    /// Runs a check of the journal, which has to say `wanted`.
+    /// Runs a check of the journal by the script in the file `script`, and notes it if it doesn't say `wanted`: with `ok ..` on standard output and
+    /// status 0, and with anything else on standard error and status 1. Gives what the check did.
     pub fn check(&mut self, wanted: &str, script: &str) -> io::Result<Done> {
         let words = ["orc", "check", "a.orc", "a.journal", "--script", script];
         let done = self.run(words.as_slice())?;
@@ -115,7 +119,7 @@ impl<'a, R: Threads + Wait + Sync> Trial<'a, R> {
         Ok(done)
     }
 
-    /// Has the journal drawn in two ways: the result has to be a picture, or the message `wanted`.
+    /// Has the journal drawn in two ways. If `wanted` is `a picture` something has to be drawn, else `wanted` is the message that refuses it.
     pub fn draw(&mut self, wanted: &str) -> io::Result<()> {
         for (kind, option) in DRAWN.iter() {
             let words = [

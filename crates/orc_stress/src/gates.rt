@@ -1,4 +1,5 @@
-//! Gates and sites for runs: they hold calls, or sleep, or only say that they may. A call passes the run's gate before a site makes it.
+//! Gates and sites for runs: they hold calls, or sleep, or only say that they may. A call passes the run's gate before a site makes it. If the gate
+//! says that it is open, and the sites that they go by the table, the engine calls neither; so these say no to at least one of both.
 
 use orc_rules::answers::Answers;
 use orc_site::{Gate, Request, Scripted, SiteCall, Sites};
@@ -26,11 +27,14 @@ impl Gate for Slow {
 #[derive(Drop)]
 pub struct Turnstile {
     wanted: u64,
+    // How many calls have come to the gate.
     entered: AtomicU64,
+    // How many of them gave up before there were `wanted`.
     ran_out: AtomicU64,
 }
 
 impl Turnstile {
+    /// A gate for one run, to which no call has come.
     pub fn new(wanted: u64) -> Turnstile {
         Turnstile {
             wanted,
@@ -39,7 +43,7 @@ impl Turnstile {
         }
     }
 
-    /// Whether no call gave up before the others came.
+    /// Whether each call that came was held until the others had come, and none gave up.
     pub fn held_all(&self) -> bool {
         self.ran_out.load(Ordering::SeqCst) == 0
     }
@@ -61,12 +65,14 @@ impl Gate for Turnstile {
     }
 }
 
-/// Sites that answer by the table; each call of one of them sleeps for some microseconds first.
+/// Sites that answer by the table; each call of `Ask` sleeps first, on the worker that makes it.
 #[derive(Drop)]
 pub struct Sleepy<'a, R: Clock> {
     rt: &'a R,
     scripted: Scripted<'a>,
+    // The number of the site `Ask`. None if the table has no such site: then no call sleeps.
     site: Option<u32>,
+    // How long a call sleeps, in microseconds.
     sleep: u64,
 }
 

@@ -27,7 +27,7 @@ use storm::{ALONE, ASKS, NAP, STORMS, Storm, run};
 /// How often each program is run if no argument says it.
 const ROUNDS: u32 = 3;
 
-/// The status of a command line whose first word is neither a number nor a program's name.
+/// The status of a command line whose first word is neither a number of rounds nor a program's name.
 const UNKNOWN: u8 = 2;
 
 // Whether a run ended as it has to, and its journal is accepted.
@@ -38,7 +38,7 @@ fn is_right(alloc: Global, storm: &Storm, played: Result<Played, EngineFault>) -
     }
 }
 
-// A run with sites that answer as the table says.
+// A run with sites that answer as the table says. The error is the engine's.
 fn run_scripted<R: Threads + Wait + Sync, G: Gate + Sync>(
     rt: &R,
     alloc: Global,
@@ -50,7 +50,8 @@ fn run_scripted<R: Threads + Wait + Sync, G: Gate + Sync>(
     run(rt, alloc, loaded, &sites, gate, workers)
 }
 
-// How many of `rounds` runs of a program on `workers` workers are odd; all if the program can't be loaded.
+// How many of `rounds` runs of a program on `workers` workers are odd; all if the program can't be loaded. `Slow` holds no call: it makes the workers
+// hold the tokens.
 fn count_odd<R: Threads + Wait + Sync>(
     rt: &R,
     alloc: Global,
@@ -105,7 +106,7 @@ fn run_all<R: Threads + Wait + Sync + Print>(rt: &R, alloc: Global, rounds: u32)
             )?;
         }
     }
-    // Programs that make as many calls in parallel as there are workers.
+    // Numbers of workers, and programs that make as many calls in parallel. Each worker has to make one of them while the gate holds the others.
     let held = [
         (2, b"Add(1, 2) | Add(3, 4)".as_slice()),
         (
@@ -128,7 +129,7 @@ fn run_all<R: Threads + Wait + Sync + Print>(rt: &R, alloc: Global, rounds: u32)
     Ok(())
 }
 
-// Writes how a run ended, and whether the check accepts its journal. It checks twice, since memory may be refused for the first check.
+// Writes how a run ended, and whether the check accepts its journal. It checks twice, since `checks/memory` may refuse memory for the first check.
 fn tell<R: Print>(
     rt: &R,
     alloc: Global,
@@ -149,7 +150,8 @@ fn tell<R: Print>(
     }
 }
 
-// How many microseconds each call of a program's site sleeps, if it does.
+// How many microseconds each call of the program's site `Ask` sleeps: a millisecond in `asks`, whose calls can sleep beside each other, and a second
+// in `nap`, during which `checks/storms` measures what idle workers cost. None if the program calls no site that sleeps.
 fn sleep_of(storm: &Storm) -> Option<u64> {
     if storm.name == ASKS.name {
         Some(1_000)
@@ -160,7 +162,8 @@ fn sleep_of(storm: &Storm) -> Option<u64> {
     }
 }
 
-// Runs one program `rounds` times on `workers` workers, and writes how each run ended.
+// Runs one program `rounds` times on `workers` workers, and writes how each run ended. A program that isn't loaded was refused memory: its texts are
+// right.
 fn run_one<R: Threads + Wait + Sync + Print + Clock>(
     rt: &R,
     alloc: Global,
@@ -185,7 +188,7 @@ fn run_one<R: Threads + Wait + Sync + Print + Clock>(
     Ok(())
 }
 
-// The program of this name; None if there is none.
+// The program with this name among all that there are. None if it has another name.
 fn storm_named(name: &str) -> Option<Storm> {
     for storm in &STORMS {
         if storm.name == name {
@@ -214,7 +217,7 @@ fn tell_names<R: Eprint>(rt: &R, alloc: Global, word: &str) -> io::Result<()> {
     eprintln!(rt; "orc_stress: {word} is no number of rounds, and none of{names}")
 }
 
-// The number in the argument at this place, or `otherwise` if there is no argument or it is no number.
+// The number in the word at this place, from 0, the program's own name; `otherwise` if there is no such word or it is no number.
 fn number_of(words: &[String], place: usize, otherwise: u32) -> u32 {
     match words.get(place) {
         Some(word) => word.parse::<u32>().unwrap_or(otherwise),

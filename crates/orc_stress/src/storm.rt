@@ -10,6 +10,7 @@ use std::alloc::Global;
 use std::sync::Wait;
 use std::thread::Threads;
 
+// The script of all storms. `Ask` may sleep (`Sleepy`), which takes no logical time.
 const SCRIPT: &[u8] = b"Never() = never\nSlow() = 1 after 3\nAsk() = 1\n";
 
 /// A program, and how its runs have to end.
@@ -18,13 +19,15 @@ pub struct Storm {
     pub name: &'static str,
     pub source: &'static [u8],
     pub end: End,
+    /// How many values a run publishes.
     pub published: u64,
-    /// The numbers that may be published; if the list is empty, any value.
+    /// The numbers of which each value has to be one; if the list is empty, any value will do.
     pub values: &'static [i64],
 }
 
 /// Programs of each kind: loops, races, fallbacks, fan-outs, calls that answer later.
 pub const STORMS: [Storm; 8] = [
+    // A tree of calls with 2^6 leaves, each of which publishes 0 + 1.
     Storm {
         name: "fan",
         source: b"def tree(n) = Lt(0, n) >b> (Iff(b) >> Add(n, 1) | Ift(b) >> Add(n, -1) >m> (tree(m) | tree(m)))\ntree(6)",
@@ -32,6 +35,7 @@ pub const STORMS: [Storm; 8] = [
         published: 64,
         values: &[1],
     },
+    // The same tree, whose leaves wait three units.
     Storm {
         name: "late",
         source: b"def tree(n) = Lt(0, n) >b> (Iff(b) >> Slow() | Ift(b) >> Add(n, -1) >m> (tree(m) | tree(m)))\ntree(6)",
@@ -39,6 +43,7 @@ pub const STORMS: [Storm; 8] = [
         published: 64,
         values: &[1],
     },
+    // Two loops of races, one of 50 rounds and one of 30: in each round `n` wins at once, and the bind cancels the calls beside it that were made.
     Storm {
         name: "race",
         source: b"def loop(n) = Lt(n, 50) >b> (Iff(b) >> n | Ift(b) >> (x <x< (n | Never() | Slow())) >> Add(n, 1) >m> loop(m))\nloop(0) | loop(20)",
@@ -46,6 +51,7 @@ pub const STORMS: [Storm; 8] = [
         published: 2,
         values: &[50],
     },
+    // Two loops of fallbacks, with a race of two late calls in each round; and a call without an answer, so that the run is quiet in the end.
     Storm {
         name: "mixed",
         source: b"def mix(n) = Lt(n, 30) >b> (Iff(b) >> n | Ift(b) >> ((Ift(false) ; (x <x< (Slow() | Slow()))) ; stop) >> Add(n, 1) >m> mix(m))\nmix(0) | mix(9) | Never()",
@@ -53,6 +59,7 @@ pub const STORMS: [Storm; 8] = [
         published: 2,
         values: &[30],
     },
+    // Two calls that open one left side of an otherwise inside the other until no more groups may be open.
     Storm {
         name: "deep",
         source: b"def f() = Add(1, 1) >> (f() ; 1)\nf() | f()",
@@ -68,7 +75,7 @@ pub const STORMS: [Storm; 8] = [
         published: 1,
         values: &[10],
     },
-    // Either wins.
+    // Either answer wins.
     Storm {
         name: "either",
         source: b"x <x< (Add(0, 1) | Add(0, 2))",
@@ -87,7 +94,7 @@ pub const STORMS: [Storm; 8] = [
     },
 ];
 
-/// 1,024 calls that are due at the same time.
+/// 1,024 calls (4 to the power of 5) that are due at the same time.
 pub const DUE: Storm = Storm {
     name: "due",
     source: b"def a() = Rwait(5) | Rwait(5) | (Rwait(5) | Rwait(5))\ndef b() = a() | a() | (a() | a())\ndef c() = b() | b() | (b() | b())\ndef d() = c() | c() | (c() | c())\nd() | d() | (d() | d())",
@@ -96,7 +103,7 @@ pub const DUE: Storm = Storm {
     values: &[],
 };
 
-/// Calls whose sites sleep.
+/// 256 calls (4 to the power of 4) whose site sleeps a millisecond.
 pub const ASKS: Storm = Storm {
     name: "asks",
     source: b"def a() = Ask() | Ask() | (Ask() | Ask())\ndef b() = a() | a() | (a() | a())\ndef c() = b() | b() | (b() | b())\nc() | c() | (c() | c())",
@@ -105,7 +112,7 @@ pub const ASKS: Storm = Storm {
     values: &[1],
 };
 
-/// One call, with nothing in parallel.
+/// One call, with nothing in parallel, whose site sleeps a second.
 pub const NAP: Storm = Storm {
     name: "nap",
     source: b"Ask()",
@@ -134,7 +141,7 @@ impl Storm {
         orc_load::load(alloc, self.source, SCRIPT)
     }
 
-    // Whether a value may be published.
+    // Whether a run may publish this value.
     fn may_publish(&self, value: &Value) -> bool {
         match value {
             Value::Number(number) => self.values.is_empty() || self.values.contains(number),
@@ -149,7 +156,7 @@ impl Storm {
             && played.published.iter().all(|value| self.may_publish(value))
     }
 
-    /// Whether the check accepts a run's journal.
+    /// Whether the check accepts a run's journal. False also if the run has none, or memory is refused.
     pub fn is_accepted(&self, alloc: Global, played: &Played) -> bool {
         let Ok(loaded) = self.load(alloc) else {
             return false;
@@ -161,7 +168,8 @@ impl Storm {
     }
 }
 
-/// Runs a program on `workers` workers with these sites and this gate, and keeps the journal.
+/// Runs a program on `workers` workers with these sites and this gate, and keeps the journal. The limit of 100,000 entries is more than any storm
+/// has.
 pub fn run<R, S, G>(
     rt: &R,
     alloc: Global,
