@@ -1,4 +1,5 @@
-//! Worked cases of tests: their ways (scripts that take one alternative of each service), and how the ranges of failing ways are written.
+//! Worked cases of tests: their ways (scripts that take one alternative of each service), and how the ranges of failing ways are written. The first
+//! alternative of a line is the usual one. The errors are refused memory.
 
 use orc_cases::Ways;
 use orc_rules::answers::Answers;
@@ -6,7 +7,7 @@ use orc_ways::read_test;
 use std::alloc::{AllocError, Global};
 use std::test::Fail;
 
-// The ways of a text's first case. None where the text is no test, or has too many.
+// The ways of a text's first case. None if the text is no test, or the case has too many ways.
 fn ways_of(alloc: Global, text: &[u8]) -> Result<Option<Ways>, AllocError> {
     let others = Answers::builtin(alloc)?;
     match read_test(alloc, text, &others) {
@@ -15,7 +16,8 @@ fn ways_of(alloc: Global, text: &[u8]) -> Result<Option<Ways>, AllocError> {
     }
 }
 
-// The scripts of the ways of a text's first case, each behind a line `way` and its unusual lines. Nothing where there are no ways.
+// The scripts of the ways of a text's first case, in order, each behind a line `way`, its unusual lines, and a line `-`. Empty where `ways_of` gives
+// None.
 fn scripts_of(alloc: Global, text: &[u8]) -> Result<Vec<u8>, AllocError> {
     let mut told = Vec::new(alloc);
     let Some(ways) = ways_of(alloc, text)? else {
@@ -31,7 +33,7 @@ fn scripts_of(alloc: Global, text: &[u8]) -> Result<Vec<u8>, AllocError> {
     Ok(told)
 }
 
-// Tests, and the ways of their first cases.
+// Tests, and the ways of their first cases: those with fewer unusual lines come first, and of these those with fewer unusual calls.
 const WAYS: [(&[u8], &[u8]); 4] = [
     (
         b"case c\nA(_) = 1 | 2 | never\nB(1, true) = 4 after 3 | halt after 7\n",
@@ -54,7 +56,7 @@ const WAYS: [(&[u8], &[u8]); 4] = [
         way\nA() = 2 then 1\nB() = 4\n-\nA() = 2 then 1\nB() = 4\n\
         way\nA() = 2 then 2\nB() = 4\n-\nA() = 2 then 2\nB() = 4\n",
     ),
-    // Ranges.
+    // Each number of a range is a way of its own. A delay of 0 isn't written.
     (
         b"case c\nA() = 1 after 0..1 then -2 after 5..6 | halt\n",
         b"way\nA() = 1 then -2 after 5\n-\nA() = 1 then -2 after 5\n\
@@ -79,7 +81,8 @@ fn a_case_has_its_ways_in_order(rt: HostRuntime) -> Result<(), Fail> {
     Ok(())
 }
 
-// Tests, and how many ways their first cases have: None where they are over a million.
+// Tests, and how many ways their first cases have: None where they are over a million. The third has one too many, the fourth 32 to the power of 4,
+// and the fifth 31 squared.
 const SIZES: [(&[u8], Option<u64>); 6] = [
     (b"case c\nA() = 1 after 0..9223372036854775807\n", None),
     (b"case c\nA() = 1 after 1..100\n", Some(100)),
@@ -104,6 +107,7 @@ fn a_case_has_so_many_ways(rt: HostRuntime) -> Result<(), Fail> {
     Ok(())
 }
 
+// Whether a script is one of these.
 fn is_among(scripts: &[&[u8]], wanted: &[u8]) -> bool {
     for script in scripts {
         if *script == wanted {
@@ -113,7 +117,7 @@ fn is_among(scripts: &[&[u8]], wanted: &[u8]) -> bool {
     false
 }
 
-// What is written of the ranges if the ways with these scripts fail. Nothing where there are no ways.
+// What is written of the ranges of the first way if the ways with these scripts fail. Empty where `ways_of` gives None.
 fn ranges_told(alloc: Global, text: &[u8], failing: &[&[u8]]) -> Result<Vec<u8>, AllocError> {
     let Some(ways) = ways_of(alloc, text)? else {
         return Ok(Vec::new(alloc));

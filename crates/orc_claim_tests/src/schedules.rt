@@ -19,17 +19,22 @@ const RACE: &[u8] = b"Rwait(1) >> 1 | Rwait(1) >> 2";
 enum Mark {
     // A wait is over, at time 1. If times make no difference to the claim, the search has time 0 in its place.
     Answer,
+    // This number is published.
     Published(i64),
 }
 
+// What a search for a run that breaks the claim has to answer.
 #[derive(Clone, Copy)]
 enum Wanted {
+    // No run breaks it.
     Holds,
     // A run that halts breaks the claim; this is all that is seen in it.
     Fails(&'static [Mark]),
+    // There are more states than the search may look at.
     TooMany,
 }
 
+// Whether a search has seen this. 0 is the number that claims have for `Rwait`, the first of `WAITS`.
 fn is_mark(seen: &Happening, mark: Mark) -> bool {
     match (&seen.what, mark) {
         (Occurrence::Call(0, _, Phase::Answered(_)), Mark::Answer) => seen.time <= 1,
@@ -38,6 +43,7 @@ fn is_mark(seen: &Happening, mark: Mark) -> bool {
     }
 }
 
+// Whether a search has answered this.
 fn is_wanted(found: &ClaimSearched, wanted: Wanted) -> bool {
     match (found, wanted) {
         (ClaimSearched::Holds(_), Wanted::Holds) => true,
@@ -51,6 +57,7 @@ fn is_wanted(found: &ClaimSearched, wanted: Wanted) -> bool {
                     .zip(marks.iter())
                     .all(|(one, mark)| is_mark(one, *mark))
         }
+        // Another answer, or one that no row wants.
         _ => false,
     }
 }
@@ -61,7 +68,8 @@ const WAITS: [ClaimSite; 1] = [ClaimSite {
     arguments: 1,
 }];
 
-// Claims about the race, how many states a search may look at, and what it has to answer.
+// Claims about the race, how many states a search may look at, and what it has to answer. The race has fewer than 1,000 states, and more than 3. A
+// search sees in a run only what its claim names.
 const CLAIMS: [(&[u8], usize, Wanted); 9] = [
     (
         b"always\nat most 1 Rwait(_) answered",
@@ -98,7 +106,8 @@ const CLAIMS: [(&[u8], usize, Wanted); 9] = [
     ),
 ];
 
-// What a separate search for the claim of a text answers. None where the text is no test with a claim.
+// What a separate search for the first claim of a text answers, through `most` states at most and in runs of up to 1,000 entries. None if the text is
+// no test with a claim.
 fn searched(
     alloc: Global,
     race: &Loaded,
@@ -117,6 +126,7 @@ fn searched(
     Ok(Some(found))
 }
 
+// Each search answers as its row says.
 #[test]
 fn a_claim_is_searched_for_in_every_schedule(rt: HostRuntime) -> Result<(), Fail> {
     let alloc = rt.alloc();
@@ -131,7 +141,7 @@ fn a_claim_is_searched_for_in_every_schedule(rt: HostRuntime) -> Result<(), Fail
     Ok(())
 }
 
-// What one explorer finds for three claims.
+// What one explorer finds for three claims, one after another. None if the text is no test with three claims, which doesn't come.
 fn searched_in_turn(
     alloc: Global,
     race: &Loaded,
@@ -152,6 +162,7 @@ fn searched_in_turn(
     Ok(Some([first, second, third]))
 }
 
+// It answers what separate searches do (`CLAIMS`): what it keeps of one search doesn't change the next.
 #[test]
 fn one_explorer_searches_for_many_claims(rt: HostRuntime) -> Result<(), Fail> {
     let race = load(rt.alloc(), RACE, b"").expect(&rt, "a program");

@@ -1,5 +1,6 @@
 //! Worked terms of a search through every schedule (`orc_search`). A term is a number there, and equal terms have equal numbers; so a test makes two
-//! terms that have to be the same, and compares numbers.
+//! terms that have to be the same, and compares numbers. Names are numbers, too: 5 and 6 here. Errors are refused memory, or a mistake in a row, such
+//! as a place that no term is at.
 
 use orc_rules::answers::Answers;
 use orc_rules::param::{Operand, Operands, Param};
@@ -20,24 +21,29 @@ const ONE: Value = Value::Number(1);
 // in.
 #[derive(Clone, Copy)]
 enum Make {
+    // `stop`.
     Nothing,
+    // A parameter, which is published.
     Gives(Param),
     // A call of site 7 with these two parameters.
     Asks(Param, Param),
-    // A pending call of site 7, which gives 1 after this time.
+    // A pending call of site 7 without arguments, which gives 1 after this time.
     Awaits(u64),
+    // The two terms at these places, the left and the right one, joined so.
     Pair(Joint, usize, usize),
+    // What the term at this place becomes by this change.
     Changed(Change, usize),
-    // What `f >5> g` becomes if f publishes 1 and becomes the second of these terms. The first one is g.
+    // What `f >5> g` becomes if f publishes 1: the places of g and of what f becomes.
     Fed(usize, usize),
 }
 
-// A call of site 7 with these two parameters.
+// The number of a call of site 7 with these two parameters, that isn't made yet.
 fn call(terms: &mut Terms, alloc: Global, p: Param, q: Param) -> Result<usize, AllocError> {
     let params = vec![in alloc; p, q]?;
     terms.number_of(Node::Tip(Tip::Asks(7, params)))
 }
 
+// The number of the terms with the numbers f and g, joined so.
 fn pair(terms: &mut Terms, joint: Joint, f: usize, g: usize) -> Result<usize, AllocError> {
     if f >= terms.len() || g >= terms.len() {
         return Err(AllocError);
@@ -45,7 +51,8 @@ fn pair(terms: &mut Terms, joint: Joint, f: usize, g: usize) -> Result<usize, Al
     terms.number_of(Node::Pair(joint, f, g))
 }
 
-// What the whole term becomes if the part in this frame publishes 1 and becomes that term. None if the whole publishes the 1, too.
+// The number of what the whole term becomes if the part in this frame (the left side of a `>x>` or a `;`) publishes 1 and becomes the term with the
+// number `to`. None if the whole publishes the 1, too.
 fn taken(
     terms: &mut Terms,
     alloc: Global,
@@ -66,7 +73,7 @@ fn taken(
     }
 }
 
-// The number of the term at a place.
+// The number of the term that was made at this place of a row, from 0.
 fn at(made: &[usize], place: usize) -> Result<usize, AllocError> {
     match made.get(place) {
         Some(number) => Ok(*number),
@@ -74,6 +81,7 @@ fn at(made: &[usize], place: usize) -> Result<usize, AllocError> {
     }
 }
 
+// The number of a term that is made so. `made` has the numbers of those before it in the row.
 fn number_of(
     terms: &mut Terms,
     alloc: Global,
@@ -98,6 +106,7 @@ fn number_of(
             changed(terms, alloc, change, root)
         }
         Make::Fed(right, left) => {
+            // None doesn't come: a `>x>` takes what its left side publishes.
             match taken(
                 terms,
                 alloc,
@@ -111,7 +120,7 @@ fn number_of(
     }
 }
 
-// The numbers of these terms.
+// The numbers of the terms of a row.
 fn numbers_of(terms: &mut Terms, alloc: Global, makes: &[Make]) -> Result<Vec<usize>, AllocError> {
     let mut made = Vec::new(alloc);
     for it in makes {
@@ -121,11 +130,14 @@ fn numbers_of(terms: &mut Terms, alloc: Global, makes: &[Make]) -> Result<Vec<us
     Ok(made)
 }
 
+// A call with the names 5 and 6.
 const NAMES: Make = Make::Asks(Param::Name(5), Param::Name(6));
 
+// The same call with 1 put for the name 5.
 const FILLED: Make = Make::Asks(Param::Is(ONE), Param::Name(6));
 
-// What a row shows, and terms of which the last two are the same.
+// What a row shows, and terms of which the last two are the same: one that the search makes by a change or a step, and what it has to be, written
+// out.
 const SAME: [(&str, &[Make]); 4] = [
     (
         "what is put for a name",
@@ -142,6 +154,7 @@ const SAME: [(&str, &[Make]); 4] = [
     ),
     (
         "cells behind a settled one move up",
+        // Inside the left side whose cell is 0, the pruning `f <c< stop` has the cell 1. Once 0 is void, f names void and 0.
         &[
             Make::Nothing,
             Make::Asks(Param::Cell(0), Param::Cell(1)),
@@ -165,6 +178,7 @@ const SAME: [(&str, &[Make]); 4] = [
     ),
     (
         "a right side takes what is published",
+        // `f >5> g` becomes `(stop >5> g) | g` with 1 put for 5 in the second g.
         &[
             Make::Nothing,
             NAMES,
@@ -176,6 +190,7 @@ const SAME: [(&str, &[Make]); 4] = [
     ),
 ];
 
+// In each row the last two terms have one number.
 #[test]
 fn terms_become_what_the_rules_say(rt: HostRuntime) -> Result<(), Fail> {
     for (name, makes) in SAME.iter() {
@@ -189,6 +204,7 @@ fn terms_become_what_the_rules_say(rt: HostRuntime) -> Result<(), Fail> {
     Ok(())
 }
 
+// Of two calls that are due after 3 and 5 units the first leaves 3, and nothing has halted.
 #[test]
 fn the_call_that_is_due_first_says_when_time_stops(rt: HostRuntime) -> Result<(), Fail> {
     let mut terms = Terms::new(rt.alloc());
@@ -203,6 +219,7 @@ fn the_call_that_is_due_first_says_when_time_stops(rt: HostRuntime) -> Result<()
     Ok(())
 }
 
+// The whole term publishes what the left side of a `;` publishes.
 #[test]
 fn the_first_side_of_an_otherwise_publishes_on(rt: HostRuntime) -> Result<(), Fail> {
     let mut terms = Terms::new(rt.alloc());
@@ -213,7 +230,7 @@ fn the_first_side_of_an_otherwise_publishes_on(rt: HostRuntime) -> Result<(), Fa
     Ok(())
 }
 
-// M(x, x) <x< 1
+// The program `M(x, x) <x< 1`, whose site M is 7 and whose name x is 5.
 fn program(alloc: Global) -> Result<Program, AllocError> {
     let mut nodes = Nodes::new(alloc);
     let mut operands = Operands::new();
@@ -226,6 +243,7 @@ fn program(alloc: Global) -> Result<Program, AllocError> {
     Ok(Program::new(nodes, Vec::new(alloc), main))
 }
 
+// The number of a program's main term is that of the same term, written out.
 #[test]
 fn a_program_has_its_terms(rt: HostRuntime) -> Result<(), Fail> {
     let alloc = rt.alloc();
@@ -245,7 +263,7 @@ fn a_program_has_its_terms(rt: HostRuntime) -> Result<(), Fail> {
     Ok(())
 }
 
-// All that a term may do before any call was made.
+// All that the term with the number `root` may do before any call was made.
 fn coming(
     terms: &mut Terms,
     alloc: Global,
@@ -262,10 +280,11 @@ fn coming(
     if root >= terms.len() {
         return Err(AllocError);
     }
+    // The empty list: no call was made.
     successors(terms, alloc, &source, &[], root)
 }
 
-// The number of the term after the only move, of which nothing is seen; an error where there is another.
+// The number of the term after the only move of the term `root`, of which nothing is seen. The error is also that there is another move, or none.
 fn after_silence(
     terms: &mut Terms,
     alloc: Global,
@@ -285,6 +304,7 @@ fn after_silence(
     }
 }
 
+// The pruning of `M(x, x) <x< 1` is opened, its cell is bound to 1, and only then M can be called, with 1 and 1.
 #[test]
 fn a_call_is_made_once_its_cell_is_bound(rt: HostRuntime) -> Result<(), Fail> {
     let alloc = rt.alloc();

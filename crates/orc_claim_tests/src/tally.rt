@@ -10,18 +10,19 @@ use orc_tally::{ClaimSite, Failure, Told, happenings_of, joined, noted, nothing_
 use std::alloc::{AllocError, Global};
 use std::test::Fail;
 
-// A claim that fails at happening 3 of a run, and one that holds and wasn't put to the test.
+// What a run says of a claim that fails at its happening 3.
 const FAILS: Judged = Judged {
     verdict: Verdict::FailsAt(3),
     tested: true,
 };
 
+// What a run says of a claim that holds and wasn't put to the test.
 const HOLDS: Judged = Judged {
     verdict: Verdict::Holds,
     tested: false,
 };
 
-// What a tally says of one claim before the first trial.
+// What a tally says of one claim before the first trial. The claim is `ends Halted`; what it says makes no difference here.
 fn nothing(alloc: Global) -> Result<Vec<Told>, AllocError> {
     let ends = Claim {
         conditions: Vec::new(alloc),
@@ -31,6 +32,7 @@ fn nothing(alloc: Global) -> Result<Vec<Told>, AllocError> {
     nothing_told(alloc, claims.as_slice())
 }
 
+// A way counts once, however many of its orders fail, and the first of these is kept.
 #[test]
 fn a_way_that_fails_twice_is_one_way(rt: HostRuntime) -> Result<(), Fail> {
     let alloc = rt.alloc();
@@ -50,6 +52,7 @@ fn a_way_that_fails_twice_is_one_way(rt: HostRuntime) -> Result<(), Fail> {
         tested: true,
     };
     assert_eq!(rt; told.first().copied(), Some(wanted));
+    // Two tallies of a way each have two failing ways together, and the first failure of the first one.
     let twice = joined(alloc, told.as_slice(), told.as_slice())?;
     assert_eq!(rt;
         twice.first().copied(),
@@ -64,6 +67,7 @@ fn a_way_that_fails_twice_is_one_way(rt: HostRuntime) -> Result<(), Fail> {
 
 const ONE: Value = Value::Number(1);
 
+// Site 7 as claims name it: with two arguments it has the number 0, with one argument 1.
 const SITES: [ClaimSite; 2] = [
     ClaimSite {
         site: 7,
@@ -75,8 +79,10 @@ const SITES: [ClaimSite; 2] = [
     },
 ];
 
-// The number that claims have for a site that is called with these arguments.
+// The number that claims have for a site of the program's table that is called with these arguments, as the only call of a journal shows. None if the
+// call isn't seen, which doesn't come.
 fn number_of(alloc: Global, site: u32, arguments: &[Value]) -> Result<Option<u32>, AllocError> {
+    // `push_call` requires this. No call here has so many.
     if arguments.len() > MOST_ARGUMENTS {
         return Err(AllocError);
     }
@@ -95,7 +101,8 @@ fn number_of(alloc: Global, site: u32, arguments: &[Value]) -> Result<Option<u32
     }
 }
 
-// How calls are made, by their site and how many arguments they have, and their numbers.
+// Calls by their site and how many arguments they have, and the numbers that claims have for them: 2, behind the last one, for each that no claim
+// names.
 const NUMBERS: [(u32, usize, u32); 4] = [(7, 1, 1), (7, 2, 0), (7, 3, 2), (8, 1, 2)];
 
 #[test]

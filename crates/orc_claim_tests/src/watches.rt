@@ -11,7 +11,7 @@ use orc_ways::test::Test;
 use std::alloc::{AllocError, Global};
 use std::test::Fail;
 
-// Reads a test with one claim. It is an error if the text is no test, or memory is refused.
+// Reads a test. It is an error if the text is no test, or memory is refused.
 fn test_of<'a>(alloc: Global, text: &'a [u8]) -> Result<Test<'a>, AllocError> {
     match read_test(alloc, text, &Answers::builtin(alloc)?) {
         Ok(test) => Ok(test),
@@ -29,7 +29,7 @@ fn watch_of(alloc: Global, text: &[u8]) -> Result<Option<Watch>, AllocError> {
 }
 
 // Claims, and for each the time from which on it makes no difference when something happens. None if a search can't watch for the claim: it is about
-// calls that pend at the same time, or asks for a cancel.
+// calls that pend at the same time, or asks for a cancel. Of `by 5` all times from 6 on are the same, and `within 5` tells all apart.
 const LATEST: [(&[u8], Option<u64>); 7] = [
     (b"always\nat most 5 Rwait(_) at once", None),
     (
@@ -50,7 +50,7 @@ const LATEST: [(&[u8], Option<u64>); 7] = [
     ),
 ];
 
-// The same of a claim whose time is the last one. No text has that.
+// The time from which on it makes no difference when something happens, for a claim whose time is the greatest, 2^64 - 1. No text has such a claim.
 fn latest_at_the_end(alloc: Global) -> Result<Option<u64>, AllocError> {
     let event = Event {
         alternatives: Vec::new(alloc),
@@ -74,13 +74,14 @@ fn times_are_told_apart_up_to_the_one_behind_that_of_the_claim(
     Ok(())
 }
 
-// What is kept of a call of the only site that a claim names.
+// A call of the only site that a claim names, whose number there is 0, with the argument 1; `phase` says what became of it.
 fn call(phase: Phase) -> Occurrence {
     let mut args = Args::new();
     args.push(Value::Number(1));
     Occurrence::Call(0, args, phase)
 }
 
+// The claim names calls that are made or halt, and nothing else.
 #[test]
 fn what_conditions_name_is_kept(rt: HostRuntime) -> Result<(), Fail> {
     let text = b"always\nif Rwait(_) halted then at most 1 Rwait(_)";
@@ -93,7 +94,7 @@ fn what_conditions_name_is_kept(rt: HostRuntime) -> Result<(), Fail> {
     Ok(())
 }
 
-// Whether a claim fails in a run that ends so, at this time, and calls the claim's site at those times.
+// Whether the first claim of a text fails in a run that ends so, at the time `now`, and calls the claim's site at the times `calls`.
 fn fails(
     alloc: Global,
     text: &[u8],
@@ -115,7 +116,8 @@ fn fails(
     }
 }
 
-// Claims, the end of a run, when it calls the claim's site, its last time, and whether the claim fails in it.
+// Claims, the end of a run, when it calls the claim's site, its last time, and whether the claim fails in it. An end just at the time that
+// a claim names is by that time.
 const ENDS: [(&[u8], End, &[u64], u64, bool); 5] = [
     (b"always\nat most 1 Rwait(_)", End::Halted, &[2], 5, false),
     (b"always\nat most 1 Rwait(_)", End::Quiet, &[2, 4], 5, true),

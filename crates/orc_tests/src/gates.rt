@@ -1,5 +1,8 @@
 //! Gates and sites for the tests of `run_pool`: they hold calls, answer otherwise than they should, or note what the engine reports to them. A call
-//! passes the gate once, before a site makes it.
+//! passes the gate once, before a site makes it. Sites and gates whose `goes_by_table` and `is_open` are both true aren't called; so each of these
+//! says no to one of them.
+//!
+//! The lines that begin with `ghost` are for the prover: which time was handed in last, when a call is due, and what it may answer.
 
 use futures::Future;
 use futures::task::{Context, Poll, Source, Waker};
@@ -12,18 +15,22 @@ use std::sync::atomic::{AtomicU64, Ordering};
 /// How often a gate looks before it gives up: some seconds, so that a run with a lost call ends.
 pub(crate) const LOOKS: u64 = 2_000_000_000;
 
-/// Holds the calls with the numbers from `first` to `last` until `wanted` calls have come to the gate, or it has looked `looks` times.
+/// Holds the calls with the numbers from `first` to `last` until `wanted` calls, held or not, have come to the gate, or until a call has looked for
+/// that `looks` times.
 #[derive(Drop)]
 pub(crate) struct Turnstile {
     first: u64,
     last: u64,
     wanted: u64,
     looks: u64,
+    // How many calls have come to the gate.
     entered: AtomicU64,
+    // How many of the held ones gave up.
     ran_out: AtomicU64,
 }
 
 impl Turnstile {
+    /// A turnstile that gives up after `LOOKS` looks.
     pub(crate) fn new(first: u64, last: u64, wanted: u64) -> Turnstile {
         Turnstile::that_looks(first, last, wanted, LOOKS)
     }
@@ -65,7 +72,7 @@ impl Gate for Turnstile {
     }
 }
 
-/// A gate that holds no call, but doesn't say so. So `run_pool` asks it for each call.
+/// A gate that holds no call, but doesn't say so. So `run_pool` asks it for each call, and runs the program on its workers.
 #[derive(Drop)]
 pub(crate) struct Slow;
 
@@ -80,9 +87,9 @@ impl Gate for Slow {
 /// How these sites differ from sites that go by the table.
 #[derive(Clone, Copy)]
 pub(crate) enum Twist<'a> {
-    /// They hold each call at this gate.
+    /// They hold each call at this gate while it is made.
     Held(&'a Turnstile),
-    /// They answer as if the call had no arguments.
+    /// They answer as if the call had no arguments: to a built-in site that is a halt.
     Value,
     /// They answer as if the call had been made two units later.
     Time,
@@ -120,6 +127,7 @@ impl<'a> Sites for Twisted<'a> {
 
     fn cancel(&self, _number: u64) {}
 
+    // With `Refused` no call waits; sites may say so all the same.
     fn may_wait(&self) -> bool {
         matches!(self.twist, Twist::Held(_) | Twist::Refused(_))
     }
@@ -143,6 +151,7 @@ pub(crate) enum Manner {
 pub(crate) struct OddCall<'a> {
     call: SiteCall<'a>,
     manner: Manner,
+    // Where a call that stays pending waits, and who polled it. Nothing wakes it.
     source: Source,
     waker: Option<Waker>,
 }
@@ -213,7 +222,7 @@ impl<'a> Sites for Odd<'a> {
     }
 }
 
-// What is noted of a call.
+// What is noted of a call: how often it passed the gate, was made, and was cancelled.
 #[derive(Drop)]
 struct Note {
     passed: AtomicU64,
@@ -221,7 +230,7 @@ struct Note {
     cancelled: AtomicU64,
 }
 
-/// How often a call passed the gate, was made, and was cancelled.
+/// What a note says at one moment.
 #[derive(Clone, Copy, PartialEq, Eq)]
 pub(crate) struct Counts {
     pub(crate) passed: u64,
@@ -229,14 +238,17 @@ pub(crate) struct Counts {
     pub(crate) cancelled: u64,
 }
 
-/// Notes how often each call passes the gate, is made and is cancelled, by its number; the last one stands for all greater numbers.
+/// Notes how often each call passes the gate, is made and is cancelled.
 #[derive(Drop)]
 pub(crate) struct Board {
+    // By the calls' numbers; no call has number 0. The last one is for all greater numbers, too.
     notes: Vec<Note>,
+    // How many calls were held and gave up before they were cancelled.
     ran_out: AtomicU64,
 }
 
 impl Board {
+    /// A board with a note for each number up to `calls`. The error is refused memory.
     pub(crate) fn new(alloc: Global, calls: u64) -> Result<Board, AllocError> {
         let mut notes = Vec::new(alloc);
         for _ in 0..calls.saturating_add(1) {
@@ -252,11 +264,13 @@ impl Board {
         })
     }
 
+    // The note on the call with this number. There is one for each number, so None doesn't come.
     fn note(&self, number: u64) -> Option<&Note> {
         let last = self.notes.len().saturating_sub(1);
         self.notes.get(last.min(number as usize))
     }
 
+    /// What is noted of the call with this number so far.
     pub(crate) fn counts(&self, number: u64) -> Counts {
         match self.note(number) {
             Some(note) => Counts {
@@ -272,11 +286,12 @@ impl Board {
         }
     }
 
+    // Whether the cancel of the call with this number was reported.
     fn is_gone(&self, number: u64) -> bool {
         self.counts(number).cancelled > 0
     }
 
-    // Waits until a call is cancelled.
+    // Waits until the cancel of the call with this number is reported, or gives up after `LOOKS` looks.
     fn hold(&self, number: u64) {
         for _ in 0..LOOKS {
             if self.is_gone(number) {
@@ -286,7 +301,7 @@ impl Board {
         self.ran_out.fetch_add(1, Ordering::SeqCst);
     }
 
-    /// Whether each call that was held was cancelled then.
+    /// Whether each call that was held was cancelled before it gave up.
     pub(crate) fn held_all(&self) -> bool {
         self.ran_out.load(Ordering::SeqCst) == 0
     }
@@ -295,11 +310,13 @@ impl Board {
 /// Where call 1 is held until its cancel is reported.
 #[derive(Clone, Copy, PartialEq, Eq)]
 pub(crate) enum Hold {
+    /// It isn't held.
     Nowhere,
+    /// While it passes the gate.
     Gate,
     /// While it is made.
     Call,
-    /// While it is polled, after it was made.
+    /// While it is polled, after it was made, if it is due then.
     Poll,
 }
 
@@ -309,7 +326,7 @@ pub(crate) struct Noting<'a> {
     pub(crate) answers: &'a Answers,
     pub(crate) board: &'a Board,
     pub(crate) hold: Hold,
-    /// Whether a cancelled call still answers.
+    /// Whether a cancelled call still answers. Otherwise it stays pending.
     pub(crate) answers_late: bool,
 }
 
@@ -367,14 +384,19 @@ pub(crate) struct NotedCall<'a> {
     call: SiteCall<'a>,
     number: u64,
     board: &'a Board,
+    // Whether a poll holds it until it is cancelled, if it is due.
     holds: bool,
+    // Whether it still answers if it was cancelled.
     answers_late: bool,
+    // The latest logical time that was handed in, at first that at which the call was made.
     now: u64,
+    // Where a call that stays pending waits, and who polled it. Nothing wakes it.
     source: Source,
     waker: Option<Waker>,
 }
 
 impl NotedCall<'_> {
+    // Whether the call is due at the latest time that was handed in.
     fn is_due(&self) -> bool {
         match self.call.due() {
             Due::At(time) => time <= self.now,

@@ -15,9 +15,11 @@ use std::sync::Wait;
 use std::test::Fail;
 use std::thread::Threads;
 
+// The script of all runs here but those of `by_twisted`, which have none.
 const NEVER: &[u8] = b"Never() = never\n";
 
-// Makes a run with sites that differ from those of the table. None if the text is no program.
+// Makes a run with sites that differ from those of the table in this way, and gives its result. None if the text is no program. The limit of 1,000
+// entries is far more than the runs have.
 fn by_twisted<R: Threads + Wait + Sync, G: Gate + Sync>(
     rt: &R,
     alloc: Global,
@@ -36,7 +38,8 @@ fn by_twisted<R: Threads + Wait + Sync, G: Gate + Sync>(
     Some(run_pool(rt, alloc, program, answers, &sites, gate, options))
 }
 
-// Programs, and how the sites answer their call as if it were another one.
+// Programs, and how the sites answer their call as if it were another one. `Add` and `Rwait` without arguments halt, where the table has a value; a
+// later call is due at another time, and a call at the greatest time never.
 const LIES: [(&[u8], Twist<'static>); 4] = [
     (b"Add(1, 1)", Twist::Value),
     (b"Rwait(1) >> 1", Twist::Value),
@@ -44,6 +47,7 @@ const LIES: [(&[u8], Twist<'static>); 4] = [
     (b"Rwait(1) >> 1", Twist::Never),
 ];
 
+// Each run ends with the fault that call 1 was answered otherwise than the table says.
 #[test]
 fn answers_of_other_calls_are_found(rt: HostRuntime) {
     for (source, twist) in LIES.iter() {
@@ -75,7 +79,8 @@ fn by_odd<R: Threads + Wait + Sync>(
     Some(run_pool(rt, alloc, program, answers, &sites, &Open, options))
 }
 
-// Programs, and what their calls answer in place of the table's answers.
+// Programs, and what their calls answer in place of the table's answers: 2 at once, or a signal after 1 or 7 units. In the last two the other call is
+// never due.
 const SILENT: [(&[u8], Manner); 6] = [
     (b"Add(1, 1)", Manner::Zero),
     (b"Add(1, 1)", Manner::Nothing),
@@ -85,6 +90,7 @@ const SILENT: [(&[u8], Manner); 6] = [
     (b"Rwait(7) | Never()", Manner::Nothing),
 ];
 
+// Each run ends with the fault that call 1 was answered otherwise than the table says, or not when it was due.
 #[test]
 fn calls_that_answer_zero_or_nothing_are_found(rt: HostRuntime) {
     for workers in [1, 2, 4, 16] {
@@ -111,14 +117,15 @@ const MADE: Counts = Counts {
     cancelled: 0,
 };
 
-// The same, and its cancel was reported once.
+// A call that passed the gate and was made, and whose cancel was reported, each once.
 const MADE_AND_CANCELLED: Counts = Counts {
     passed: 1,
     made: 1,
     cancelled: 1,
 };
 
-// Whether each call of a journal passed the gate and was made once, and just those that it cancels were reported as cancelled, once each.
+// Whether each call of a journal passed the gate and was made once, and just those that it cancels were reported as cancelled, once each. If each
+// call that the journal cancels was reported, and as many calls were reported as it cancels, no other call was.
 fn are_told(board: &Board, journal: &Journal) -> bool {
     let (mut calls, mut cancels) = (0u64, 0u64);
     for at in 0..journal.len() {
@@ -127,10 +134,13 @@ fn are_told(board: &Board, journal: &Journal) -> bool {
             Some(Entry::Cancel(number)) if board.counts(number) == MADE_AND_CANCELLED => {
                 cancels = cancels.saturating_add(1);
             }
+            // A cancel that wasn't reported, or more than once.
             Some(Entry::Cancel(_)) => return false,
+            // Other entries bear on no call's counts.
             _ => {}
         }
     }
+    // Calls are numbered from 1.
     for number in 1..calls.saturating_add(1) {
         let counts = board.counts(number);
         if counts == MADE_AND_CANCELLED && cancels > 0 {
@@ -142,7 +152,8 @@ fn are_told(board: &Board, journal: &Journal) -> bool {
     cancels == 0
 }
 
-// Makes a run whose sites and gate note on the board what the engine reports to them. None if it ends with a fault, or the text is no program.
+// Makes a run whose sites and gate note on the board what the engine reports to them. `hold` says where call 1 is held until it is cancelled, and
+// `answers_late` whether a cancelled call still answers. None if the run ends with a fault, or the text is no program.
 fn noted<R: Threads + Wait + Sync>(
     rt: &R,
     alloc: Global,
@@ -164,8 +175,8 @@ fn noted<R: Threads + Wait + Sync>(
     run_pool(rt, alloc, program, answers, &sites, &sites, options).ok()
 }
 
-// Whether a run halts, its journal is accepted, and its sites get each call and cancel. The board has room for more calls than a program of `TOLD`
-// makes.
+// Whether a run halts, its journal is accepted, and its sites get each call and cancel. The board has a note for each call: no program of `TOLD`
+// makes 200.
 fn is_told<R: Threads + Wait + Sync>(
     rt: &R,
     alloc: Global,
@@ -194,6 +205,7 @@ const TOLD: [&[u8]; 6] = [
     b"(x <x< (Add(1, 1) | Add(2, 2) | Add(3, 3))) | (y <y< (Add(4, 4) | Add(5, 5)))",
 ];
 
+// On one worker and on several, the sites get each call and each cancel once.
 #[test]
 fn sites_are_told_of_each_call_and_cancel(rt: HostRuntime) -> Result<(), Fail> {
     for source in TOLD.iter() {
@@ -213,7 +225,8 @@ fn halts_with(played: &Played, number: i64) -> bool {
         && played.published.as_slice() == [Value::Number(number)].as_slice()
 }
 
-// Whether a run in which call 1 is held until its cancel is reported halts, and publishes 4 alone.
+// Whether a run in which call 1 is held until its cancel is reported halts, and publishes 4 alone. The board's 20 notes are more than the runs have
+// calls.
 fn counts_no_more<R: Threads + Wait + Sync>(
     rt: &R,
     alloc: Global,
@@ -231,9 +244,9 @@ fn counts_no_more<R: Threads + Wait + Sync>(
     }
 }
 
-// Programs that publish 4 alone if call 1 is held until it is cancelled.
+// Programs that publish 4 alone if call 1 is held until it is cancelled: call 1 is in the branch that would publish another value.
 const CANCELLED: [&[u8]; 3] = [
-    // Polled at once, and polled again when both are due.
+    // The call is polled at once; in the second program it is polled again when both are due.
     b"x <x< (Add(1, 1) | Add(2, 2))",
     b"x <x< (Rwait(1) >> 1 | Rwait(1) >> 4)",
     b"x <x< (Add(1, 1) | Rwait(0) >> (y <y< (Add(2, 2) | Rwait(1))))",
@@ -255,6 +268,7 @@ const HOLDS: [(Hold, bool); 6] = [
 fn a_call_that_was_cancelled_counts_no_more(rt: HostRuntime) -> Result<(), Fail> {
     for source in CANCELLED.iter() {
         for (hold, answers_late) in HOLDS.iter() {
+            // One worker could make no other call while it holds this one.
             for workers in [2, 4, 16] {
                 assert!(rt;
                     counts_no_more(&rt, rt.alloc(), source, *hold, *answers_late, workers)?,
@@ -266,14 +280,15 @@ fn a_call_that_was_cancelled_counts_no_more(rt: HostRuntime) -> Result<(), Fail>
     Ok(())
 }
 
-// How many races come one after another, and how many calls have to come until the gate opens. A race has four to six calls, and two calls come
-// before the races: so it opens after 2,099 races at least, and it opens before the run ends.
+// How many races come one after another.
 const RACES: i64 = 3_200;
 
+// How many calls have to come until the gate opens. A race has four to six calls, and two calls come before the races: so it opens after 2,099 races
+// at least, and, since 3,200 races have 12,800 calls at least, before the run ends.
 const OPENS_AT: u64 = 12_600;
 
 // Call 1 is in a side that is dropped at once. It is held while more groups are dropped than there are words of groups, 2,048: their words must
-// become free all the same. A race has at most 25 entries.
+// become free all the same. A race has at most 25 entries, so the limit of 100,000 isn't reached.
 fn takes_no_group<R: Threads + Wait + Sync>(rt: &R, alloc: Global, workers: usize) -> bool {
     let source =
         b"def loop(n) = Lt(n, 3200) >b> (Iff(b) >> n | Ift(b) >> (x <x< (n | Never() | Rwait(5))) >> Add(n, 1) >m> loop(m))
@@ -288,6 +303,7 @@ fn takes_no_group<R: Threads + Wait + Sync>(rt: &R, alloc: Global, workers: usiz
     }
 }
 
+// The run publishes how many races there were, and the held call didn't give up.
 #[test]
 fn a_held_call_takes_no_group(rt: HostRuntime) {
     for workers in [2, 4, 16] {
@@ -324,6 +340,7 @@ fn ends_refused<R: Threads + Wait + Sync>(
     is_accepted(alloc, source, b"", &run) && (is_late || run.summary.end == End::Memory)
 }
 
+// Whichever of the five calls is refused memory, the run ends so, and its journal is accepted.
 #[test]
 fn sites_may_be_refused_memory(rt: HostRuntime) {
     for workers in [1, 2, 4, 16] {

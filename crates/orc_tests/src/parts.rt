@@ -23,7 +23,7 @@ use std::thread::Threads;
 // How many tasks go through the queues.
 const TASKS: u64 = 10_000;
 
-// Whether each of five calls of `take` gave a pass: a pass is given back before the fourth.
+// Whether each of five calls of `take` gave a pass. The first pass is given back before the fourth.
 fn takes<J: Naming>(made: Unnamed) -> [bool; 5]
     requires { made.table.shared.table_id ≡ J.table }
 {
@@ -40,6 +40,7 @@ fn takes<J: Naming>(made: Unnamed) -> [bool; 5]
     [took[0], took[1], took[2], fourth.is_some(), fifth.is_some()]
 }
 
+// The third call finds none; the fourth gets the one that came back, and the fifth finds none.
 #[test]
 fn a_supply_of_two_gives_two(rt: HostRuntime) -> Result<(), Fail> {
     let made = Unnamed::new(rt.alloc(), 1, 2)?;
@@ -94,7 +95,7 @@ fn a_group_is_opened_anew_once_all_have_left(rt: HostRuntime) -> Result<(), Fail
     Ok(())
 }
 
-// Whether the mark was won, and whether the pass was the last.
+// Has a pass try to win the mark *killed* of its group, and leaves it: whether it won the mark, and whether it was the group's last pass.
 fn mark_and_leave<J: Naming>(groups: &Groups<J>, pass: Pass<J>) -> (bool, bool)
     requires { IsSome (group_of pass) }
 {
@@ -120,7 +121,8 @@ where
     one.0 != two.0 && one.1 != two.1
 }
 
-// In how many of a hundred rounds one of two threads won the mark, and one was the last.
+// In how many of a hundred rounds just one of two threads won the mark, and just one was the last. The supply needs two passes for each round, since
+// none is given back.
 fn rounds<J, R>(rt: &R, made: Unnamed) -> Option<u32>
 where
     J: Naming + Send + Sync,
@@ -146,6 +148,8 @@ fn one_of_two_threads_wins_and_one_is_last(rt: HostRuntime) -> Result<(), Fail> 
     Ok(())
 }
 
+// There are two queues, 0 and 1: the end of queue 1 is given once, and there is no queue 2. Of the tasks 1 to 4 a theft takes the first, a pop the
+// last.
 #[test]
 fn what_was_pushed_last_is_popped_and_what_was_first_is_stolen(
     rt: HostRuntime,
@@ -170,7 +174,8 @@ fn what_was_pushed_last_is_popped_and_what_was_first_is_stolen(
     Ok(())
 }
 
-// Steals until the owner is done and the queue is empty, and gives what was stolen.
+// Steals until the owner is done and the queue is empty, and gives what was stolen. Whether the owner is done is read before each theft: nothing
+// comes into the queue afterwards, so a theft that finds nothing then is the last one.
 fn steal_all(
     rt: &impl Wait,
     alloc: Global,
@@ -189,7 +194,7 @@ fn steal_all(
     Ok(stolen)
 }
 
-// Pushes all tasks, pops some of them in between, and then pops what is left.
+// The owner pushes all tasks, pops one after every third, and in the end pops what is left. Gives what it popped, and what its queue had no room for.
 fn push_all(alloc: Global, mut own: Own<u64>, done: &AtomicU64) -> Result<Vec<u64>, AllocError> {
     let mut kept = Vec::new(alloc);
     for task in 0..TASKS {
@@ -210,7 +215,7 @@ fn push_all(alloc: Global, mut own: Own<u64>, done: &AtomicU64) -> Result<Vec<u6
     Ok(kept)
 }
 
-// What the owner of a queue kept, and what each of two other threads stole.
+// What the owner of a queue kept, and what each of two other threads stole. The error is refused memory.
 fn share_out(
     rt: &(impl Threads + Wait + Sync),
     alloc: Global,
@@ -234,6 +239,7 @@ fn share_out(
     Ok([kept?, one?, two?])
 }
 
+// All tasks together, sorted, are 0, 1, 2 and so on.
 #[test]
 fn each_task_comes_out_once(rt: HostRuntime) -> Result<(), Fail> {
     let mut queues = Queues::<u64>::new(rt.alloc(), 1)?;
@@ -256,6 +262,8 @@ fn each_task_comes_out_once(rt: HostRuntime) -> Result<(), Fail> {
     Ok(())
 }
 
+// The second worker has the tasks 1 to 4 and the third one 9. Each takes its own last task first, and else the first task of another, the next
+// worker's before the others'.
 #[test]
 fn a_worker_takes_its_own_tasks_and_then_those_of_the_others(rt: HostRuntime) -> Result<(), Fail> {
     let mut dealt = worker_queues::<u32>(rt.alloc(), 3)?;
@@ -292,7 +300,7 @@ fn a_worker_takes_its_own_tasks_and_then_those_of_the_others(rt: HostRuntime) ->
     Ok(())
 }
 
-// Each task that the worker finds grows by one.
+// Each task that the worker finds grows by one, until it finds none. There are `TASKS`, so the loop has turns enough.
 fn grow_all(worker_queue: &mut WorkerQueue<&mut u64>) {
     for _ in 0..TASKS {
         let Some(task) = worker_queue.next() else {
@@ -310,13 +318,14 @@ fn dealt_to_one<'t>(
     let mut dealt = worker_queues(alloc, 4)?;
     for task in tasks.iter_mut() {
         if let Some(worker_queue) = dealt.get_mut(0) {
+            // A task that the queue has no room for is dropped: it doesn't grow, so the test fails.
             let _full = worker_queue.push(task);
         }
     }
     Ok(dealt)
 }
 
-// Each of the tasks grows by one, on four threads.
+// Has four workers, on four threads, do all tasks: each grows by one. The error is refused memory.
 fn grow_on_four<R: Threads + Sync>(
     rt: &R,
     alloc: Global,
@@ -332,6 +341,7 @@ fn grow_on_four<R: Threads + Sync>(
     Ok(())
 }
 
+// The tasks are 0, 1, 2 and so on, and 1, 2, 3 and so on afterwards.
 #[test]
 fn each_task_is_done_once_by_four_workers(rt: HostRuntime) -> Result<(), Fail> {
     let mut tasks = Vec::new(rt.alloc());
@@ -347,6 +357,7 @@ fn each_task_is_done_once_by_four_workers(rt: HostRuntime) -> Result<(), Fail> {
     Ok(())
 }
 
+// A cell has two names. The second bind, by the other name, gives its box back, and both names read what the first one has put there.
 #[test]
 fn a_cell_is_bound_once(rt: HostRuntime) -> Result<(), Fail> {
     let alloc = rt.alloc();
@@ -364,6 +375,7 @@ fn a_cell_is_bound_once(rt: HostRuntime) -> Result<(), Fail> {
     assert_eq!(rt; cell.read(&mut note), Some(&one));
     let mut other = shared.note();
     assert_eq!(rt; shared.read(&mut other), Some(&one));
+    // A law: two notes of one cell that have read have read the same. Nothing runs.
     note.agree(other);
     Ok(())
 }
@@ -391,7 +403,7 @@ fn a_bind_reads(rt: HostRuntime) -> Result<(), Fail> {
     Ok(())
 }
 
-// A call of `Rwait` with this delay that is made at this time.
+// A call of `Rwait` with this delay that is made at this time. None doesn't come: the site is built in.
 fn rwait<'a>(
     answers: &'a Answers,
     delay: i64,
@@ -423,7 +435,8 @@ fn poll(solo: &Solo, call: &mut SiteCall<'_>) -> Option<Answer> {
     }
 }
 
-// Moments in the order in which they are handed in, and whether a call is due then that is due at 8.
+// Moments in the order in which they are handed in, and whether a call has an answer then that is due at 8. An earlier moment than the greatest so
+// far is ignored, so the call keeps its answer at 3.
 const MOMENTS: [(u64, bool); 5] = [(7, false), (6, false), (8, true), (3, true), (9, true)];
 
 #[test]
@@ -443,6 +456,7 @@ fn a_call_is_ready_from_its_due_time_on(rt: HostRuntime) -> Result<(), Fail> {
     Ok(())
 }
 
+// The greatest time is 2^64 - 1. A call that is made then and due at once has its answer; one that would be due later never has.
 #[test]
 fn a_time_over_the_greatest_never_comes(rt: HostRuntime) -> Result<(), Fail> {
     let answers = Answers::builtin(rt.alloc())?;

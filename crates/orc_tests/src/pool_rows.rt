@@ -1,6 +1,6 @@
 //! Worked programs on 1, 2, 4 and 16 workers, each twice. With an open gate `run_pool` makes the run as `run_parallel` does; with one that may hold
 //! calls the workers hold the run's tokens. A row says what the program publishes, how it ends, after how many entries and when; and a check has to
-//! accept the journal.
+//! accept the journal. What a row wants follows from Orc's rules, and from the limits in `orc_rules::limits`.
 
 use crate::gates::Slow;
 use crate::pools::{play, state_of};
@@ -30,6 +30,7 @@ enum Published {
 struct Worked {
     source: &'static [u8],
     script: &'static [u8],
+    /// The most entries of its journal, cancels not counted.
     limit: u64,
     end: End,
     published: Published,
@@ -78,7 +79,7 @@ fn state_after(end: End) -> State {
     }
 }
 
-// Whether a check accepts a run's journal, and agrees with the run on its length and its end.
+// Whether a check accepts a run's journal, and agrees with the run on its length and its end. False if the run has no journal.
 fn is_confirmed(alloc: Global, source: &[u8], script: &[u8], played: &Played) -> bool {
     match &played.journal {
         Some(journal) => {
@@ -101,7 +102,7 @@ fn may_be(alloc: Global, row: &Worked, played: &Played) -> Result<bool, AllocErr
     )
 }
 
-// Whether the row allows its run on `workers` workers.
+// Whether the row allows its run on `workers` workers. False also if its texts are no program, or the run fails.
 fn runs<R: Threads + Wait + Sync, G: Gate + Sync>(
     rt: &R,
     alloc: Global,
@@ -118,7 +119,7 @@ fn runs<R: Threads + Wait + Sync, G: Gate + Sync>(
     }
 }
 
-// A number of workers on which the row doesn't allow its run, with an open gate or with one that may hold calls.
+// The least number of workers on which the row doesn't allow its run, with an open gate or with one that may hold calls. None if there is none.
 fn fault_of<R: Threads + Wait + Sync>(
     rt: &R,
     alloc: Global,
@@ -132,7 +133,8 @@ fn fault_of<R: Threads + Wait + Sync>(
     Ok(None)
 }
 
-// The source of the first row that doesn't allow its run, and the number of workers of that run.
+// The source of the first row that doesn't allow its run, and the number of workers of that run. None if each allows its runs. The error is refused
+// memory.
 fn first_fault<R: Threads + Wait + Sync>(
     rt: &R,
     alloc: Global,
@@ -146,7 +148,8 @@ fn first_fault<R: Threads + Wait + Sync>(
     Ok(None)
 }
 
-// What most rows say: a program without a script, which halts at time 0. It gives the fields that a row doesn't name.
+// What most rows say: a program without a script, which halts at time 0 and publishes nothing; its limit isn't reached. It gives the fields that a
+// row doesn't name.
 const AT_ONCE: Worked = Worked {
     source: b"",
     script: b"",
@@ -157,6 +160,7 @@ const AT_ONCE: Worked = Worked {
     now: Some(0),
 };
 
+// Programs that need no time, for each operator, definitions and the range of numbers. A row that gives `entries` has the same number in each order.
 const TERMS: [Worked; 20] = [
     Worked {
         source: b"1",
@@ -273,13 +277,16 @@ const TERMS: [Worked; 20] = [
     },
 ];
 
+// Here and below each row allows each of its runs.
 #[test]
 fn works_terms_and_cells(rt: HostRuntime) -> Result<(), Fail> {
     assert_eq!(rt; first_fault(&rt, rt.alloc(), &TERMS)?, None);
     Ok(())
 }
 
+// Programs in which time passes.
 const TIMES: [Worked; 9] = [
+    // The answer at time 1 wins. Of the 12 entries one is the cancel of the other call.
     Worked {
         source: b"x <x< (Rwait(2) >> 20 | Rwait(1) >> 10)",
         published: Published::Are(&[10]),
@@ -309,7 +316,7 @@ const TIMES: [Worked; 9] = [
         now: Some(3),
         ..AT_ONCE
     },
-    // The greatest time is 2^64 - 1, and a call that would be due after it is never due.
+    // The greatest time is 2^64 - 1, and a call that would be due after it is never due. The first two waits of 2^63 - 1 units lead to 2^64 - 2.
     Worked {
         source: b"Rwait(9223372036854775807) >> Rwait(9223372036854775807) >> Rwait(1) >> 1",
         published: Published::Are(&[1]),
@@ -351,7 +358,9 @@ fn works_in_time(rt: HostRuntime) -> Result<(), Fail> {
     Ok(())
 }
 
+// Programs whose scripts say more than one answer, or by arguments.
 const SCRIPTS: [Worked; 7] = [
+    // The right call halts at once, so 6 comes before 5.
     Worked {
         source: b"Pair(1, 9) | (Pair(2, 9) ; 6)",
         script: b"Pair(1, _) = 5 after 2\nPair(_, _) = halt\n",
@@ -359,6 +368,7 @@ const SCRIPTS: [Worked; 7] = [
         now: Some(2),
         ..AT_ONCE
     },
+    // The first line that matches answers.
     Worked {
         source: b"A()",
         script: b"A() = 1\nA() = 2",
@@ -373,6 +383,7 @@ const SCRIPTS: [Worked; 7] = [
         now: Some(3),
         ..AT_ONCE
     },
+    // Of the four calls the first one gives 1, the second one halts, and the others give the last answer at time 2.
     Worked {
         source: b"Flip() | Flip() | Flip() | Flip()",
         script: b"Flip() = 1 then halt then 3 after 2",
@@ -393,6 +404,7 @@ const SCRIPTS: [Worked; 7] = [
         published: Published::Are(&[1, 1]),
         ..AT_ONCE
     },
+    // The first call never answers, so the run is quiet.
     Worked {
         source: b"A() | A()",
         script: b"A() = never then 1",
@@ -408,6 +420,7 @@ fn works_by_scripts(rt: HostRuntime) -> Result<(), Fail> {
     Ok(())
 }
 
+// Programs that come to a limit, or just don't.
 const LIMITS: [Worked; 9] = [
     // The whole run has ten entries.
     Worked {
@@ -416,6 +429,7 @@ const LIMITS: [Worked; 9] = [
         published: Published::InAnyOrder(&[11, 12]),
         ..AT_ONCE
     },
+    // The last entry would be the second publication, in each order.
     Worked {
         source: b"(1 | 2) >x> Add(x, 10)",
         limit: 9,
@@ -472,7 +486,7 @@ const LIMITS: [Worked; 9] = [
         published: Published::Are(&[1]),
         ..AT_ONCE
     },
-    // After the last of five entries only moves of marks are left, or none.
+    // The five entries are two forks and three calls. Nothing is left to do then, so the run is quiet, though its journal is full.
     Worked {
         source: b"Never() | (Never() | Never())",
         script: b"Never() = never\n",
@@ -489,7 +503,8 @@ fn works_to_its_limits(rt: HostRuntime) -> Result<(), Fail> {
     Ok(())
 }
 
-// Tokens that loop for ever starve neither the others nor a call, whether it is under way or due.
+// Tokens that loop for ever starve neither the others nor a call, whether it is under way or due. If they did, the run would end at its limit, the
+// greatest that there is, or not at all.
 const LOOPS: [Worked; 3] = [
     Worked {
         source: b"def loop() = loop()\nx <x< (loop() | 1)",
@@ -520,7 +535,8 @@ fn starves_nothing_on_any_number_of_workers(rt: HostRuntime) -> Result<(), Fail>
 
 // More races one after another, 2,100, than there are words of groups, of which `run_pool` has 2,048: if the words of dropped groups stay taken, the
 // workers look for a free one again and again, and the run doesn't end. Each race drops two calls. A round has at most 25 entries. The races are in
-// three loops, since the term may get deeper by some levels with each round of a loop, and the check takes 10,000 levels.
+// three loops, since the term may get deeper by some levels with each round of a loop, and the check takes 10,000 levels. Each loop ends with 700,
+// the first two for the `>>` behind them.
 const KILLS: [Worked; 1] = [Worked {
     source: b"def loop(n) = Lt(n, 700) >b> (Iff(b) >> n | Ift(b) >> (x <x< (n | Never() | Rwait(5))) >> Add(n, 1) >m> loop(m))\nloop(0) >> loop(0) >> loop(0)",
     script: b"Never() = never\n",
@@ -534,7 +550,8 @@ fn works_a_storm_of_kills(rt: HostRuntime) -> Result<(), Fail> {
     Ok(())
 }
 
-// Nearly as many groups as there may be stay open until the end, and others come and go beside them.
+// Nearly as many groups as there may be stay open until the end, and others come and go beside them: 1,020 prunings wait for a call without an
+// answer, and one more is opened in each of a hundred rounds. With the program's own group 1,022 of 1,024 are open then.
 const STANDING: [Worked; 1] = [Worked {
     source: b"def idle(n) = Lt(0, n) >b> Ift(b) >> ((x <x< Never()) | Sub(n, 1) >m> idle(m))\ndef loop(n) = Lt(n, 100) >b> (Iff(b) >> n | Ift(b) >> (x <x< (Add(n, 0) | Never())) >> Add(n, 1) >m> loop(m))\nidle(1020) | loop(0)",
     script: b"Never() = never\n",
@@ -549,7 +566,8 @@ fn works_beside_groups_that_stand(rt: HostRuntime) -> Result<(), Fail> {
     Ok(())
 }
 
-// Whether the limit cuts an endless loop that publishes a signal in each round, in whatever order the workers move.
+// Whether the limit, 50 entries, cuts an endless loop that publishes a signal in each round, in whatever order the workers move. How many signals
+// there are by then depends on the order.
 fn is_cut<R: Threads + Wait + Sync>(rt: &R, alloc: Global, workers: usize) -> bool {
     let source = b"def m() = signal | Rwait(1) >> m()\nm()";
     let Ok(loaded) = load(alloc, source, b"") else {
@@ -569,6 +587,7 @@ fn is_cut<R: Threads + Wait + Sync>(rt: &R, alloc: Global, workers: usize) -> bo
         && is_confirmed(alloc, source, b"", &played)
 }
 
+// It is cut on one worker and on several.
 #[test]
 fn works_a_metronome(rt: HostRuntime) {
     for workers in [1, 2, 4, 16] {

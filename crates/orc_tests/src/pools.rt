@@ -1,4 +1,6 @@
-//! Runs on several workers: what they publish and how they end, whatever their gate and sites are, and that they do what the reference engine does.
+//! Runs on several workers: what they publish and how they end, whatever their gate and sites are, and that they do what the reference engine does. A
+//! gate that isn't open, or sites that don't go by the table, make the workers hold the run's tokens; otherwise `run_pool` runs the program as
+//! `run_parallel` does.
 
 use crate::gates::{Slow, Turnstile, Twist, Twisted};
 use orc_engine::run_alone;
@@ -19,7 +21,7 @@ use std::thread::Threads;
 // The limit of the runs here: more entries than any of them has.
 const LIMIT: u64 = 10_000;
 
-/// The options of a run that keeps its journal.
+/// The options of a run that keeps its journal: how many workers it has, and the most entries, cancels not counted.
 pub(crate) fn keeping(workers: usize, limit: u64) -> RunOptions {
     RunOptions {
         workers,
@@ -28,7 +30,7 @@ pub(crate) fn keeping(workers: usize, limit: u64) -> RunOptions {
     }
 }
 
-/// A run with sites that answer as the table says, which keeps its journal.
+/// A run with sites that answer as the table says, which keeps its journal. The error is the engine's.
 pub(crate) fn play<R: Threads + Wait + Sync, G: Gate + Sync>(
     rt: &R,
     alloc: Global,
@@ -49,7 +51,7 @@ pub(crate) fn play<R: Threads + Wait + Sync, G: Gate + Sync>(
     )
 }
 
-// How often a value is among others.
+// How often `value` is among `values`.
 fn times(value: &Value, values: &[Value]) -> u64 {
     let mut times = 0u64;
     for other in values {
@@ -70,7 +72,8 @@ fn are_same(some: &[Value], others: &[Value]) -> bool {
     some.len() == others.len()
 }
 
-/// The state (Halted, Quiet, Running) in which a run's journal leaves the program, if the check accepts it.
+/// The state (Halted, Quiet, Running) in which a run's journal leaves the program. None if the check refuses it, the run has no journal, or the texts
+/// are no program and script.
 pub(crate) fn state_of(
     alloc: Global,
     source: &[u8],
@@ -94,7 +97,8 @@ pub(crate) fn is_accepted(alloc: Global, source: &[u8], script: &[u8], played: &
     state_of(alloc, source, script, played).is_some()
 }
 
-// How a run ends, and at what time, if the check accepts its journal and it publishes these values, in any order.
+// How a run ends, and at what time, in logical units. `row` is a source, its script, and the values that the run has to publish, in any order. None
+// if it doesn't, or the check refuses its journal, or the run fails.
 fn end_of<R: Threads + Wait + Sync, G: Gate + Sync>(
     rt: &R,
     alloc: Global,
@@ -114,7 +118,7 @@ fn end_of<R: Threads + Wait + Sync, G: Gate + Sync>(
     }
 }
 
-// Programs whose publications don't depend on the order that the rules leave free, with their scripts.
+// Programs whose publications don't depend on the order that the rules leave free, except for their own order, with their scripts.
 const ORDERED: [(&[u8], &[u8]); 8] = [
     (b"1 | (2 | 3) >x> Add(x, 10)", b""),
     (
@@ -159,8 +163,8 @@ fn is_as_alone(alloc: Global, loaded: &Loaded, reference: &Played) -> bool {
     }
 }
 
-// Whether runs on one worker and on several publish what the reference does, and end as it does and when it does. None if the program doesn't load, or the reference
-// doesn't run it.
+// Whether runs on one worker and on several publish what the reference does, and end as it does and when it does. None if the program doesn't load,
+// or the reference doesn't run it.
 fn do_as_the_reference<R: Threads + Wait + Sync>(
     rt: &R,
     alloc: Global,
@@ -187,22 +191,24 @@ fn publishes_what_the_reference_does_on_any_number_of_workers(rt: HostRuntime) {
     }
 }
 
-// A program whose calls a `Turnstile` holds, and what comes of it.
+// A program whose calls a `Turnstile` holds, and what comes of it. It halts only if each held call is made by a worker of its own: a worker that
+// holds one makes no other.
 #[derive(Clone, Copy)]
 struct HeldRow {
     source: &'static [u8],
     // What it publishes, in any order.
     values: &'static [Value],
-    // When it halts.
+    // The logical time at which it halts.
     now: u64,
-    // The calls from `first` to `last` are held until `wanted` calls have come.
+    // The calls with the numbers from `first` to `last`, from 1, are held until `wanted` calls have come.
     first: u64,
     last: u64,
     wanted: u64,
-    // The numbers of workers on which it is run: each has one for every call that is held at a time.
+    // The numbers of workers on which it is run, each on its own: no fewer than the calls that are held at a time.
     workers: &'static [usize],
 }
 
+// What the rows of `HELD` publish.
 const TWO: &[Value] = &[Value::Number(2)];
 
 const TWO_AND_FOUR: &[Value] = &[Value::Number(2), Value::Number(4)];
@@ -261,7 +267,7 @@ const HELD: [HeldRow; 8] = [
         wanted: 4,
         workers: &[4, 16],
     },
-    // All are due at one time, and each is held until all were polled again and their answers were taken.
+    // The four `Rwait` are due at one time. Each `Add` is held until all four are made, and so until all four answers were taken.
     HeldRow {
         source: b"(Rwait(3) | Rwait(3) | Rwait(3) | Rwait(3)) >> Add(1, 1)",
         values: FOUR_TWOS,
@@ -271,7 +277,8 @@ const HELD: [HeldRow; 8] = [
         wanted: 8,
         workers: &[4],
     },
-    // The right side of an otherwise starts while another call is held.
+    // The right side of an otherwise starts while another call is held. Here and below call 1 has to be the leftmost call: else no third one could
+    // come.
     HeldRow {
         source: b"(Ift(false) ; Add(1, 1)) | Add(2, 2)",
         values: TWO_AND_FOUR,
@@ -302,7 +309,7 @@ const HELD: [HeldRow; 8] = [
     },
 ];
 
-// How and when the program of a row ends on `workers` workers; None also if a call gave up waiting.
+// How and when the program of a row ends on `workers` workers. None for the reasons of `end_of`, and if a call gave up waiting.
 fn end_when_held<R: Threads + Wait + Sync>(
     rt: &R,
     alloc: Global,
@@ -314,6 +321,7 @@ fn end_when_held<R: Threads + Wait + Sync>(
     if gate.held_all() { ended } else { None }
 }
 
+// Each program halts at its time and publishes its values, and no call gives up.
 #[test]
 fn each_worker_makes_calls_while_others_are_held(rt: HostRuntime) {
     for row in HELD.iter() {
@@ -329,7 +337,7 @@ fn each_worker_makes_calls_while_others_are_held(rt: HostRuntime) {
 }
 
 // How many values a program publishes on `workers` workers, with sites that hold each call until `workers` calls are made. None if a call gave up
-// waiting.
+// waiting, the run fails or doesn't halt, or the text is no program.
 fn published_when_held<R: Threads + Wait + Sync>(
     rt: &R,
     alloc: Global,
@@ -367,6 +375,7 @@ const CALLS: [(&[u8], usize); 3] = [
     ),
 ];
 
+// Each call publishes its answer, so there are as many values as calls.
 #[test]
 fn sites_may_hold_their_calls(rt: HostRuntime) {
     for (source, calls) in CALLS.iter() {
@@ -378,7 +387,7 @@ fn sites_may_hold_their_calls(rt: HostRuntime) {
     }
 }
 
-// A single worker waits for a second call, which nobody else can make, and goes on when the gate gives up.
+// A single worker waits for a second call, which nobody else can make, and goes on when the gate gives up, here after 1,000 looks.
 #[test]
 fn one_worker_holds_one_call(rt: HostRuntime) {
     let gate = Turnstile::that_looks(1, 2, 2, 1000);
@@ -390,7 +399,7 @@ fn one_worker_holds_one_call(rt: HostRuntime) {
     );
 }
 
-// Numbers of workers and limits, of which one is out of range.
+// Numbers of workers and limits of entries, of which one is out of range: there may be 1 to 16 workers, and 1 to 10,000,000 entries.
 const OUT_OF_RANGE: [(usize, u64); 5] = [
     (0, 10),
     (17, 10),
@@ -399,6 +408,7 @@ const OUT_OF_RANGE: [(usize, u64); 5] = [
     (16, 10_000_001),
 ];
 
+// `run_pool`, `survey` (here of three orders) and `run_alone`, which has no workers, refuse them as Range; the ends of the ranges are accepted.
 #[test]
 fn refuses_workers_and_limits_out_of_range(rt: HostRuntime) {
     let alloc = rt.alloc();

@@ -9,7 +9,7 @@ use orc_subrun::Numbering;
 use std::alloc::{AllocError, Global};
 use std::test::Fail;
 
-// The text of a journal. Site 3 is `Lt` in it, site 6 `Rwait`, and site 7 `A`.
+// The text of a journal; empty if the script can't be read, so that the test fails. Site 3 is `Lt` in it, site 6 `Rwait`, and site 7 `A`.
 fn text_of(alloc: Global, journal: &Journal) -> Result<Vec<u8>, AllocError> {
     let mut text = Vec::new(alloc);
     if let Ok(answers) = read_script(alloc, b"A(_, _) = 1\n") {
@@ -18,9 +18,11 @@ fn text_of(alloc: Global, journal: &Journal) -> Result<Vec<u8>, AllocError> {
     Ok(text)
 }
 
+// A journal keeps the numbers and values of what was pushed. No run has these entries: the journal doesn't ask whether they are allowed.
 #[test]
 fn keeps_what_is_pushed(rt: HostRuntime) -> Result<(), Fail> {
     let mut journal = Journal::new(rt.alloc(), Version::Two);
+    // Seven entries: the bind comes with two cancels.
     journal.reserve(7)?;
     journal.push_call(1, 2, 3, &[Value::Number(-1), Value::Signal])?;
     journal.push_return(2, 5, Value::Number(-9))?;
@@ -35,7 +37,7 @@ fn keeps_what_is_pushed(rt: HostRuntime) -> Result<(), Fail> {
     Ok(())
 }
 
-// The text of a journal to which a sub-run was appended, whose own marks come after this one.
+// The text of a journal to which the journal of a sub-run was appended: the sub-run's mark 2 becomes `mark` there.
 fn appended(alloc: Global, mark: u64) -> Result<Vec<u8>, AllocError> {
     let mut part = Journal::new(alloc, Version::Two);
     part.push_call(1, 1, 7, &[Value::Number(4), Value::Signal])?;
@@ -44,6 +46,7 @@ fn appended(alloc: Global, mark: u64) -> Result<Vec<u8>, AllocError> {
     let mut journal = Journal::new(alloc, Version::Two);
     journal.push(&Entry::Fork(1, 2, 3))?;
     journal.push_call(2, 1, 6, &[Value::Truth(false)])?;
+    // The token of the call is 3. One call was made before, and no cell was opened.
     let numbering = Numbering {
         token: 3,
         mark,
@@ -54,8 +57,8 @@ fn appended(alloc: Global, mark: u64) -> Result<Vec<u8>, AllocError> {
     text_of(alloc, &journal)
 }
 
-// The first mark of a sub-run is the token's; its other marks and its calls are numbered after those of the journal. The second numbers have over 32
-// bits.
+// The first mark of a sub-run is the token's; its other marks and its calls are numbered after those of the journal. The mark 5,000,000,000 has over
+// 32 bits.
 #[test]
 fn appends_a_part_under_its_numbers(rt: HostRuntime) -> Result<(), Fail> {
     let small = appended(rt.alloc(), 4)?;

@@ -9,12 +9,13 @@ use orc_syntax::parse;
 use std::alloc::{AllocError, Global};
 use std::test::Fail;
 
-// What the scope check says of a source. None if the text doesn't parse.
+// What the scope check says of a source, with two sites: 0 is `Add`, 1 is `Rwait`. None if the text doesn't parse.
 fn checked(alloc: Global, source: &[u8]) -> Option<Result<Program, ScopeFault>> {
     let ast = parse(alloc, source).ok()?;
     Some(check(alloc, &ast, &[b"Add".as_slice(), b"Rwait".as_slice()]))
 }
 
+// The program of a source. None if it isn't accepted.
 fn program(alloc: Global, source: &[u8]) -> Option<Program> {
     checked(alloc, source)?.ok()
 }
@@ -42,7 +43,8 @@ fn eight_definitions(alloc: Global) -> Result<Vec<u8>, AllocError> {
     Ok(text)
 }
 
-// 64,008 nodes, and 1,527 in the main expression; or one more definition.
+// Eight definitions have 64,008 nodes, and the main expression 1,527: 65,535 together, the most. With one more definition, of one node, it is one too
+// many, and the fault's place is the main expression inside its brackets.
 #[test]
 fn takes_65535_nodes(rt: HostRuntime) -> Result<(), Fail> {
     let mut most = eight_definitions(rt.alloc())?;
@@ -63,7 +65,7 @@ fn takes_65535_nodes(rt: HostRuntime) -> Result<(), Fail> {
     Ok(())
 }
 
-// `Add(Add(1, 2), 4)` is `Add(n, 4) <n< Add(1, 2)` for a new n.
+// Whether the main term is `Add(n, 4) <n< Add(1, 2)`, which `Add(Add(1, 2), 4)` means for a new n.
 fn has_arguments(program: &Program) -> bool {
     let TermNode::Prune(left, new, right) = program.node(program.source()) else {
         return false;
@@ -85,7 +87,7 @@ fn writes_out_arguments(rt: HostRuntime) {
     assert!(rt; has_arguments(&program));
 }
 
-// `val x = 1 x` is `x <x< 1`; the parameter hides the definition of its name.
+// Whether `val x = f(1) x` is `x <x< f(1)`, and the body of `def f(f) = f` its parameter, which hides the definition of the same name.
 fn has_val(program: &Program) -> bool {
     let TermNode::Prune(left, x, right) = program.node(program.source()) else {
         return false;

@@ -1,4 +1,5 @@
-//! Scripts at random: the line that answers a call is the first that matches, however many lines there are and wherever their `_` stand.
+//! Scripts at random: the line that answers a call is the first that matches, however many lines there are and wherever their `_` stand. A table of
+//! sites finds it by hashes; the test looks at each line.
 
 use orc_rules::answers::Answers;
 use orc_rules::value::{Answer, Args, Found, Value};
@@ -6,15 +7,19 @@ use orc_site::read_script;
 use std::alloc::{AllocError, Global};
 use std::test::Fail;
 
+// How many scripts are made.
 const SCRIPTS: usize = 60;
 
+// How many calls are made of each script. There are 125 lists of arguments, so most come up.
 const CALLS: usize = 200;
 
-// The patterns of a line, or the arguments of a call: numbers below 5. In a pattern 5 stands for `_`.
+// The three patterns of a line, or arguments of a call: numbers below 5. In a pattern 5 stands for `_`.
 type Places = [u64; 3];
 
+// The pattern `_`.
 const ANYTHING: u64 = 5;
 
+// How a script spells each pattern.
 const WORDS: [&str; 6] = ["0", "1", "2", "3", "4", "_"];
 
 // Numbers at random, the same ones each time.
@@ -26,6 +31,7 @@ struct Dice {
 impl Dice {
     // A number below `sides`.
     fn roll(&mut self, sides: u64) -> u64 {
+        // The usual constants of a generator of 64 bits (Knuth's MMIX). The low bits repeat soon, so the number is taken from the high ones.
         self.state = self
             .state
             .wrapping_mul(6_364_136_223_846_793_005)
@@ -33,7 +39,7 @@ impl Dice {
         (self.state >> 33).checked_rem(sides).unwrap_or(0)
     }
 
-    // A number, or a `_` with a chance of `wildcards` in a hundred.
+    // One pattern: a number, or a `_` with a chance of `wildcards` in a hundred.
     fn place(&mut self, wildcards: u64) -> u64 {
         if self.roll(100) < wildcards {
             ANYTHING
@@ -42,6 +48,7 @@ impl Dice {
         }
     }
 
+    // Three patterns; with no chance of a `_`, three arguments.
     fn places(&mut self, wildcards: u64) -> Places {
         [
             self.place(wildcards),
@@ -51,6 +58,7 @@ impl Dice {
     }
 }
 
+// Whether each argument of a call is as the line's pattern at its place says.
 fn is_match(line: &Places, call: &Places) -> bool {
     for (wanted, value) in line.iter().zip(call.iter()) {
         if *wanted != ANYTHING && *wanted != *value {
@@ -60,7 +68,7 @@ fn is_match(line: &Places, call: &Places) -> bool {
     true
 }
 
-// The place of the first line that matches, found by a look at each line. The table, which uses a hash, has to find the same one.
+// The number of the first line that matches, from 0, found by a look at each line. None if no line does.
 fn first_match(lines: &[Places], call: &Places) -> Option<usize> {
     for (place, line) in lines.iter().enumerate() {
         if is_match(line, call) {
@@ -70,6 +78,7 @@ fn first_match(lines: &[Places], call: &Places) -> Option<usize> {
     None
 }
 
+// How a script spells a pattern.
 fn word(place: u64) -> &'static str {
     match WORDS.get(place as usize) {
         Some(word) => word,
@@ -77,7 +86,7 @@ fn word(place: u64) -> &'static str {
     }
 }
 
-// A script in which each line answers with its own place.
+// A script in which each line answers with its own number, from 0.
 fn script(alloc: Global, lines: &[Places]) -> Result<String, AllocError> {
     let mut text = String::new(alloc);
     for (place, [one, two, three]) in lines.iter().enumerate() {
@@ -88,11 +97,12 @@ fn script(alloc: Global, lines: &[Places]) -> Result<String, AllocError> {
     Ok(text)
 }
 
+// An argument as a value. `min` shows the prover that the number fits.
 fn number(place: u64) -> Value {
     Value::Number(place.min(5) as i64)
 }
 
-// The table's answer to a call, which is the place of the line that answers.
+// The table's answer to a first call with these arguments, which is the number of the line that answers. None if no line does: then the call halts.
 fn answer(answers: &Answers, call: &Places) -> Option<usize> {
     let site = answers.site_named(b"S")?;
     let mut args = Args::new();
@@ -105,7 +115,7 @@ fn answer(answers: &Answers, call: &Places) -> Option<usize> {
     }
 }
 
-// Whether a script is read, and all calls are answered as its lines say.
+// Whether a script of fewer than 60 lines is read, and all calls are answered as its lines say. Scripts have from no `_` to nothing else.
 fn trial(alloc: Global, dice: &mut Dice) -> Result<bool, AllocError> {
     let wildcards = dice.roll(101);
     let mut lines = Vec::new(alloc);

@@ -4,7 +4,7 @@ use orc_syntax::{SyntaxFault, parse};
 use std::alloc::{AllocError, Global};
 use std::test::Fail;
 
-// `f OPERATOR g`, with each sign for an operator.
+// Two parts of a source with an operator between them.
 fn joined(alloc: Global, f: &[u8], operator: &[u8], g: &[u8]) -> Result<Vec<u8>, AllocError> {
     let mut text = Vec::from_slice(alloc, f)?;
     text.extend_from_slice(operator)?;
@@ -19,7 +19,8 @@ struct Count {
     programs: u32,
 }
 
-// Whether `parse` answers a text, which is counted, with a program, or with a fault whose place is in the text or at its end.
+// Whether `parse` answers a text, which is counted, with a program, or with a fault whose place is in the text or at its end. No text here is too
+// long.
 fn is_answered(alloc: Global, text: &[u8], count: &mut Count) -> bool {
     count.texts = count.texts.saturating_add(1);
     let place = match parse(alloc, text) {
@@ -35,8 +36,10 @@ fn is_answered(alloc: Global, text: &[u8], count: &mut Count) -> bool {
     place <= text.len()
 }
 
+// Parts of a source: a number, a name, a call, brackets, a `val`, and a value behind a comment.
 const PARTS: [&[u8]; 6] = [b"1", b"x", b"f(1,x)", b"(stop)", b"val x=2 x", b"{-c-}true"];
 
+// What is put between two parts: the operators, a blank, which mostly is at fault, and the front of a definition.
 const OPERATORS: [&[u8]; 8] = [
     b"|",
     b";",
