@@ -134,7 +134,7 @@ fn explains(rt: &HostRuntime, words: &[String]) -> bool {
     }
 }
 
-// Puts the option behind a command that takes it, unless it is among the words. The error is refused memory: the words are as they were.
+// Puts the option behind a command that takes it, unless it is among the words. The error is refused memory.
 fn ask_for_explanations(alloc: Global, words: &mut Vec<String>) -> Result<(), AllocError> {
     let takes_it = match words.get(1) {
         Some(word) => EXPLAINING.iter().any(|command| word.as_str() == *command),
@@ -146,6 +146,7 @@ fn ask_for_explanations(alloc: Global, words: &mut Vec<String>) -> Result<(), Al
     Ok(())
 }
 
+// Has the library do the command line. Whatever goes wrong before that is memory or an argument that isn't text.
 fn main(rt: HostRuntime) -> ExitCode {
     let alloc = rt.alloc();
     let args = match env::args(&rt) {

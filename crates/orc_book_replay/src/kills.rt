@@ -13,7 +13,7 @@ use orc_rules::value::{Answer, Value};
 use orc_word::{Bit, Naming, Pass};
 use std::alloc::Global;
 
-/// Leaves a pass that isn't the last one to its group.
+/// Leaves a pass that isn't the last one to its group, or an idle one.
 pub(crate) fn leave_one<P: Run + Naming>(
     setup: &Setup<'_, P>,
     replay: &mut Replay<P>,

@@ -13,6 +13,7 @@ const SIGNAL: Answer = Answer::Value(Value::Signal);
 
 const FIVE: Answer = Answer::Value(Value::Number(5));
 
+// The limit of a row that names none: the greatest that there is.
 const LIMIT: usize = MOST_ENTRIES as usize;
 
 // A row whose book has the usual words, passes and limit.
@@ -140,7 +141,7 @@ const CANCELS_AT_THE_LIMIT: [Step; 4] = [
     Step::HasEnded(true),
 ];
 
-// `Add(2, 3)` is due at once, and so is call 1, until the bind of the other token cancels it.
+// Call 1, of `Add(2, 3)`, is due at once, until the bind of the other token cancels it.
 const IS_CANCELLED: [Step; 6] = [
     Step::Does("open 1 1 2 3\nfork 3 4 5\ncall 5 1 Add(2, 3)\n"),
     Step::Due(Some(1)),
@@ -150,6 +151,7 @@ const IS_CANCELLED: [Step; 6] = [
     Step::HasEnded(true),
 ];
 
+// Programs that several rows have: a pipeline, and a race.
 const PIPE: &str = "(1 | 2) >x> Add(x, 10)";
 
 const RACE: &str = "x <x< (1 | 2)";

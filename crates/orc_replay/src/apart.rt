@@ -241,7 +241,7 @@ pub(crate) fn stands_in_its_place(alloc: Global) -> bool {
         && text_of(alloc, b"def f() = f()\nf()", 100).is_none()
 }
 
-// Programs, and the one journal up to the merge that the rules allow each.
+// Programs, and for each the only journal up to the merge that the rules allow.
 const PLACES: [(&[u8], &[u8]); 5] = [
     // A call whose sub-run opens a cell.
     (

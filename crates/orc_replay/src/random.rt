@@ -96,10 +96,12 @@ fn put(dice: &mut Dice, parts: &mut Vec<Part>, level: u32, names: u32) -> Result
     Ok(())
 }
 
+// The names of the variables, by their levels. The definition `f` of each program has parameters of these names, too.
 const VARIABLES: [&[u8]; 9] = [
     b"v0", b"v1", b"v2", b"v3", b"v4", b"v5", b"v6", b"v7", b"v8",
 ];
 
+// The values that stand in programs.
 const VALUES: [&[u8]; 4] = [b"0", b"1", b"2", b"true"];
 
 // The name of the variable of a level. No level is over 4, and `% 9` shows the prover that the index is in range.

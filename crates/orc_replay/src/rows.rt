@@ -30,7 +30,7 @@ pub(crate) enum Step {
     Due(Option<u64>),
     /// The call with this number, the answer that the ledger refuses for it, and the reason.
     Refuses(u64, Answer, ReturnFault),
-    /// Of a pending call its number, the time at which it was made, and the how manieth it is of its site with its arguments, each number from 1.
+    /// Of a pending call its number, the time at which it was made, and its place, from 1, among the calls of its site with its arguments.
     Asked(u64, u64, u64),
     /// Whether the term has halted.
     Halted(bool),

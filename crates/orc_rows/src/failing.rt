@@ -43,6 +43,7 @@ pub struct ShortReader<'a> {
 impl Read for ShortReader<'_> {
     fn read(&mut self, room: &mut [u8]) -> io::Result<usize> {
         if self.good == 0 {
+            // Which error it is makes no difference.
             return Err(io::Error::from(io::ErrorKind::BrokenPipe));
         }
         let n = self
@@ -72,6 +73,7 @@ pub struct ShortWriter {
 impl Write for ShortWriter {
     fn write(&mut self, bytes: &[u8]) -> io::Result<usize> {
         let n = self.room.min(self.at_once).min(bytes.len());
+        // `at_once` is 1 at least: so no room is left, or no bytes are to be written, which isn't tried.
         if n == 0 {
             return Err(io::Error::from(io::ErrorKind::BrokenPipe));
         }

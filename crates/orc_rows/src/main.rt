@@ -63,6 +63,7 @@ fn try_table<R: Threads + Wait + Sync>(rt: &R, alloc: Global, table: &str) -> io
     Ok(report)
 }
 
+// An error ends the program: a table can't be read or is none, memory is refused, or standard output takes nothing more.
 fn main(rt: HostRuntime) -> io::Result<ExitCode> {
     let alloc = rt.alloc();
     let words = env::args(&rt)?.collect::<Vec<String>>(alloc)?;

@@ -18,8 +18,10 @@ const SCRIPT: &str = "Pair(1, _) = 5 after 2\nPair(_, _) = halt\n";
 // The first entry of a run of this program, after which it is still running.
 const JOURNAL: &str = "orc-journal 2\nfork 1 2 3\n";
 
+// Command lines. Here and below the files are those of `try_streams`.
 const RUN: &[&str] = &["orc", "run", "a.orc", "--script", "a.script"];
 
+// It writes the journal of the first entry, `JOURNAL`.
 const FIRST_ENTRY: &[&str] = &[
     "orc",
     "run",
@@ -290,6 +292,7 @@ impl<R: Threads + Wait + Sync> Streams<'_, R> {
 /// Tries command lines over files and streams that fail, and reports on them.
 pub fn try_streams<R: Threads + Wait + Sync>(rt: &R, alloc: Global) -> io::Result<Report> {
     let mut folder = Folder::new(alloc);
+    // Command lines above name these files; a program that publishes nothing, and one that publishes three digits, are among them.
     for (name, text) in [
         ("a.orc", SOURCE),
         ("a.script", SCRIPT),

@@ -24,6 +24,7 @@ pub struct Row<'a> {
 }
 
 impl<'a> Row<'a> {
+    // A row without fields.
     fn new(alloc: Global, sentence: &'a str) -> Row<'a> {
         Row {
             sentence,
@@ -57,7 +58,7 @@ impl<'a> Row<'a> {
     }
 }
 
-// The error for a line that no row can have: it is shorter than a field's name with its blanks, or goes on a field before there is one.
+// The error for a line that no row can have: it is shorter than a field's name with its blanks, or continues a field before there is one.
 fn odd_line() -> io::Error {
     io::Error::from(ErrorKind::InvalidData)
 }

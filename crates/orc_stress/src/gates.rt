@@ -98,6 +98,7 @@ impl<'a, R: Clock> Sites for Sleepy<'a, R> {
         self.scripted.call(request)
     }
 
+    // A call that is cancelled has nothing to stop: it has slept already, or will.
     fn cancel(&self, _number: u64) {}
 
     fn goes_by_table(&self) -> bool {

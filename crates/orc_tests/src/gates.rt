@@ -168,6 +168,7 @@ impl Future for OddCall<'_> {
     fn poll(&mut self, cx: &mut Context<'_>) -> Poll<Answer> {
         match self.manner {
             Manner::Nothing => cx.register(&self.source, &mut self.waker),
+            // It is ready when the table's answer is, and answers 0 in its place.
             Manner::Zero => match self.call.poll(cx) {
                 Poll::Ready(_) => Poll::Ready(Answer::Value(Value::Number(0))),
                 Poll::Pending => Poll::Pending,
@@ -230,7 +231,7 @@ struct Note {
     cancelled: AtomicU64,
 }
 
-/// What a note says at one moment.
+/// How often a call has passed the gate, was made, and was cancelled, up to one moment.
 #[derive(Clone, Copy, PartialEq, Eq)]
 pub(crate) struct Counts {
     pub(crate) passed: u64,
@@ -413,6 +414,7 @@ impl Future for NotedCall<'_> {
     ghost gives = { λ noted. IsReply noted.call };
 
     fn poll(&mut self, cx: &mut Context<'_>) -> Poll<Answer> {
+        // A worker polls it once when it was made, and again when it is due: only a poll that would answer it is held.
         if self.holds && self.is_due() {
             self.board.hold(self.number);
         }

@@ -88,6 +88,7 @@ fn live<J: Naming>(made: Unnamed) -> Option<[bool; 8]>
     ])
 }
 
+// There are two words and eight passes; the group is opened as 1.
 #[test]
 fn a_group_is_opened_anew_once_all_have_left(rt: HostRuntime) -> Result<(), Fail> {
     let made = Unnamed::new(rt.alloc(), 2, 8)?;
@@ -439,6 +440,7 @@ fn poll(solo: &Solo, call: &mut SiteCall<'_>) -> Option<Answer> {
 // far is ignored, so the call keeps its answer at 3.
 const MOMENTS: [(u64, bool); 5] = [(7, false), (6, false), (8, true), (3, true), (9, true)];
 
+// The call is made at 5 with a delay of 3.
 #[test]
 fn a_call_is_ready_from_its_due_time_on(rt: HostRuntime) -> Result<(), Fail> {
     let answers = Answers::builtin(rt.alloc())?;

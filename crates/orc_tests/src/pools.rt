@@ -118,7 +118,7 @@ fn end_of<R: Threads + Wait + Sync, G: Gate + Sync>(
     }
 }
 
-// Programs whose publications don't depend on the order that the rules leave free, except for their own order, with their scripts.
+// Programs with their scripts. In each order that the rules allow a program here publishes the same values, though perhaps one before another.
 const ORDERED: [(&[u8], &[u8]); 8] = [
     (b"1 | (2 | 3) >x> Add(x, 10)", b""),
     (
@@ -183,6 +183,7 @@ fn do_as_the_reference<R: Threads + Wait + Sync>(
     Some(is_as_alone(alloc, &loaded, &reference))
 }
 
+// The reference engine runs each program in one order. The others may take another, but come to the same values, end and time.
 #[test]
 fn publishes_what_the_reference_does_on_any_number_of_workers(rt: HostRuntime) {
     for (source, script) in ORDERED.iter() {
@@ -229,8 +230,9 @@ const FOUR: &[Value] = &[
     Value::Number(15),
 ];
 
+// Rows of programs whose calls are held. The values are the sums of the `Add`.
 const HELD: [HeldRow; 8] = [
-    // The first call is held until another one was made.
+    // Both calls are held until the other one was made.
     HeldRow {
         source: b"Add(1, 2) | Add(3, 4)",
         values: THREE_AND_SEVEN,
