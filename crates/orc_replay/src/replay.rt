@@ -2,6 +2,9 @@
 //!
 //! Of an entry the replay looks at the token, call, cell or otherwise that it names, at the value and cell that a token's move takes, and at a tick's
 //! time. Once the replay is over the whole journals are compared.
+//!
+//! `checks/memory` refuses one request for memory in each run. The call is then made again, and has to do what it would have done at first: that shows
+//! that a refused call changes nothing.
 
 ghost use Rattle.std.specs.Prelude.{◌≡◌, ◌<◌, true, IfSome, vec_len};
 

@@ -378,7 +378,7 @@ fn add_end(
             rows.push(Row::Fails(claim, Counterexample::Trial(shown)))?;
             Ok(())
         }
-        // It fails only in runs that were cut, and none of these is reported.
+        // The claim fails in no run of the case, so none was cut; and it is shown only where it fails.
         None => Ok(()),
     }
 }

@@ -19,7 +19,7 @@ pub struct Ranks {
     pub numbers: Vec<u32>,
     /// At least as great as every rank.
     pub most: u32,
-    /// False once memory or a rank of 32 bits was refused, or a test of `add`, `write` or `lift` failed. Then nothing is known of the ranks until
+    /// False once memory or a rank of over 32 bits was refused, or a test of `add`, `write` or `lift` failed. Then nothing is known of the ranks until
     /// `renew`.
     pub are_kept: bool,
 }

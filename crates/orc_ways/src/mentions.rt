@@ -14,8 +14,8 @@ use crate::token::{Token, closes, is_left_bracket, is_right_bracket, name, same_
 use orc_rules::limits::MOST_ARGUMENTS;
 use std::alloc::AllocError;
 
-// Reads one argument and the sign behind it: true for `)`, false for a comma, and the tokens behind that sign. None for any other sign. The argument
-// is any token: what may stand there is checked where the line is read.
+// Reads one argument and the sign behind it: true for `)`, false for a comma, and the tokens behind that sign. None for any other
+// sign, or if fewer than two tokens are left. The argument is any token: what may stand there is checked where the line is read.
 fn argument_step<'t, 'a>(tokens: &'t [Token<'a>]) -> Option<(bool, &'t [Token<'a>])>
     ensures { Gives (λ x. (x.0, tokens_of x.1.now)) result (argument_step (tokens_of tokens.now)) }
 {
