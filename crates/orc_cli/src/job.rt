@@ -34,7 +34,7 @@ pub enum Job<'a> {
     /// Run the program, and write what it publishes or its journal.
     Run {
         program: ProgramPaths<'a>,
-        options: Options,
+        options: RunOptions,
     },
     /// Run the program in many orders, and write each outcome.
     Outcomes {
@@ -255,7 +255,7 @@ pub enum Shown {
 
 /// How a program is run: the options of `run`, and of `draw` where it makes the run.
 #[derive(Clone, Copy, Debug, PartialEq, Eq)]
-pub struct Options {
+pub struct RunOptions {
     /// How many workers run it, 1 to `MOST_WORKERS`.
     pub workers: u64,
     /// What comes first where the rules leave it free.
@@ -270,7 +270,7 @@ pub struct Options {
 #[derive(Clone, Copy, Debug)]
 pub struct DrawRunOptions {
     /// How the run is made.
-    pub run: Options,
+    pub run: RunOptions,
     /// How its journal is drawn.
     pub drawing: orc_draw::Options,
 }

@@ -11,7 +11,7 @@ mod words;
 pub use arguments::{DEFAULT_STATES, DEFAULT_TRIALS, DEFAULT_WAYS};
 pub use commands::ArgumentTexts;
 pub use job::{
-    Asked, DrawRunOptions, Job, Options, Order, ProgramPaths, STANDARD_INPUT, SearchOptions,
+    Asked, DrawRunOptions, Job, Order, ProgramPaths, RunOptions, STANDARD_INPUT, SearchOptions,
     ShowOptions, Shown, SurveyOptions, TestOptions, Wanted,
 };
 pub use words::read_words;

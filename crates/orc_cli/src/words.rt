@@ -9,7 +9,7 @@ ghost use Rattle.orc_cli.specs.Ranges.{AreInRange};
 
 use crate::commands::ArgumentTexts;
 use crate::job::{
-    Asked, DrawRunOptions, Job, Options, Order, ProgramPaths, SearchOptions, ShowOptions, Shown,
+    Asked, DrawRunOptions, Job, Order, ProgramPaths, RunOptions, SearchOptions, ShowOptions, Shown,
     SurveyOptions, TestOptions, Wanted,
 };
 use clap::error::ErrorKind;
@@ -44,7 +44,7 @@ fn order_of(given: &ArgMatches) -> Order {
 }
 
 // How a program is run. A numbered order is one worker's, so `clap` refuses a number of workers beside it, and the default number isn't read.
-fn options_of(given: &ArgMatches) -> Option<Options> {
+fn options_of(given: &ArgMatches) -> Option<RunOptions> {
     let order = if is_given(given, "unordered") {
         Order::Unordered
     } else {
@@ -54,7 +54,7 @@ fn options_of(given: &ArgMatches) -> Option<Options> {
         Order::Numbered(_) => 1,
         Order::Fixed | Order::Unordered => given.get_one::<u64>("workers")?,
     };
-    Some(Options {
+    Some(RunOptions {
         workers,
         order,
         limit: given.get_one::<u64>("limit")?,
@@ -157,13 +157,13 @@ fn check_of<'a>(program: ProgramPaths<'a>, given: &ArgMatches<'a>) -> Option<Job
 }
 
 // How a program is run whose journal is drawn. `draw` takes no number of workers, and no flag for a run that is unordered.
-fn drawn_run_of(given: &ArgMatches) -> Option<Options> {
+fn drawn_run_of(given: &ArgMatches) -> Option<RunOptions> {
     let order = order_of(given);
     let workers = match order {
         Order::Numbered(_) => 1,
         Order::Fixed | Order::Unordered => DEFAULT_WORKERS as u64,
     };
-    Some(Options {
+    Some(RunOptions {
         workers,
         order,
         limit: given.get_one::<u64>("limit")?,

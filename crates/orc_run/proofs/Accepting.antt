@@ -47,7 +47,7 @@ use Rattle.orc_run.specs.Checked.{verdict_line, StandsSo, IsOfRun}
 use Rattle.orc_outcome.specs.declared.end.End.{End}
 use Rattle.orc_outcome.specs.declared.end.End.TheVariants as ends
 use Rattle.orc_outcome.specs.declared.end.Summary.{Summary}
-use Rattle.orc_cli.specs.declared.job.Options.{Options}
+use Rattle.orc_cli.specs.declared.job.RunOptions.{RunOptions}
 use Rattle.orc_cli.specs.declared.job.Wanted.{Wanted}
 use Rattle.orc_cli.specs.declared.job.Wanted.TheVariants as wanted
 
@@ -81,7 +81,7 @@ run_of l m t limit o d s r =
 
 -- the run, told by what the checker read of source and script
 pub told_of : (text script journal : List ℕ) (s : Summary) (m : Listing) (u : Table) → IsOfRun text script journal s → Says script u → IsProgramOf text u m
-    → (options : Options) × (options.wanted ≡ wanted.Journal) × IsTold m u options s journal
+    → (options : RunOptions) × (options.wanted ≡ wanted.Journal) × IsTold m u options s journal
 told_of text script journal s m u of says (r, spells, checks) =
     let (options, kept, run) = of in
     let (l, t, said, (z, spelt, checked), told) = run in
@@ -154,11 +154,11 @@ module _ (x : Context) (q : Place) (paid : q.to_cancel ≡ []) where
 -- ---- what is said of it
 
 -- a fault of its text
-pub text_beyond : (options : Options) (s : Summary) (text : List ℕ) (m : Listing) (u : Table) → AreNames u.names → options.wanted ≡ wanted.Journal → IsTold m u options s text → (f : JournalFault) → IsBadText u.names text f → (f ≡ journal.Long) ⊎ (f ≡ journal.Memory)
+pub text_beyond : (options : RunOptions) (s : Summary) (text : List ℕ) (m : Listing) (u : Table) → AreNames u.names → options.wanted ≡ wanted.Journal → IsTold m u options s text → (f : JournalFault) → IsBadText u.names text f → (f ≡ journal.Long) ⊎ (f ≡ journal.Memory)
 text_beyond options s text m u are kept told = read_whole u.names are text told.outcome.journal (lines_of u.names options.wanted text told.outcome.journal kept told.shows) (told.fits kept)
 
 -- a fault of its entries
-pub check_beyond : (options : Options) (s : Summary) (text : List ℕ) (m : Listing) (u : Table) → AreNames u.names → options.wanted ≡ wanted.Journal → IsTold m u options s text → (j : Written) → IsJournal u.names text j
+pub check_beyond : (options : RunOptions) (s : Summary) (text : List ℕ) (m : Listing) (u : Table) → AreNames u.names → options.wanted ≡ wanted.Journal → IsTold m u options s text → (j : Written) → IsJournal u.names text j
     → (n : ℕ) (why : RuleFault) → (why ≢ reason.Memory → Faults (context_of m u (records_cancels j.version)) (source m) j.entries n why) → (why ≡ reason.Deep) ⊎ (why ≡ reason.Memory)
 check_beyond options s text m u are kept told j is n why faults = go why (λ firm. deep why firm (faults firm)) where
   es : List Entry
@@ -182,7 +182,7 @@ check_beyond options s text m u are kept told j is n why faults = go why (λ fir
   go reason.Deep h = inl refl
 
 -- the verdict on it
-pub verdict_so : (options : Options) (s : Summary) (text : List ℕ) (m : Listing) (u : Table) → AreNames u.names → options.wanted ≡ wanted.Journal → IsTold m u options s text → (j : Written) → IsJournal u.names text j
+pub verdict_so : (options : RunOptions) (s : Summary) (text : List ℕ) (m : Listing) (u : Table) → AreNames u.names → options.wanted ≡ wanted.Journal → IsTold m u options s text → (j : Written) → IsJournal u.names text j
     → (stands : State) (now : ℕ) → IsVerdict (context_of m u (records_cancels j.version)) (source m) j.entries stands now → StandsSo s.end stands × (length j.entries ≡ s.entries)
 verdict_so options s text m u are kept told j is stands now verdict =
     let run = told.is_run in

@@ -1,7 +1,7 @@
 -- A file that couldn't be read is a cause of each job.
 use Rattle.std.proofs.Common.{ℕ, List}
 use Rattle.std.specs.declared.option.Option.{Option}
-use Rattle.orc_cli.specs.declared.job.Options.{Options}
+use Rattle.orc_cli.specs.declared.job.RunOptions.{RunOptions}
 use Rattle.orc_cli.specs.declared.job.TestOptions.{TestOptions}
 use Rattle.orc_run.specs.Causes.{IsCheckUndone, IsClaimUndone, IsDrawRunUndone, IsDrawUndone, IsPrintUndone, IsRunUndone, IsShowUndone, IsTestUndone}
 use Rattle.orc_run.specs.Commands.{IsUnread}
@@ -24,7 +24,7 @@ module _ (holds : List ℕ → Option (List ℕ)) where
   pub unread_draw : (file journal : List ℕ) (script : Option (List ℕ)) (f : Failure) → IsUnread f → IsDrawUndone holds file journal script f
   unread_draw file journal script f u = unread_case (IsDrawUndone holds file journal script) (λ path why. tt) f u
 
-  pub unread_draw_run : (file : List ℕ) (script : Option (List ℕ)) (run : Options) (f : Failure) → IsUnread f → IsDrawRunUndone holds file script run f
+  pub unread_draw_run : (file : List ℕ) (script : Option (List ℕ)) (run : RunOptions) (f : Failure) → IsUnread f → IsDrawRunUndone holds file script run f
   unread_draw_run file script run f u = unread_case (IsDrawRunUndone holds file script run) (λ path why. tt) f u
 
   pub unread_print : (file : List ℕ) (f : Failure) → IsUnread f → IsPrintUndone holds file f

@@ -13,7 +13,10 @@ use Rattle.orc_journal_text.proofs.Coming.{some_may_come}
 use Rattle.orc_run.specs.Checked.{IsBeyond, IsCheckFault, IsJudged, IsOfRun, IsRefusal, IsUnchecked, IsUnjudged}
 use Rattle.orc_run.specs.declared.judge.Unchecked.{Unchecked}
 use Rattle.orc_run.specs.declared.judge.Unchecked.TheVariants.{Fault, Unread}
-use Rattle.orc_run.specs.Drawn.{IsUndrawable, LeavesUndrawn}
+use Rattle.orc_run.specs.Claimed.{IsBeyondClaims, IsUnreadTest}
+use Rattle.orc_run.specs.Commands.{MayBeUntaken}
+use Rattle.orc_run.specs.declared.failures.Failure.TheVariants as failure
+use Rattle.orc_run.specs.Drawn.{IsBeyondDrawing, IsUndrawable, LeavesUndrawn}
 use Rattle.orc_run.specs.declared.picture.Undrawn.{Undrawn}
 use Rattle.orc_run.specs.declared.picture.Undrawn.TheVariants as undrawn
 use Rattle.orc_outcome.specs.declared.end.Summary.{Summary}
@@ -69,3 +72,58 @@ beyond source script journal s (load.Script f) of h =
     let (l, t, said, program, told) = run in
     script_beyond script t f said h.1
 beyond source script journal s (load.Scope f) of (r, u, spells, says, blamed) = names_beyond source script journal s u r f of says spells blamed
+
+-- and is beyond a limit, if a run wrote it
+pub undrawable_beyond : (u : Undrawn) → IsUndrawable u → IsBeyondDrawing u
+undrawable_beyond (undrawn.Fault (fault.Write w)) h = tt
+undrawable_beyond undrawn.Rows h = tt
+undrawable_beyond (undrawn.Fault (fault.Syntax f)) h = absurd h
+undrawable_beyond (undrawn.Fault (fault.Scope f)) h = absurd h
+undrawable_beyond (undrawn.Fault (fault.Script f)) h = absurd h
+undrawable_beyond (undrawn.Fault (fault.Test f)) h = absurd h
+undrawable_beyond (undrawn.Fault (fault.Journal f)) h = absurd h
+undrawable_beyond (undrawn.Fault (fault.Check f)) h = absurd h
+undrawable_beyond (undrawn.Fault (fault.Engine f)) h = absurd h
+
+-- why a test isn't read
+pub unread_beyond : (source text script journal : List ℕ) (s : Summary) (f : RunFault) → IsOfRun source script journal s → IsUnreadTest source text script f → IsBeyondClaims f
+unread_beyond source text script journal s (fault.Syntax f) of h = beyond source script journal s (load.Syntax f) of h
+unread_beyond source text script journal s (fault.Script f) of h = beyond source script journal s (load.Script f) of h
+unread_beyond source text script journal s (fault.Test f) of h = tt
+unread_beyond source text script journal s (fault.Scope f) of h = absurd h
+unread_beyond source text script journal s (fault.Journal f) of h = absurd h
+unread_beyond source text script journal s (fault.Check f) of h = absurd h
+unread_beyond source text script journal s (fault.Engine f) of h = absurd h
+unread_beyond source text script journal s (fault.Write w) of h = absurd h
+
+-- why a journal isn't judged
+pub refused_beyond : (f : RunFault) → IsBeyond f → IsBeyondClaims f
+refused_beyond (fault.Syntax f) h = h
+refused_beyond (fault.Scope f) h = h
+refused_beyond (fault.Script f) h = h
+refused_beyond (fault.Test f) h = tt
+refused_beyond (fault.Journal f) h = h
+refused_beyond (fault.Check f) h = h
+refused_beyond (fault.Engine f) h = h
+refused_beyond (fault.Write w) h = h
+
+-- it may be so of a command, too
+pub claims_untaken : (f : RunFault) → IsBeyondClaims f → MayBeUntaken (failure.Fault f)
+claims_untaken (fault.Syntax f) h = h
+claims_untaken (fault.Scope f) h = h
+claims_untaken (fault.Script f) h = h
+claims_untaken (fault.Test f) h = tt
+claims_untaken (fault.Journal f) h = h
+claims_untaken (fault.Check f) h = h
+claims_untaken (fault.Engine f) h = h
+claims_untaken (fault.Write w) h = h
+
+pub drawing_untaken : (f : RunFault) → IsBeyondDrawing (undrawn.Fault f) → MayBeUntaken (failure.Fault f)
+drawing_untaken (fault.Syntax f) h = h
+drawing_untaken (fault.Scope f) h = h
+drawing_untaken (fault.Script f) h = h
+drawing_untaken (fault.Test f) h = tt
+drawing_untaken (fault.Journal f) h = h
+drawing_untaken (fault.Check f) h = h
+drawing_untaken (fault.Engine f) h = h
+drawing_untaken (fault.Write w) h = h

@@ -6,7 +6,7 @@ use Rattle.orc_scheduler.specs.Faults.{IsOwn, engine_status}
 use Rattle.orc_scheduler.specs.declared.fault.EngineFault.{EngineFault}
 use Rattle.orc_scheduler.specs.declared.fault.EngineFault.TheVariants as engine
 use Rattle.orc_ways.specs.declared.fault.TestFault.{TestFault}
-use Rattle.orc_cli.specs.declared.job.Options.{Options}
+use Rattle.orc_cli.specs.declared.job.RunOptions.{RunOptions}
 use Rattle.orc_cli.specs.declared.job.TestOptions.{TestOptions}
 use Rattle.orc_run.specs.Checked.{IsCheckFault, IsUnchecked}
 use Rattle.orc_run.specs.Claimed.{IsUnclaimedFor}
@@ -76,7 +76,7 @@ module _ (workers limit : ℕ) where
   of_unshown u f is range own within = of_run f (λ here. range (is ∙ ap unshown.Fault here)) (λ its. own (subst IsOwnUnshown (sym is) its)) within
 
 -- one that is drawn,
-pub of_undrawn : (run : Options) (u : Undrawn) (f : RunFault) → u ≡ undrawn.Fault f → IsRangeOf run u → (IsOwnUndrawn u → ⊥) → IsInRange run.workers run.limit → failure_status (failure.Fault f) ≢ 7
+pub of_undrawn : (run : RunOptions) (u : Undrawn) (f : RunFault) → u ≡ undrawn.Fault f → IsRangeOf run u → (IsOwnUndrawn u → ⊥) → IsInRange run.workers run.limit → failure_status (failure.Fault f) ≢ 7
 of_undrawn run u f is range own within = of_run run.workers run.limit f (λ here. range (is ∙ ap undrawn.Fault here)) (λ its. own (subst IsOwnUndrawn (sym is) its)) within
 
 -- runs of a test,

@@ -16,7 +16,7 @@ use Rattle.orc_journal_text.specs.declared.text.JournalFault.TheVariants as jour
 use Rattle.orc_outcome.specs.Status.{end_status_of}
 use Rattle.orc_outcome.specs.declared.end.End.{End}
 use Rattle.orc_outcome.specs.declared.end.End.TheVariants as ends
-use Rattle.orc_run.specs.Commands.{HasEnded, IsDone, IsUnread, LeavesUndone, MayBeRefused, TellsNotAll, TellsOfFailures, WasCut}
+use Rattle.orc_run.specs.Commands.{HasEnded, IsDone, IsUnread, LeavesUndone, MayBeRefused, MayBeUntaken, TellsNotAll, TellsOfFailures, WasCut}
 use Rattle.orc_run.specs.Failures.{failure_status}
 use Rattle.orc_run.specs.Faults.{status}
 use Rattle.orc_scheduler.specs.declared.fault.EngineFault.{EngineFault}
@@ -65,6 +65,10 @@ unread f out u = unread_case (λ f. LeavesUndone f out out) (λ path why. Keeps-
 -- and is why a run's journal may not be accepted,
 pub unread_refused : (f : Failure) → IsUnread f → MayBeRefused f
 unread_refused f u = unread_case MayBeRefused (λ path why. tt) f u
+
+-- or drawn, or judged,
+pub unread_untaken : (f : Failure) → IsUnread f → MayBeUntaken f
+unread_untaken f u = unread_case MayBeUntaken (λ path why. tt) f u
 
 -- and so does a fault that is not of the output, in every command,
 pub cut_or_kept : (cut : Type 0) (old new : Option (List ℕ)) (f : RunFault) → KeepsOr cut old new f → LeavesUndone (failure.Fault f) old new

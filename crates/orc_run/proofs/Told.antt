@@ -13,10 +13,10 @@ use Rattle.orc_outcome.specs.Outcome.{IsPlayed}
 use Rattle.orc_outcome.specs.declared.end.Summary.{Summary}
 use Rattle.orc_run.specs.Running.{IsTold, Shows, written}
 use Rattle.orc_cli.specs.Wanted.{keeps_journal}
-use Rattle.orc_cli.specs.declared.job.Options.{Options}
+use Rattle.orc_cli.specs.declared.job.RunOptions.{RunOptions}
 use Rattle.orc_cli.specs.declared.job.Wanted.TheVariants as wanted
 
-module _ (l : Listing) (t : Table) (options : Options) (s : Summary) (values : List Value) (journal : Option Written) (played : IsPlayed l t options.limit s values journal) where
+module _ (l : Listing) (t : Table) (options : RunOptions) (s : Summary) (values : List Value) (journal : Option Written) (played : IsPlayed l t options.limit s values journal) where
   -- what is written of its journal is told of it
   pub told : (options.wanted ≡ wanted.Journal → AreOf t.names Two played.outcome.journal) → IsTold l t options s (written options.wanted t.names played.outcome.journal)
   told fits = record { outcome = played.outcome; is_run = played.is_run; tells = played.tells; shows = refl; fits = fits }

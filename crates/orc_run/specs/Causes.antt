@@ -4,11 +4,11 @@ use Rattle.orc_outcome.specs.declared.end.Summary.{Summary}
 use Rattle.orc_cli.specs.declared.job.Asked.{Asked}
 use Rattle.orc_cli.specs.declared.job.Job.{Job}
 use Rattle.orc_cli.specs.declared.job.Job.TheVariants as job
-use Rattle.orc_cli.specs.declared.job.Options.{Options}
+use Rattle.orc_cli.specs.declared.job.RunOptions.{RunOptions}
 use Rattle.orc_cli.specs.declared.job.TestOptions.{TestOptions}
 use Rattle.orc_run.specs.Checked.{Accepts, IsCheckFault}
 use Rattle.orc_run.specs.Claimed.{IsUnclaimedFor}
-use Rattle.orc_run.specs.Commands.{IsDone, LeavesUndone, MayBeRefused}
+use Rattle.orc_run.specs.Commands.{IsDone, LeavesUndone, MayBeRefused, MayBeUntaken}
 use Rattle.orc_run.specs.Drawn.{IsRunUndrawnFor, IsUndrawnFor}
 use Rattle.orc_run.specs.Failures.{failure_status}
 use Rattle.orc_run.specs.Inputs.{IsHeld, IsRead}
@@ -81,10 +81,10 @@ IsDrawUndone holds file journal script failure.Rows = HasDrawCause holds file jo
 IsDrawUndone holds file journal script _ = ⊥
 
 -- a picture of a run
-abbrev pub HasDrawRunCause : (List ℕ → Option (List ℕ)) → List ℕ → Option (List ℕ) → Options → Undrawn → Type 0
+abbrev pub HasDrawRunCause : (List ℕ → Option (List ℕ)) → List ℕ → Option (List ℕ) → RunOptions → Undrawn → Type 0
 HasDrawRunCause holds file script run u = OfTwo holds file script (λ source read. IsRunUndrawnFor source read run u)
 
-abbrev pub IsDrawRunUndone : (List ℕ → Option (List ℕ)) → List ℕ → Option (List ℕ) → Options → Failure → Type 0
+abbrev pub IsDrawRunUndone : (List ℕ → Option (List ℕ)) → List ℕ → Option (List ℕ) → RunOptions → Failure → Type 0
 IsDrawRunUndone holds file script run (failure.Unread path f) = Unit {0}
 IsDrawRunUndone holds file script run (failure.Fault f) = HasDrawRunCause holds file script run (undrawn.Fault f)
 IsDrawRunUndone holds file script run failure.Rows = HasDrawRunCause holds file script run undrawn.Rows
@@ -130,6 +130,10 @@ ComesTo holds a old new status = IsDone holds a.explain a.job old new status ⊎
 -- the journal of a run was accepted, with the status of a job that is done; or it wasn't, for one of the causes of `MayBeRefused`, which has this status
 abbrev pub IsAcceptedOr : Summary → Option (List ℕ) → Option (List ℕ) → ℕ → Type 0
 IsAcceptedOr s old new status = ((status ≡ 0) × Accepts s old new) ⊎ ((f : Failure) × MayBeRefused f × (status ≡ failure_status f))
+
+-- the job was done with the journal of a run; or it wasn't, for one of the causes of `MayBeUntaken`, which has this status
+abbrev pub IsTakenOr : (List ℕ → Option (List ℕ)) → Asked → Option (List ℕ) → Option (List ℕ) → ℕ → Type 0
+IsTakenOr holds a old new status = IsDone holds a.explain a.job old new status ⊎ ((f : Failure) × MayBeUntaken f × (status ≡ failure_status f))
 
 -- some job isn't done, for a cause that has this status
 abbrev pub HasCause : (List ℕ → Option (List ℕ)) → ℕ → Type 0

@@ -24,7 +24,7 @@ use Rattle.orc_run.specs.Running.{IsUnloaded, Runs, KeepsOr}
 use Rattle.orc_outcome.specs.declared.end.End.{End}
 use Rattle.orc_outcome.specs.declared.end.End.TheVariants as ends
 use Rattle.orc_outcome.specs.declared.end.Summary.{Summary}
-use Rattle.orc_cli.specs.declared.job.Options.{Options}
+use Rattle.orc_cli.specs.declared.job.RunOptions.{RunOptions}
 use Rattle.orc_cli.specs.declared.job.Wanted.TheVariants as wanted
 use Rattle.orc_run.specs.declared.faults.RunFault.{RunFault}
 use Rattle.orc_run.specs.declared.judge.Unchecked.{Unchecked}
@@ -92,7 +92,7 @@ LeavesUnchecked text script journal old new unchecked.Unread = Keeps old new
 
 -- a text that a run of the source with the script, with this summary, wrote as its journal
 abbrev pub IsOfRun : List ℕ → List ℕ → List ℕ → Summary → Type 0
-IsOfRun text script journal s = (options : Options) × (options.wanted ≡ wanted.Journal) × Runs text script options s journal
+IsOfRun text script journal s = (options : RunOptions) × (options.wanted ≡ wanted.Journal) × Runs text script options s journal
 
 -- the state of a run that ended so; of one that was cut it may be any
 abbrev pub StandsSo : End → State → Type 0

@@ -15,7 +15,7 @@ use Rattle.orc_ways.specs.declared.test.Test.{Test}
 use Rattle.orc_tally.specs.Sight.{Sight, sight}
 use Rattle.orc_orders.specs.Trials.{claim_sites}
 use Rattle.orc_findings.specs.Findings.{failing, findings_text}
-use Rattle.orc_run.specs.Checked.{IsCheckFault, IsJudgedAt, verdict_line}
+use Rattle.orc_run.specs.Checked.{IsBeyond, IsCheckFault, IsJudgedAt, verdict_line}
 use Rattle.orc_output.specs.Output.{AppendsPrefix}
 use Rattle.orc_run.specs.Running.{IsUnloaded, KeepsOr}
 use Rattle.orc_run.specs.declared.faults.RunFault.{RunFault}
@@ -67,3 +67,8 @@ IsUnclaimedFor source text script journal (fault.Scope f) = IsTest text script �
 IsUnclaimedFor source text script journal (fault.Journal f) = IsTest text script × IsCheckFault source script journal (fault.Journal f)
 IsUnclaimedFor source text script journal (fault.Check f) = IsTest text script × IsCheckFault source script journal (fault.Check f)
 IsUnclaimedFor source text script journal f = IsCheckFault source script journal f
+
+-- why the claims aren't held against the journal that a run wrote: their text is no test, or one of the causes of `IsBeyond`
+abbrev pub IsBeyondClaims : RunFault → Type 0
+IsBeyondClaims (fault.Test f) = Unit {0}
+IsBeyondClaims f = IsBeyond f

@@ -23,12 +23,12 @@ use Rattle.orc_cli.specs.declared.job.ProgramPaths.{ProgramPaths}
 use Rattle.orc_run.specs.declared.failures.Failure.{Failure}
 use Rattle.orc_run.specs.declared.failures.Failure.TheVariants as failure
 use Rattle.orc_run.specs.declared.faults.RunFault.TheVariants as fault
-use Rattle.orc_cli.specs.declared.job.Options.{Options}
+use Rattle.orc_cli.specs.declared.job.RunOptions.{RunOptions}
 use Rattle.orc_cli.specs.declared.job.TestOptions.{TestOptions}
 
 -- what was written is the whole text of a run of the file's program with the script's sites, and the status says how it ended; `holds` says what is
 -- known of the files
-abbrev pub HasRun : (List ℕ → Option (List ℕ)) → List ℕ → Option (List ℕ) → Options → Option (List ℕ) → Option (List ℕ) → ℕ → Type 0
+abbrev pub HasRun : (List ℕ → Option (List ℕ)) → List ℕ → Option (List ℕ) → RunOptions → Option (List ℕ) → Option (List ℕ) → ℕ → Type 0
 HasRun holds file script options old new status = (source read : List ℕ) × (s : Summary) × IsHeld (holds file) source × IsRead holds script read × Ran source read options old new s × (status ≡ end_status_of s.end)
 
 -- what was written are the outcomes of so many orders of the file's program with the script's sites
@@ -57,7 +57,7 @@ abbrev pub HasDrawn : (List ℕ → Option (List ℕ)) → List ℕ → List ℕ
 HasDrawn holds file journal script old new status = (source text read : List ℕ) × IsHeld (holds file) source × IsHeld (holds journal) text × IsRead holds script read × Draws source read text old new × (status ≡ 0)
 
 -- what was written is a picture of the journal of a run of the file's program with the script's sites
-abbrev pub HasDrawnRun : (List ℕ → Option (List ℕ)) → List ℕ → Option (List ℕ) → Options → Option (List ℕ) → Option (List ℕ) → ℕ → Type 0
+abbrev pub HasDrawnRun : (List ℕ → Option (List ℕ)) → List ℕ → Option (List ℕ) → RunOptions → Option (List ℕ) → Option (List ℕ) → ℕ → Type 0
 HasDrawnRun holds file script run old new status = (source read : List ℕ) × IsHeld (holds file) source × IsRead holds script read × DrawsRun source read run old new × (status ≡ 0)
 
 -- what was written is the printed text of the file's program
@@ -83,7 +83,7 @@ IsDone holds explains (job.Test program test options) old new status = HasTested
 
 -- what was written is the whole text of a run that ended so
 abbrev pub HasEnded : End → Option (List ℕ) → Option (List ℕ) → Type 0
-HasEnded end old new = (options : Options) × (source script : List ℕ) × (s : Summary) × Ran source script options old new s × (s.end ≡ end)
+HasEnded end old new = (options : RunOptions) × (source script : List ℕ) × (s : Summary) × Ran source script options old new s × (s.end ≡ end)
 
 -- what was written is the whole text of a run that was cut by its limit, or by one of the engine's
 abbrev pub WasCut : Option (List ℕ) → Option (List ℕ) → Type 0
@@ -107,11 +107,23 @@ abbrev pub ChecksRun : (List ℕ → Option (List ℕ)) → Job → Summary → 
 ChecksRun holds (job.Check program journal) s = HoldsRun holds program journal.now s
 ChecksRun holds _ s = ⊥
 
+-- a job draws such a journal, or holds claims against it
+abbrev pub TakesJournal : (List ℕ → Option (List ℕ)) → Job → Summary → Type 0
+TakesJournal holds (job.Draw program journal options) s = HoldsRun holds program journal.now s
+TakesJournal holds (job.Claims program journal test) s = HoldsRun holds program journal.now s
+TakesJournal holds _ s = ⊥
+
 -- why such a journal may not be accepted all the same: a file couldn't be read, or one of the causes of `IsBeyond`
 abbrev pub MayBeRefused : Failure → Type 0
 MayBeRefused (failure.Unread path f) = ⊤
 MayBeRefused (failure.Fault f) = IsBeyond f
 MayBeRefused _ = ⊥
+
+-- why such a job may not be done: one of these, the picture would have too many rows, or the text of the claims is no test
+abbrev pub MayBeUntaken : Failure → Type 0
+MayBeUntaken failure.Rows = ⊤
+MayBeUntaken (failure.Fault (fault.Test f)) = ⊤
+MayBeUntaken f = MayBeRefused f
 
 -- a file could not be read
 abbrev pub IsUnread : Failure → Type 0

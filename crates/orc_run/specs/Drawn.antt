@@ -4,13 +4,13 @@ use Rattle.std.specs.declared.option.Option.{Option}
 use Rattle.std.specs.Io.KnownBytes.{Keeps, Appends}
 use Rattle.orc_rules.specs.declared.entry.State.{State}
 use Rattle.orc_journal.specs.Written.{Written}
-use Rattle.orc_run.specs.Checked.{IsCheckFault, IsJudged}
+use Rattle.orc_run.specs.Checked.{IsBeyond, IsCheckFault, IsJudged}
 use Rattle.orc_output.specs.Output.{AppendsPrefix}
 use Rattle.orc_engine.specs.Ranges.{IsInRange}
 use Rattle.orc_scheduler.specs.declared.fault.EngineFault.TheVariants as engine
 use Rattle.orc_run.specs.Running.{IsFaultOf, IsOwnOf, Runs, KeepsOr}
 use Rattle.orc_outcome.specs.declared.end.Summary.{Summary}
-use Rattle.orc_cli.specs.declared.job.Options.{Options as RunOptions}
+use Rattle.orc_cli.specs.declared.job.RunOptions.{RunOptions}
 use Rattle.orc_cli.specs.declared.job.Wanted.TheVariants as wanted
 use Rattle.orc_run.specs.declared.picture.Undrawn.{Undrawn}
 use Rattle.orc_run.specs.declared.picture.Undrawn.TheVariants as undrawn
@@ -36,6 +36,11 @@ IsUndrawnFor text script journal undrawn.Rows = IsAccepted text script journal
 
 -- ---- the journal of a run
 
+-- why the journal that a run wrote isn't drawn: it is beyond a limit, memory was refused, the output failed, or the picture would have too many rows
+abbrev pub IsBeyondDrawing : Undrawn → Type 0
+IsBeyondDrawing (undrawn.Fault f) = IsBeyond f
+IsBeyondDrawing undrawn.Rows = Unit {0}
+
 -- the options of a run, with its journal as what is wanted of it
 abbrev pub with_journal : RunOptions → RunOptions
 with_journal o = record o { wanted = wanted.Journal }
@@ -54,9 +59,9 @@ abbrev pub IsUnrunFor : List ℕ → List ℕ → Undrawn → Type 0
 IsUnrunFor source script (undrawn.Fault f) = IsFaultOf source script f
 IsUnrunFor source script undrawn.Rows = ⊥
 
--- why none was drawn: a fault of the run; or of the check of such a run's journal, or too many rows of it
+-- why none was drawn: a fault of the run; or such a run's journal wasn't drawn
 abbrev pub IsRunUndrawnFor : List ℕ → List ℕ → RunOptions → Undrawn → Type 0
-IsRunUndrawnFor source script run u = IsUnrunFor source script u ⊎ ((journal : List ℕ) × (s : Summary) × Runs source script (with_journal run) s journal × IsUndrawnFor source script journal u)
+IsRunUndrawnFor source script run u = IsUnrunFor source script u ⊎ ((journal : List ℕ) × (s : Summary) × Runs source script (with_journal run) s journal × IsUndrawnFor source script journal u × IsBeyondDrawing u)
 
 -- the fault is that the number of workers or the limit is out of range, and not where they are within it
 abbrev pub IsRangeOf : RunOptions → Undrawn → Type 0

@@ -21,7 +21,7 @@ use Rattle.orc_scheduler.specs.Faults.{IsOwn}
 use Rattle.orc_output.specs.Output.{AppendsPrefix}
 use Rattle.orc_run.specs.Times.{timed}
 use Rattle.orc_cli.specs.Wanted.{keeps_journal}
-use Rattle.orc_cli.specs.declared.job.Options.{Options}
+use Rattle.orc_cli.specs.declared.job.RunOptions.{RunOptions}
 use Rattle.orc_cli.specs.declared.job.Wanted.{Wanted}
 use Rattle.orc_cli.specs.declared.job.Wanted.TheVariants as wanted
 use Rattle.orc_run.specs.declared.faults.RunFault.{RunFault}
@@ -41,7 +41,7 @@ pub record Shows (w : Wanted) (values : List Value) (journal : Option Written) (
 
 -- the summary is that of a run of the program with these sites, and the text is what is wanted of that run; each entry of a journal that is written
 -- has a line
-pub record IsTold (l : Listing) (t : Table) (options : Options) (s : Summary) (text : List ℕ) : Type 0 where
+pub record IsTold (l : Listing) (t : Table) (options : RunOptions) (s : Summary) (text : List ℕ) : Type 0 where
   pub outcome : Outcome
   pub is_run : IsRun l t options.limit outcome
   pub tells : Tells s outcome
@@ -49,15 +49,15 @@ pub record IsTold (l : Listing) (t : Table) (options : Options) (s : Summary) (t
   pub fits : options.wanted ≡ wanted.Journal → AreOf t.names Two outcome.journal
 
 -- this is the summary and the text of a run of the source's program with the sites that the script says
-abbrev pub Runs : List ℕ → List ℕ → Options → Summary → List ℕ → Type 0
+abbrev pub Runs : List ℕ → List ℕ → RunOptions → Summary → List ℕ → Type 0
 Runs source script options s text = (l : Listing) × (t : Table) × Says script t × IsProgramOf source t l × IsTold l t options s text
 
 -- what was written is the whole text of a run with this summary
-abbrev pub Ran : List ℕ → List ℕ → Options → Option (List ℕ) → Option (List ℕ) → Summary → Type 0
+abbrev pub Ran : List ℕ → List ℕ → RunOptions → Option (List ℕ) → Option (List ℕ) → Summary → Type 0
 Ran source script options old new s = (text : List ℕ) × Runs source script options s text × Appends old new text
 
 -- a prefix was written of what is wanted of a run of the source's program with the sites that the script says
-abbrev pub LeavesPart : List ℕ → List ℕ → Options → Option (List ℕ) → Option (List ℕ) → Type 0
+abbrev pub LeavesPart : List ℕ → List ℕ → RunOptions → Option (List ℕ) → Option (List ℕ) → Type 0
 LeavesPart source script options old new = (l : Listing) × (t : Table) × (outcome : Outcome) × Says script t × IsProgramOf source t l × IsRun l t options.limit outcome × AppendsPrefix old new (written options.wanted t.names outcome.journal)
 
 -- at a fault nothing was written; only at one of the output `cut` holds in its place, which says of which text a prefix was written
@@ -66,7 +66,7 @@ KeepsOr cut old new (fault.Write w) = cut
 KeepsOr cut old new _ = Keeps old new
 
 -- at a fault nothing was written, or at a write fault a prefix of the text of a run
-abbrev pub LeavesAtFault : List ℕ → List ℕ → Options → Option (List ℕ) → Option (List ℕ) → RunFault → Type 0
+abbrev pub LeavesAtFault : List ℕ → List ℕ → RunOptions → Option (List ℕ) → Option (List ℕ) → RunFault → Type 0
 LeavesAtFault source script options old new = KeepsOr (LeavesPart source script options old new) old new
 
 -- a fault of loading as a fault of a run

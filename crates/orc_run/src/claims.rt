@@ -6,8 +6,9 @@ ghost use Rattle.orc_site.specs.Script.{Says};
 ghost use Rattle.orc_ways.specs.Drafting.{test_of};
 ghost use Rattle.orc_ways.specs.Finishing.{Says as SaysTest};
 ghost use Rattle.orc_findings.specs.Findings.{failing, findings_text};
-ghost use Rattle.orc_run.specs.Checked.{verdict_line};
-ghost use Rattle.orc_run.specs.Claimed.{HasClaimed, IsUnclaimedFor, IsUnreadTest, LeavesUnclaimed, sight_at};
+ghost use Rattle.orc_outcome.specs.declared.end.Summary.{Summary};
+ghost use Rattle.orc_run.specs.Checked.{IsOfRun, verdict_line};
+ghost use Rattle.orc_run.specs.Claimed.{HasClaimed, IsBeyondClaims, IsUnclaimedFor, IsUnreadTest, LeavesUnclaimed, sight_at};
 
 use crate::faults::RunFault;
 use crate::judge::{Judged, judge, line_of};
@@ -92,6 +93,8 @@ pub fn claims_text<W: Write>(
     ensures claimed { IfOk result (HasClaimed source.now test.now script.now journal.now (W.contents out.old) (W.contents out.new)) }
     ensures fault { IfErr result (LeavesUnclaimed source.now test.now script.now journal.now (W.contents out.old) (W.contents out.new)) }
     ensures cause { IfErr result (IsUnclaimedFor source.now test.now script.now journal.now) }
+    // What a run of this source and script wrote as its journal is judged, unless it is beyond a limit or the text of the claims is no test.
+    ensures beyond { (s : Summary) → IsOfRun source.now script.now journal.now s → IfErr result IsBeyondClaims }
 {
     let known = match test_beside(alloc, source, test, script) {
         Ok(known) => known,

@@ -15,8 +15,8 @@ ghost use Rattle.orc_cli.specs.Ranges.{AreInRange};
 ghost use Rattle.orc_engine.specs.Ranges.{IsInRange};
 ghost use Rattle.orc_run.specs.Failures.{failure_status, is_asked};
 ghost use Rattle.orc_run.specs.Inputs.{IsHeld, IsRead};
-ghost use Rattle.orc_run.specs.Causes.{ComesTo, HasCause, IsAcceptedOr, IsCheckUndone, IsClaimUndone, IsDrawRunUndone, IsDrawUndone, IsPrintUndone, IsRunUndone, IsShowUndone, IsTestUndone, IsUndone};
-ghost use Rattle.orc_run.specs.Commands.{ChecksRun, HasDrawn, HasDrawnRun, HasEnded, HasHeld, HasJudged, HasPrinted, HasRun, HasShownOf, HasTested, HasTold, HasToldAll, HoldsRun, IsDone, IsUnread, LeavesUndone, MayBeRefused, TellsNotAll, TellsOfFailures, WasCut};
+ghost use Rattle.orc_run.specs.Causes.{ComesTo, HasCause, IsAcceptedOr, IsCheckUndone, IsClaimUndone, IsDrawRunUndone, IsDrawUndone, IsPrintUndone, IsRunUndone, IsShowUndone, IsTakenOr, IsTestUndone, IsUndone};
+ghost use Rattle.orc_run.specs.Commands.{ChecksRun, HasDrawn, HasDrawnRun, HasEnded, HasHeld, HasJudged, HasPrinted, HasRun, HasShownOf, HasTested, HasTold, HasToldAll, HoldsRun, IsDone, IsUnread, LeavesUndone, MayBeRefused, MayBeUntaken, TakesJournal, TellsNotAll, TellsOfFailures, WasCut};
 
 use crate::call::Names;
 use crate::claims::claims_text;
@@ -33,8 +33,8 @@ use crate::shown::{Unshown, show_text};
 use crate::test_command::{TestTexts, Untested, test_text};
 use clap::error::ErrorKind;
 use orc_cli::{
-    ArgumentTexts, Asked, DrawRunOptions, Job, Options, ProgramPaths, SearchOptions, ShowOptions,
-    SurveyOptions, TestOptions, read_words,
+    ArgumentTexts, Asked, DrawRunOptions, Job, ProgramPaths, RunOptions, SearchOptions,
+    ShowOptions, SurveyOptions, TestOptions, read_words,
 };
 use orc_explain_fault::Unread;
 use orc_output::WriteFault;
@@ -106,7 +106,7 @@ fn run_file<'a, R: Threads + Wait + Sync, F: Files, W: Write>(
     rt: &R,
     alloc: Global,
     program: ProgramPaths<'a>,
-    options: &Options,
+    options: &RunOptions,
     files: &mut F,
     out: &mut W,
     explained: &mut Explained,
@@ -331,7 +331,7 @@ fn claims_status(failing: usize) -> u8
 }
 
 // `orc check --claims`: checks the journal of a file and judges the claims of a test on it. The status says whether all hold.
-#[tactic(auto, using(crate::proofs::Statuses::unread, crate::proofs::Causing::unread_claim, crate::proofs::Statuses::cut_or_kept, crate::proofs::Sound::unread_sound))]
+#[tactic(auto, using(crate::proofs::Statuses::unread, crate::proofs::Causing::unread_claim, crate::proofs::Statuses::cut_or_kept, crate::proofs::Sound::unread_sound, crate::proofs::Statuses::unread_untaken))]
 fn claims_file<'a, F: Files, W: Write>(
     alloc: Global,
     program: ProgramPaths<'a>,
@@ -345,6 +345,8 @@ fn claims_file<'a, F: Files, W: Write>(
     ensures undone { IfErr result (λ f. LeavesUndone f (W.contents out.old) (W.contents out.new)) }
     ensures cause { IfErr result (IsClaimUndone (F.holds files.old) program.entry.file.now journal.now (option_map (λ p. p.now) program.entry.script) test.now) }
     ensures sound { IfErr result (λ f. failure_status f ≢ 7) }
+    // What a run of this source and script wrote as its journal is judged, unless it is beyond a limit or the claims are no test.
+    ensures beyond { (s : Summary) → HoldsRun (F.holds files.old) program.entry journal.now s → IfErr result MayBeUntaken }
 {
     let source = read(program.file, files)?;
     let lines = read(journal, files)?;
@@ -390,7 +392,7 @@ fn name_of(path: &str) -> &str {
 }
 
 // `orc draw` with a JOURNAL: draws the journal of a file, once the check accepts it.
-#[tactic(auto, using(crate::proofs::Statuses::unread, crate::proofs::Causing::unread_draw, crate::proofs::Statuses::cut_or_kept, crate::proofs::Sound::unread_sound, crate::proofs::Statuses::undrawn_rows))]
+#[tactic(auto, using(crate::proofs::Statuses::unread, crate::proofs::Causing::unread_draw, crate::proofs::Statuses::cut_or_kept, crate::proofs::Sound::unread_sound, crate::proofs::Statuses::undrawn_rows, crate::proofs::Statuses::unread_untaken))]
 fn draw_file<'a, F: Files, W: Write>(
     alloc: Global,
     program: ProgramPaths<'a>,
@@ -404,6 +406,8 @@ fn draw_file<'a, F: Files, W: Write>(
     ensures undone { IfErr result (λ f. LeavesUndone f (W.contents out.old) (W.contents out.new)) }
     ensures cause { IfErr result (IsDrawUndone (F.holds files.old) program.entry.file.now journal.now (option_map (λ p. p.now) program.entry.script)) }
     ensures sound { IfErr result (λ f. failure_status f ≢ 7) }
+    // What a run of this source and script wrote as its journal is drawn, unless it is beyond a limit or the picture would have too many rows.
+    ensures beyond { (s : Summary) → HoldsRun (F.holds files.old) program.entry journal.now s → IfErr result MayBeUntaken }
 {
     let source = read(program.file, files)?;
     let text = read(journal, files)?;
@@ -563,6 +567,7 @@ fn do_job<'a, R: Threads + Wait + Sync, F: Files, W: Write>(
     ensures sound { IfErr result (λ f. AreInRange job.entry → failure_status f ≢ 7) }
     ensures accepted { (s : Summary) → ChecksRun (F.holds files.old) job.entry s → IfOk result (λ status. Accepts s (W.contents out.old) (W.contents out.new)) }
     ensures beyond { (s : Summary) → ChecksRun (F.holds files.old) job.entry s → IfErr result MayBeRefused }
+    ensures untaken { (s : Summary) → TakesJournal (F.holds files.old) job.entry s → IfErr result MayBeUntaken }
 {
     match job {
         Job::Run { program, options } => {
@@ -626,6 +631,8 @@ where
     ensures sound { AreInRange asked.entry.job → result ≢ 7 }
     // The journal that a run of its source and script wrote is accepted by `orc check`, unless it is beyond a limit.
     ensures accepted { (s : Summary) → ChecksRun (F.holds files.old) asked.entry.job s → IsAcceptedOr s (W.contents out.old) (W.contents out.new) result }
+    // It is also drawn by `orc draw` and judged by `orc check --claims`, unless the picture would have too many rows or the claims are no test.
+    ensures taken { (s : Summary) → TakesJournal (F.holds files.old) asked.entry.job s → IsTakenOr (F.holds files.old) asked.entry (W.contents out.old) (W.contents out.new) result }
 {
     let Asked { job, explain } = asked;
     let mut explained = Explained::new(explain);

@@ -185,13 +185,13 @@ pub(crate) fn write_witness<W: Write>(
     ensures cause { IfErr result (IsUnshown trials.now.source.now 1 trials.now.limit script.now) }
     ensures sound { IfErr result (λ f. IsOwnFault f → ⊥) }
 {
-    let Some(its) = trials.claims.get(claim) else {
+    let Some(broken) = trials.claims.get(claim) else {
         return Ok(false);
     };
     let Ok(way) = Way::load(alloc, trials, script) else {
         return Err(NO_MEMORY);
     };
-    let Ok(found) = witness_in(alloc, &way, its, most as usize, trials.limit) else {
+    let Ok(found) = witness_in(alloc, &way, broken, most as usize, trials.limit) else {
         return Err(NO_MEMORY);
     };
     let Some(played) = found else {

@@ -41,10 +41,10 @@ impl<R: Threads + Sync> Held<'_, '_, R> {
     fn add(&self, scripts: &[Vec<u8>], fails: &mut Vec<bool>) -> Result<(), AllocError> {
         let failing = self.count(scripts)?;
         // Whether it is the same for all of these ways, so that no way need be tried alone.
-        let is_one = failing == 0 || failing == scripts.len() as u64;
+        let ways_agree = failing == 0 || failing == scripts.len() as u64;
         // Each piece is a list of one way, as `count` takes it.
         for way in scripts.chunks(1) {
-            let does_fail = if is_one {
+            let does_fail = if ways_agree {
                 failing > 0
             } else {
                 self.count(way)? > 0

@@ -1,11 +1,11 @@
 //! The program `orc` as a library: its commands, its statuses and its texts.
 //!
-//! `commands` reads files and calls the function of a command, whose name mostly ends with `_text`: it takes texts and writes to a stream. A clause
-//! has the same name throughout. On success one like `ran`, `tested` or `done` says what was answered and written. At a fault `fault`, `err` or
-//! `undone` says what was written all the same, `cause` why this fault comes, `range` that a number is out of range if the fault says so, and `sound`
-//! that the fault isn't one of the engine's own, or in `commands` that a failure hasn't the status of one if the numbers are in range. `accepted` says
-//! that a check accepts the journal of a run, and `beyond` why it may not all the same. `W.contents out.old` and `W.contents out.new` are what a
-//! stream holds before and after, where that is known.
+//! `commands` reads files and calls the function of a command, whose name mostly ends with `_text`: it takes texts and writes to a stream. A
+//! clause has the same name throughout. On success one like `ran`, `tested` or `done` says what was answered and written. At a fault `fault`,
+//! `err` or `undone` says what was written all the same, `cause` why this fault comes, `range` that a number is out of range if the fault says
+//! so, and `sound` that the fault isn't one of the engine's own, or in `commands` that a failure hasn't the status of one if the numbers are in
+//! range. `accepted` says that a check accepts the journal of a run, and `beyond` why it may not all the same, or why a picture or claims may not
+//! take it. `W.contents out.old` and `W.contents out.new` are what a stream holds before and after, where that is known.
 //!
 //! A fault is often handed on by a `match` where `map_err` would do: a closure is proved as functions of its own.
 //!
@@ -55,7 +55,7 @@ pub use faults::RunFault;
 pub use inputs::{Files, ReadFault};
 pub use judge::{Unchecked, check_read, check_text};
 pub use orc_cli::{
-    Asked, DrawRunOptions, Job, Options, Order, ProgramPaths, STANDARD_INPUT, SearchOptions,
+    Asked, DrawRunOptions, Job, Order, ProgramPaths, RunOptions, STANDARD_INPUT, SearchOptions,
     ShowOptions, Shown, SurveyOptions, TestOptions, Wanted,
 };
 pub use orc_explain_fault::Unread;

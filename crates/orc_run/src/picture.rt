@@ -2,13 +2,14 @@
 
 ghost use Rattle.std.specs.Prelude.{◌≡◌, IfOk, IfErr, OnOk, List, ℕ};
 ghost use Rattle.orc_outcome.specs.declared.end.Summary.{Summary};
-ghost use Rattle.orc_run.specs.Drawn.{Draws, DrawsRun, IsOwnUndrawn, IsRangeOf, IsRunUndrawnFor, IsUndrawable, IsUndrawnFor, IsUnrunFor, LeavesUndrawn, LeavesUndrawnRun, with_journal};
+ghost use Rattle.orc_run.specs.Checked.{IsOfRun};
+ghost use Rattle.orc_run.specs.Drawn.{Draws, DrawsRun, IsBeyondDrawing, IsOwnUndrawn, IsRangeOf, IsRunUndrawnFor, IsUndrawable, IsUndrawnFor, IsUnrunFor, LeavesUndrawn, LeavesUndrawnRun, with_journal};
 ghost use Rattle.orc_run.specs.Running.{Runs};
 
 use crate::faults::RunFault;
 use crate::judge::{Judged, judge};
 use crate::runner::run_source;
-use orc_cli::{DrawRunOptions, Options as RunOptions, Wanted};
+use orc_cli::{DrawRunOptions, RunOptions, Wanted};
 use orc_draw::{DrawFault, Options, Subject, draw};
 use orc_engine::EngineFault;
 use orc_outcome::End;
@@ -77,6 +78,8 @@ pub fn draw_text<W: Write>(
     ensures drawn { OnOk result (Draws source.now script.now journal.now (W.contents out.old) (W.contents out.new)) }
     ensures undrawn { IfErr result (LeavesUndrawn source.now script.now journal.now (W.contents out.old) (W.contents out.new)) }
     ensures cause { IfErr result (IsUndrawnFor source.now script.now journal.now) }
+    // What a run of this source and script wrote as its journal is drawn, unless it is beyond a limit or the picture would have too many rows.
+    ensures beyond { (s : Summary) → IsOfRun source.now script.now journal.now s → IfErr result IsBeyondDrawing }
 {
     let judged = match judge(alloc, source, script, journal) {
         Ok(judged) => judged,

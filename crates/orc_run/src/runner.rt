@@ -18,7 +18,7 @@ ghost use Rattle.orc_cli.specs.declared.job.Wanted.TheVariants as what;
 use crate::faults::RunFault;
 use crate::times::write_times;
 use crate::unordered::run_unordered;
-use orc_cli::{Options, Order, Wanted};
+use orc_cli::{Order, RunOptions, Wanted};
 // The engine that runs programs. Another one with the same contract takes its place here.
 use orc_engine::{EngineFault, run_alone, run_parallel};
 use orc_load::{Loaded, load};
@@ -36,7 +36,7 @@ fn play<R: Threads + Wait + Sync>(
     rt: &R,
     alloc: Global,
     loaded: &Loaded,
-    options: &Options,
+    options: &RunOptions,
     keeps: bool,
 ) -> Result<Played, EngineFault>
     ensures ran { IfOk result (λ p. IsPlayed loaded.now.program loaded.now.answers options.now.limit p.summary p.published.items p.journal) }
@@ -70,7 +70,7 @@ fn run_program<R: Threads + Wait + Sync>(
     rt: &R,
     alloc: Global,
     loaded: &Loaded,
-    options: &Options,
+    options: &RunOptions,
     keeps: bool,
 ) -> Result<Played, RunFault>
     ensures ran { IfOk result (λ p. IsPlayed loaded.now.program loaded.now.answers options.now.limit p.summary p.published.items p.journal) }
@@ -112,7 +112,7 @@ pub(crate) fn run_source<R: Threads + Wait + Sync, W: Write>(
     alloc: Global,
     source: &[u8],
     script: &[u8],
-    options: &Options,
+    options: &RunOptions,
     keeps: bool,
     out: &mut W,
 ) -> Result<(Loaded, Played), RunFault>
@@ -143,7 +143,7 @@ pub fn run_text<R: Threads + Wait + Sync, W: Write>(
     alloc: Global,
     source: &[u8],
     script: &[u8],
-    options: &Options,
+    options: &RunOptions,
     out: &mut W,
 ) -> Result<Summary, RunFault>
     ensures ran { IfOk result (Ran source.now script.now options.now (W.contents out.old) (W.contents out.new)) }

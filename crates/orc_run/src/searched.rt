@@ -353,25 +353,25 @@ impl Searcher<'_, '_> {
         Ok(after)
     }
 
-    // What is said of each claim after the ways of the case at this place, from 0. `its` has the scripts of these ways.
+    // What is said of each claim after the ways of the case at this place, from 0. `ways` has their scripts.
     fn say_of_case(
         &self,
         case: usize,
-        its: &CaseScripts,
+        ways: &CaseScripts,
         before: Vec<Searched>,
         left: &mut u64,
     ) -> Result<Vec<Searched>, AllocError>
-        requires its { slice_get self.now.cases.now case ≡ Some its.now }
+        requires ways { slice_get self.now.cases.now case ≡ Some ways.now }
         requires so_far { AreSoFar self.now case 0 before.items }
         ensures { IfOk result (λ after. AreSoFar self.now (suc case) 0 after.items) }
     {
         let mut said = before;
-        for way in 0..its.scripts.len() {
+        for way in 0..ways.scripts.len() {
             let place = Broken {
                 case,
                 way: way as u64,
             };
-            said = self.say_of_way(place, its.scripts[way].as_slice(), said, left)?;
+            said = self.say_of_way(place, ways.scripts[way].as_slice(), said, left)?;
         }
         Ok(said)
     }
@@ -394,15 +394,15 @@ impl Searcher<'_, '_> {
     pub(crate) fn see(&self, script: &[u8], claim: usize) -> Result<Option<Sighted>, AllocError>
         ensures { IfOk result (λ found. IfSome found (IsSighted self.now.trials.now script.now claim)) }
     {
-        let Some(its) = self.trials.claims.get(claim) else {
+        let Some(broken) = self.trials.claims.get(claim) else {
             return Ok(None);
         };
-        let known = Watch::of_claim(self.alloc, its)?;
+        let known = Watch::of_claim(self.alloc, broken)?;
         let Some(watch) = known else {
             return Ok(None);
         };
         let way = Way::load(self.alloc, self.trials, script)?;
-        let found = way.search(self.alloc, its, self.most as usize, self.trials.limit)?;
+        let found = way.search(self.alloc, broken, self.most as usize, self.trials.limit)?;
         match found {
             ClaimSearched::Fails(seen) => Ok(Some(Sighted {
                 seen,

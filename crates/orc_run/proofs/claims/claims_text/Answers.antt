@@ -3,6 +3,7 @@ use Rattle.std.proofs.Common.{subst}
 use Rattle.std.specs.Io.KnownBytes.{Appends}
 use Rattle.orc_output.specs.Output.{AppendsPrefix}
 use Rattle.orc_run.proofs.Claiming.{is_told, is_untold, refused_for}
+use Rattle.orc_run.proofs.LoadFaults.{refused_beyond, unread_beyond}
 use Rattle.orc_run.proofs.claims.claims_text.Goals as goal
 
 -- memory was refused for what is told
@@ -41,3 +42,11 @@ returns-clause-fault g c =
 -- the test is one, and the journal was refused
 pub returns-in-Err-judge-clause-cause : goal.returns-in-Err-judge-clause-cause
 returns-in-Err-judge-clause-cause g c = refused_for c.args.source.now c.args.test.now c.args.script.now c.args.journal.now c.in-Ok.known c.in-Err-judge.fault c.in-Ok.ensures.says c.in-Err-judge.ensures.cause
+
+-- ---- the journal of a run
+
+pub returns-in-Err-clause-beyond : goal.returns-in-Err-clause-beyond
+returns-in-Err-clause-beyond g c = λ s of. unread_beyond c.args.source.now c.args.test.now c.args.script.now c.args.journal.now s c.in-Err.fault of c.in-Err.ensures.cause
+
+pub returns-in-Err-judge-clause-beyond : goal.returns-in-Err-judge-clause-beyond
+returns-in-Err-judge-clause-beyond g c = λ s of. refused_beyond c.in-Err-judge.fault (c.in-Err-judge.ensures.beyond s of)

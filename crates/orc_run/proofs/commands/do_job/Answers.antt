@@ -126,3 +126,35 @@ returns-in-Draw-clause-sound g c = rw c.in-Draw.is (sound_anyway _ _ c.draw_file
 
 pub returns-in-Print-clause-sound : goal.returns-in-Print-clause-sound
 returns-in-Print-clause-sound g c = rw c.in-Print.is (sound_anyway _ _ c.print_file.ensures.sound)
+
+-- ---- the journal of a run is taken
+
+pub returns-in-Draw-clause-untaken : goal.returns-in-Draw-clause-untaken
+returns-in-Draw-clause-untaken g c = rw c.in-Draw.is c.draw_file.ensures.beyond
+
+pub returns-in-Claims-clause-untaken : goal.returns-in-Claims-clause-untaken
+returns-in-Claims-clause-untaken g c = rw c.in-Claims.is c.claims_file.ensures.beyond
+
+pub returns-in-Run-clause-untaken : goal.returns-in-Run-clause-untaken
+returns-in-Run-clause-untaken g c = rw c.in-Run.is (λ s none. absurd none)
+
+pub returns-in-Outcomes-clause-untaken : goal.returns-in-Outcomes-clause-untaken
+returns-in-Outcomes-clause-untaken g c = rw c.in-Outcomes.is (λ s none. absurd none)
+
+pub returns-in-Search-clause-untaken : goal.returns-in-Search-clause-untaken
+returns-in-Search-clause-untaken g c = rw c.in-Search.is (λ s none. absurd none)
+
+pub returns-in-Show-clause-untaken : goal.returns-in-Show-clause-untaken
+returns-in-Show-clause-untaken g c = rw c.in-Show.is (λ s none. absurd none)
+
+pub returns-in-Check-clause-untaken : goal.returns-in-Check-clause-untaken
+returns-in-Check-clause-untaken g c = rw c.in-Check.is (λ s none. absurd none)
+
+pub returns-in-DrawRun-clause-untaken : goal.returns-in-DrawRun-clause-untaken
+returns-in-DrawRun-clause-untaken g c = rw c.in-DrawRun.is (λ s none. absurd none)
+
+pub returns-in-Print-clause-untaken : goal.returns-in-Print-clause-untaken
+returns-in-Print-clause-untaken g c = rw c.in-Print.is (λ s none. absurd none)
+
+pub returns-in-Test-clause-untaken : goal.returns-in-Test-clause-untaken
+returns-in-Test-clause-untaken g c = rw c.in-Test.is (λ s none. absurd none)

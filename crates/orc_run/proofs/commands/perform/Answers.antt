@@ -22,3 +22,10 @@ returns-in-Ok-clause-accepted g c = λ s checks. inl (checked_status _ _ c.args.
 
 pub returns-clause-accepted : goal.returns-clause-accepted
 returns-clause-accepted g c = λ s checks. inr (c.in-Err.failure, c.in-Err.ensures.beyond s checks, c.status.ensures)
+
+-- and drawn or judged
+pub returns-in-Ok-clause-taken : goal.returns-in-Ok-clause-taken
+returns-in-Ok-clause-taken g c = λ s takes. inl (done_as_asked _ c.args.asked c.new-explained.result _ _ _ c.new-explained.ensures c.in-Ok.ensures.done)
+
+pub returns-clause-taken : goal.returns-clause-taken
+returns-clause-taken g c = λ s takes. inr (c.in-Err.failure, c.in-Err.ensures.untaken s takes, c.status.ensures)
