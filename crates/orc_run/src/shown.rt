@@ -156,15 +156,23 @@ fn run_in_order(alloc: Global, loaded: &Loaded, order: u64, limit: u64) -> Resul
     ensures range { IfErr result (λ f. f ≡ RunFault.Engine EngineFault.Range → IsInRange 1 limit → ⊥) }
     ensures sound { IfErr result (λ f. IsOwnOf f → IsProgram (definitions loaded.now.program) (source loaded.now.program) → ⊥) }
 {
-    run_alone(
+    let run = run_alone(
         alloc,
         &loaded.program,
         &loaded.answers,
         Some(order),
         true,
         limit,
-    )
-    .map_err(RunFault::Engine)
+    );
+    let played = match run {
+        Ok(played) => played,
+        Err(fault) => return Err(RunFault::Engine(fault)),
+    };
+    // Memory was refused once the run had begun, so it isn't the whole run of this order.
+    if played.summary.end == End::Memory {
+        return Err(RunFault::Engine(EngineFault::Memory));
+    }
+    Ok(played)
 }
 
 // Writes the journal of a run that has an outcome to which no order came. `seen` has the outcomes of the orders. Those that only the search finds
