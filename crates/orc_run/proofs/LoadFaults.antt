@@ -119,11 +119,4 @@ claims_untaken (fault.Engine f) h = h
 claims_untaken (fault.Write w) h = h
 
 pub drawing_untaken : (f : RunFault) → IsBeyondDrawing (undrawn.Fault f) → MayBeUntaken (failure.Fault f)
-drawing_untaken (fault.Syntax f) h = h
-drawing_untaken (fault.Scope f) h = h
-drawing_untaken (fault.Script f) h = h
-drawing_untaken (fault.Test f) h = tt
-drawing_untaken (fault.Journal f) h = h
-drawing_untaken (fault.Check f) h = h
-drawing_untaken (fault.Engine f) h = h
-drawing_untaken (fault.Write w) h = h
+drawing_untaken f h = claims_untaken f (refused_beyond f h)
