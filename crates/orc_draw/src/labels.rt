@@ -2,6 +2,7 @@
 
 use crate::picture::Subject;
 use crate::story::Kind;
+use orc_lex::lexer::{Piece, piece_at};
 use orc_lex::token::Span;
 use orc_report::{Fill, Page};
 use orc_rules::entry::Entry;
@@ -51,30 +52,36 @@ impl Texts<'_, '_> {
         page.finish()
     }
 
-    // Writes the source of an otherwise's left side, with one blank for each run of blanks and line ends, and comments as they stand. If it is over
-    // `LONGEST` columns long, its end becomes `..`.
+    // Writes the tokens of an otherwise's left side as the source has them, with one blank for each gap between two of them. If that is over `LONGEST`
+    // columns long, its end becomes `..`.
     fn left_side(&self, page: &mut Page, place: Span) {
         let mut line = Page::new(self.alloc);
-        let text = self
-            .subject
-            .source
-            .get(place.start..place.end)
-            .unwrap_or(b"");
-        // Whether blanks stand between the last byte that was written and the next one.
+        let source = self.subject.source;
+        let mut at = place.start;
+        // Whether blanks or a comment stand between the last token that was written and the next one.
         let mut is_apart = false;
-        for byte in text {
+        // Each piece has a byte at least, so there are no more pieces than bytes.
+        for _piece in 0..source.len() {
             // What is too long already is cut below.
-            if line.len() > LONGEST {
+            if at >= source.len() || at >= place.end || line.len() > LONGEST {
                 break;
             }
-            if matches!(*byte, b' ' | b'\t' | b'\r' | b'\n') {
-                is_apart = line.len() > 0;
-            } else {
-                if is_apart {
-                    line.say(" ");
+            match piece_at(source, at) {
+                Piece::Gap(end) => {
+                    is_apart = line.len() > 0;
+                    at = end;
                 }
-                is_apart = false;
-                line.byte(*byte);
+                Piece::Token(token) => {
+                    if is_apart {
+                        line.say(" ");
+                    }
+                    is_apart = false;
+                    let Span { start, end } = token.span;
+                    line.word(source.get(start..end).unwrap_or(b""));
+                    at = end;
+                }
+                // Doesn't come: the source was read before it was run.
+                Piece::Unread(_) => break,
             }
         }
         page.heed(&line);
