@@ -66,8 +66,10 @@ enum Wrong {
     Range,
     /// `after`, `then` or the end of the line.
     More,
-    /// Too many patterns or answers.
-    Many,
+    /// Too many patterns.
+    Patterns,
+    /// Too many answers.
+    Answers,
 }
 
 impl Piece<'_> {
@@ -257,7 +259,7 @@ impl<'a> Line<'a> {
         Ok(())
     }
 
-    // Goes on behind the patterns and their brackets. The error is Many behind `MOST_ARGUMENTS` patterns and a comma.
+    // Goes on behind the patterns and their brackets. The error is Patterns behind `MOST_ARGUMENTS` of them and a comma.
     fn patterns(&mut self) -> Result<(), Wrong> {
         self.want(b"(", Wrong::Bracket)?;
         if self.is_here(b")") {
@@ -276,7 +278,7 @@ impl<'a> Line<'a> {
             }
             self.want(b",", Wrong::Comma)?;
         }
-        Err(Wrong::Many)
+        Err(Wrong::Patterns)
     }
 
     // Goes on behind a number of units of time, which has no sign. The error is Range for one that is too large, and else Time.
@@ -314,7 +316,7 @@ impl<'a> Line<'a> {
         Ok(())
     }
 
-    // Goes on to the end of the line, over answers with `then` between them. The error is Many behind `MOST_ANSWERS` answers and a `then`.
+    // Goes on to the end of the line, over answers with `then` between them. The error is Answers behind `MOST_ANSWERS` of them and a `then`.
     fn answers(&mut self) -> Result<(), Wrong> {
         for _answer in 0..MOST_ANSWERS {
             self.answer()?;
@@ -323,7 +325,7 @@ impl<'a> Line<'a> {
             }
             self.want(b"then", Wrong::More)?;
         }
-        Err(Wrong::Many)
+        Err(Wrong::Answers)
     }
 
     // Reads the whole line. The error is what is wrong first, with the piece that is looked at then.
@@ -335,7 +337,8 @@ impl<'a> Line<'a> {
     }
 }
 
-// What is wrong, in words. Before those of `BuiltIn` and `Reserved` stands the piece, and before those of `Many` how many are allowed.
+// What is wrong, in words. Before those of `BuiltIn` and `Reserved` stands the piece, and before those of `Patterns`
+// and `Answers` how many are allowed.
 fn words(wrong: Wrong) -> &'static str {
     match wrong {
         Wrong::Name => "the name of a site has to stand here",
@@ -350,7 +353,8 @@ fn words(wrong: Wrong) -> &'static str {
         Wrong::Time => "a number of units of time has to stand here",
         Wrong::Range => "this number is out of range",
         Wrong::More => "`after`, `then` or the end of the line has to stand here",
-        Wrong::Many => " answers",
+        Wrong::Patterns => " patterns",
+        Wrong::Answers => " answers",
     }
 }
 
@@ -385,8 +389,9 @@ fn say_script_line(page: &mut Page, alloc: Global, document: &Document, number: 
 fn say_wrong(page: &mut Page, wrong: Wrong, here: Piece) {
     match wrong {
         Wrong::BuiltIn | Wrong::Reserved => page.say_word("`", here.text, ""),
-        Wrong::Many => {
-            page.say_number("over ", MOST_ARGUMENTS as u64, " patterns or ");
+        Wrong::Patterns => page.say_number("over ", MOST_ARGUMENTS as u64, ""),
+        Wrong::Answers => {
+            page.say("over ");
             page.grouped(MOST_ANSWERS as u64);
         }
         // Before the words of all others nothing stands.
@@ -419,7 +424,7 @@ fn say_advice(page: &mut Page, document: &Document, wrong: Wrong, line: &Line) {
         Wrong::Assign | Wrong::More => page.help(FORM),
         Wrong::Time => page.help(TIME),
         Wrong::Range => page.expected(VALUES),
-        Wrong::Reserved | Wrong::Comma | Wrong::NeverAfter | Wrong::Many => {}
+        Wrong::Reserved | Wrong::Comma | Wrong::NeverAfter | Wrong::Patterns | Wrong::Answers => {}
     }
 }
 
