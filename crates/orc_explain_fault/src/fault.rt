@@ -27,8 +27,8 @@ pub enum Fault {
     Journal(JournalFault),
     /// The limit of a run is out of its range, 1 to `MOST_ENTRIES`.
     Range,
-    /// Memory was refused before the run began.
-    Begin,
+    /// Memory was refused for a run, for its result or for a search through runs.
+    Run,
     /// The engine found nothing to do where something was left.
     Broken,
     /// The output was not taken whole, or memory for its text was refused.
@@ -71,7 +71,7 @@ fn say_fault(page: &mut Page, alloc: Global, subject: &Subject, fault: Fault) {
         Fault::Script(fault) => say_script(page, alloc, subject, fault),
         Fault::Journal(fault) => say_journal(page, alloc, subject, fault),
         Fault::Range => say_range(page),
-        Fault::Begin => say_refused(page, "the run was begun"),
+        Fault::Run => say_refused(page, "the program was run"),
         Fault::Broken => say_broken(page),
         Fault::Write => page.note(
             "standard output took only a part of the text: a full device, or a reader that has gone\n",
