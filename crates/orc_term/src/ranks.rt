@@ -10,6 +10,7 @@ ghost use Rattle.orc_term.specs.declared.arena.Node.{Node as NodeOf};
 use crate::arena::{Double, Kind, Node};
 use crate::nodes::item;
 use crate::slot::Slot;
+use orc_rules::limits::MOST_LEVELS;
 use std::alloc::{AllocError, Global};
 
 /// The ranks of all nodes. A node that is put between two others takes a free rank between theirs; if there is none, those below get greater ranks.
@@ -27,8 +28,8 @@ pub struct Ranks {
 // How many numbers are left free above a node that comes below another, so that the first `|` that a send puts there costs nothing.
 const FREE: u32 = 1;
 
-// The most `|` above a node that are counted: `MOST_LEVELS`, since no checked term has more levels.
-const LONGEST_QUEUE: u32 = 10_000;
+// The most `|` above a node that are counted: no checked term has more levels.
+const LONGEST_QUEUE: u32 = MOST_LEVELS as u32;
 
 // How much greater a new node's rank is than that of the node above it. The only new node with two parts is the `|` of a send, which takes the free
 // rank.
