@@ -97,7 +97,8 @@ weigh() {
             echo "$crate 0"
             continue
         fi
-        weight=$(find "$top/crates/$crate/src" -name '*.rt' -exec sed '/^ *\/\//d' {} + 2>/dev/null | wc -c)
+        # One more, since 0 is for what is built.
+        weight=$((1 + $(find "$top/crates/$crate/src" -name '*.rt' -exec sed '/^ *\/\//d' {} + 2>/dev/null | wc -c)))
         for each in $(below "$crate"); do
             if [ "$each" != "$crate" ]; then weight=$((weight + ${bytes[$each]:-0} / 250)); fi
         done
