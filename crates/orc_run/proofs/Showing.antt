@@ -17,9 +17,15 @@ use Rattle.orc_outcome.specs.declared.end.End.{End}
 use Rattle.orc_outcome.specs.declared.played.Played.{Played}
 use Rattle.orc_orders.specs.Survey.{IsSurvey}
 use Rattle.orc_orders.specs.declared.seen.Seen.{Seen}
+use Rattle.orc_rules.specs.Timed.{IsIn}
+use Rattle.orc_schedules.specs.Ends.{IsEndOfRun}
+use Rattle.orc_schedules.specs.Searched.{IsSearched}
 use Rattle.orc_schedules.specs.declared.ended.Ended.{Ended}
-use Rattle.orc_run.specs.Searched.{IsUnseen, ended_of}
-use Rattle.orc_run.specs.Shown.{HasShown, HasWritten, IsJournalOf, IsNumbered, IsUnshownBy, IsUnshownFor, IsUnwrittenBy, LeavesUnseen, LeavesUnshown, LeavesUnwritten, ShowsOutcome, WritesUnseen}
+use Rattle.orc_schedules.specs.declared.exploration.Schedules.{Schedules}
+use Rattle.orc_schedules.specs.declared.exploration.Schedules.TheVariants as schedules
+use Rattle.orc_schedules.proofs.Growing.{get_in}
+use Rattle.orc_run.specs.Searched.{IsUnseen, ended_of, found_of}
+use Rattle.orc_run.specs.Shown.{HasOutcome, HasShown, HasWritten, IsJournalOf, IsNumbered, IsThere, IsUnshownBy, IsUnshownFor, IsUnwrittenBy, LeavesUnseen, LeavesUnshown, LeavesUnwritten, ShowsOutcome, WritesUnseen}
 use Rattle.orc_run.specs.declared.faults.RunFault.TheVariants as fault
 use Rattle.orc_run.specs.declared.shown.Unshown.{Unshown}
 use Rattle.orc_run.specs.declared.shown.Unshown.TheVariants as unshown
@@ -128,10 +134,13 @@ module _ (source script : List ℕ) (orders limit number : ℕ) (l : Listing) (t
   pub none_with : (n : ℕ) → n ≡ number → length seen ≤ number - 1 → IsUnshownFor source script orders limit number (unshown.NoOutcome n)
   none_with n is fewer = (is, (seen, (l, t, says, spells, survey), fewer))
 
+  has : (e : Ended) → IsThere l t seen number e → HasOutcome source script orders limit number
+  has e there = record { listing = l; table = t; says = says; spells = spells; seen = seen; survey = survey; outcome = e; there = there }
+
   -- and that, or why another one isn't shown, is why none is
-  pub unshown_for : (f : Unshown) → length seen ≤ number - 1 → IsUnshownBy number f → IsUnshownFor source script orders limit number f
+  pub unshown_for : (f : Unshown) → length seen ≤ number - 1 → IsUnshownBy l t seen number f → IsUnshownFor source script orders limit number f
   unshown_for (unshown.NoOutcome n) fewer is = none_with n is fewer
-  unshown_for (unshown.NoRun n) fewer is = is
+  unshown_for (unshown.NoRun n) fewer (is, (e, unseen, real)) = (is, has e (inr (fewer, unseen, real)))
   unshown_for (unshown.Fault (fault.Write w)) fewer is = tt
   unshown_for (unshown.Fault (fault.Engine f)) fewer is = (l, t, says, spells)
   unshown_for (unshown.Fault (fault.Syntax f)) fewer is = absurd is
@@ -141,29 +150,48 @@ module _ (source script : List ℕ) (orders limit number : ℕ) (l : Listing) (t
   unshown_for (unshown.Fault (fault.Journal f)) fewer is = absurd is
   unshown_for (unshown.Fault (fault.Check f)) fewer is = absurd is
 
--- ---- a run that was played
+  -- why the journal of a run isn't written is why the outcome isn't shown to which its order came
+  pub unwritten_for : (x : Seen) (r : Result Unit Unshown) → slice_get seen (number - 1) ≡ Some x → IfErr r (IsUnwrittenBy number) → IfErr r (IsUnshownFor source script orders limit number)
+  unwritten_for x (Ok u) there why = why
+  unwritten_for x (Err f) there why = go f why
+    where
+      go : (f : Unshown) → IsUnwrittenBy number f → IsUnshownFor source script orders limit number f
+      go (unshown.NoOutcome n) is = absurd is
+      go (unshown.NoRun n) is = (is, has (ended_of x) (inl (slice_get-map ended_of seen (number - 1) ∙ ap (λ (o : Option Seen). option_map ended_of o) there)))
+      go (unshown.Fault (fault.Write w)) is = tt
+      go (unshown.Fault (fault.Engine f)) is = absurd is
+      go (unshown.Fault (fault.Syntax f)) is = absurd is
+      go (unshown.Fault (fault.Scope f)) is = absurd is
+      go (unshown.Fault (fault.Script f)) is = absurd is
+      go (unshown.Fault (fault.Test f)) is = absurd is
+      go (unshown.Fault (fault.Journal f)) is = absurd is
+      go (unshown.Fault (fault.Check f)) is = absurd is
 
--- why its journal isn't written is why its outcome isn't shown
-pub unwritten_unshown : (number : ℕ) (f : Unshown) → IsUnwrittenBy number f → IsUnshownBy number f
-unwritten_unshown number (unshown.NoOutcome n) is = absurd is
-unwritten_unshown number (unshown.NoRun n) is = is
-unwritten_unshown number (unshown.Fault (fault.Write w)) is = tt
-unwritten_unshown number (unshown.Fault (fault.Engine f)) is = absurd is
-unwritten_unshown number (unshown.Fault (fault.Syntax f)) is = absurd is
-unwritten_unshown number (unshown.Fault (fault.Scope f)) is = absurd is
-unwritten_unshown number (unshown.Fault (fault.Script f)) is = absurd is
-unwritten_unshown number (unshown.Fault (fault.Test f)) is = absurd is
-unwritten_unshown number (unshown.Fault (fault.Journal f)) is = absurd is
-unwritten_unshown number (unshown.Fault (fault.Check f)) is = absurd is
+-- ---- an outcome to which no order came
 
-pub unwritten_for : (source script : List ℕ) (orders limit number : ℕ) (f : Unshown) → IsUnwrittenBy number f → IsUnshownFor source script orders limit number f
-unwritten_for source script orders limit number (unshown.NoOutcome n) is = absurd is
-unwritten_for source script orders limit number (unshown.NoRun n) is = is
-unwritten_for source script orders limit number (unshown.Fault (fault.Write w)) is = tt
-unwritten_for source script orders limit number (unshown.Fault (fault.Engine f)) is = absurd is
-unwritten_for source script orders limit number (unshown.Fault (fault.Syntax f)) is = absurd is
-unwritten_for source script orders limit number (unshown.Fault (fault.Scope f)) is = absurd is
-unwritten_for source script orders limit number (unshown.Fault (fault.Script f)) is = absurd is
-unwritten_for source script orders limit number (unshown.Fault (fault.Test f)) is = absurd is
-unwritten_for source script orders limit number (unshown.Fault (fault.Journal f)) is = absurd is
-unwritten_for source script orders limit number (unshown.Fault (fault.Check f)) is = absurd is
+-- one that a loop has read is among those that a search found
+pub read_is_in : (found : List Ended) (i : ℕ) (e : Ended) → i < length found → e ≡ slice_index_or found i e → IsIn e found
+read_is_in found i e inside same = get_in found i e (slice_get-get_or found i e inside ∙ ap Some (sym same))
+
+-- a run ends with each outcome that a search found
+pub real_of : (l : Listing) (t : Table) (limit : ℕ) (s : Schedules) (e : Ended) → IsSearched l t limit s → IsIn e (found_of s) → IsEndOfRun l t e
+real_of l t limit (schedules.All es states) e (all, real) is = real e is
+real_of l t limit schedules.TooMany e h is = absurd is
+real_of l t limit schedules.TooLong e h is = absurd is
+
+-- why the journal of a run isn't written is why the outcome isn't shown for which it was found
+pub unwritten_unshown : (l : Listing) (t : Table) (seen : List Seen) (number : ℕ) (e : Ended) (r : Result Unit Unshown) → IsUnseen seen e → IsEndOfRun l t e → IfErr r (IsUnwrittenBy number) → IfErr r (IsUnshownBy l t seen number)
+unwritten_unshown l t seen number e (Ok u) unseen real why = why
+unwritten_unshown l t seen number e (Err f) unseen real why = go f why
+  where
+    go : (f : Unshown) → IsUnwrittenBy number f → IsUnshownBy l t seen number f
+    go (unshown.NoOutcome n) is = absurd is
+    go (unshown.NoRun n) is = (is, (e, unseen, real))
+    go (unshown.Fault (fault.Write w)) is = tt
+    go (unshown.Fault (fault.Engine f)) is = absurd is
+    go (unshown.Fault (fault.Syntax f)) is = absurd is
+    go (unshown.Fault (fault.Scope f)) is = absurd is
+    go (unshown.Fault (fault.Script f)) is = absurd is
+    go (unshown.Fault (fault.Test f)) is = absurd is
+    go (unshown.Fault (fault.Journal f)) is = absurd is
+    go (unshown.Fault (fault.Check f)) is = absurd is

@@ -15,6 +15,7 @@ use Rattle.orc_outcome.specs.declared.end.End.{End}
 use Rattle.orc_outcome.specs.declared.played.Played.{Played}
 use Rattle.orc_orders.specs.Survey.{IsSurvey}
 use Rattle.orc_orders.specs.declared.seen.Seen.{Seen}
+use Rattle.orc_schedules.specs.Ends.{IsEndOfRun}
 use Rattle.orc_schedules.specs.declared.ended.Ended.{Ended}
 use Rattle.orc_output.specs.Output.{AppendsPrefix}
 use Rattle.orc_run.specs.Running.{IsFaultOf, IsOwnOf, KeepsOr}
@@ -64,11 +65,28 @@ LeavesUnshown source script orders limit number old new _ = Keeps old new
 abbrev pub HasFewer : List ℕ → List ℕ → ℕ → ℕ → ℕ → Type 0
 HasFewer source script orders limit number = (seen : List Seen) × CameTo source script orders limit seen × (length seen ≤ number - 1)
 
--- why none is shown: a fault has the cause that it has of a run; or no order came to the outcome with this number; or no run was found that has it
+-- among the outcomes that came up this is the one with the number, from 1; or there are fewer, this is none of them, and a run ends with it
+abbrev pub IsThere : Listing → Table → List Seen → ℕ → Ended → Type 0
+IsThere l t seen number e = (slice_get (map ended_of seen) (number - 1) ≡ Some e) ⊎ ((length seen ≤ number - 1) × IsUnseen seen e × IsEndOfRun l t e)
+
+-- The source's program, with the sites that the script says, has an outcome with this number: one of those that came up in so many orders, or another
+-- one with which a run ends.
+pub record HasOutcome (source script : List ℕ) (orders limit number : ℕ) : Type 0 where
+  pub listing : Listing
+  pub table : Table
+  pub says : Says script table
+  pub spells : IsProgramOf source table listing
+  pub seen : List Seen
+  pub survey : IsSurvey listing table limit orders seen
+  pub outcome : Ended
+  pub there : IsThere listing table seen number outcome
+
+-- why none is shown: a fault has the cause that it has of a run; or no order came to the outcome with this number; or there is one, and no run was
+-- found that has it
 abbrev pub IsUnshownFor : List ℕ → List ℕ → ℕ → ℕ → ℕ → Unshown → Type 0
 IsUnshownFor source script orders limit number (unshown.Fault f) = IsFaultOf source script f
 IsUnshownFor source script orders limit number (unshown.NoOutcome n) = (n ≡ number) × HasFewer source script orders limit number
-IsUnshownFor source script orders limit number (unshown.NoRun n) = n ≡ number
+IsUnshownFor source script orders limit number (unshown.NoRun n) = (n ≡ number) × HasOutcome source script orders limit number
 
 -- a fault for which the engine itself is to blame
 abbrev pub IsOwnUnshown : Unshown → Type 0
@@ -101,11 +119,11 @@ IsUnwrittenBy number (unshown.NoRun n) = n ≡ number
 IsUnwrittenBy number (unshown.Fault (fault.Write w)) = Unit {0}
 IsUnwrittenBy number _ = ⊥
 
--- why none is shown of the outcomes to which no order came: there is none with the number, or no run that has it was found, or memory was refused, or
--- the output is at fault
-abbrev pub IsUnshownBy : ℕ → Unshown → Type 0
-IsUnshownBy number (unshown.NoOutcome n) = n ≡ number
-IsUnshownBy number (unshown.NoRun n) = n ≡ number
-IsUnshownBy number (unshown.Fault (fault.Write w)) = Unit {0}
-IsUnshownBy number (unshown.Fault (fault.Engine f)) = f ≡ engine.Memory
-IsUnshownBy number _ = ⊥
+-- why none is shown of the outcomes to which no order came: there is none with the number, or a run ends with one and none was found that does, or
+-- memory was refused, or the output is at fault
+abbrev pub IsUnshownBy : Listing → Table → List Seen → ℕ → Unshown → Type 0
+IsUnshownBy l t seen number (unshown.NoOutcome n) = n ≡ number
+IsUnshownBy l t seen number (unshown.NoRun n) = (n ≡ number) × ((e : Ended) × IsUnseen seen e × IsEndOfRun l t e)
+IsUnshownBy l t seen number (unshown.Fault (fault.Write w)) = Unit {0}
+IsUnshownBy l t seen number (unshown.Fault (fault.Engine f)) = f ≡ engine.Memory
+IsUnshownBy l t seen number _ = ⊥

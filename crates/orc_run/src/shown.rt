@@ -5,6 +5,7 @@ ghost use Rattle.orc_engine.specs.Ranges.{IsInRange};
 ghost use Rattle.orc_outcome.specs.Outcome.{IsPlayed};
 ghost use Rattle.orc_rules.specs.Nodes.{definitions, source};
 ghost use Rattle.orc_rules.specs.Program.{IsProgram};
+ghost use Rattle.orc_rules.specs.Timed.{IsIn};
 ghost use Rattle.orc_run.specs.Running.{IsOther, IsOwnOf};
 ghost use Rattle.orc_run.specs.Searched.{IsUnseen};
 ghost use Rattle.orc_run.specs.Shown.{HasShown, HasWritten, IsOwnUnshown, IsUnshownBy, IsUnshownFor, IsUnwrittenBy, LeavesUnseen, LeavesUnshown, LeavesUnwritten, WritesUnseen};
@@ -38,7 +39,7 @@ pub enum Unshown {
     Fault(RunFault),
     /// There are fewer outcomes than this number, which counts from 1.
     NoOutcome(u64),
-    /// No run was found that has the outcome with this number.
+    /// There is an outcome with this number, but no run was found that has it.
     NoRun(u64),
 }
 
@@ -82,7 +83,8 @@ fn has(played: &Played, outcome: Outcome<'_>) -> bool
 
 // The outcome at this place, from 0, among those that a search found and no order came to. None if there are fewer.
 fn unseen_at<'f>(seen: &[Seen], found: &'f [Ended], place: usize) -> Option<&'f Ended>
-    ensures { IfSome result (λ e. IsUnseen seen.now e.now) }
+    ensures found { IfSome result (λ e. IsIn e.now found.now) }
+    ensures unseen { IfSome result (λ e. IsUnseen seen.now e.now) }
 {
     // How many of these outcomes still come before the one that is looked for.
     let mut left = place;
@@ -177,7 +179,6 @@ fn run_in_order(alloc: Global, loaded: &Loaded, order: u64, limit: u64) -> Resul
 
 // Writes the journal of a run that has an outcome to which no order came. `seen` has the outcomes of the orders. Those that only the search finds
 // have the numbers that follow, in the order in which a search through so many states finds them.
-#[tactic(auto, using(crate::proofs::Showing::unwritten_unshown))]
 fn show_unseen<W: Write>(
     alloc: Global,
     loaded: &Loaded,
@@ -189,7 +190,7 @@ fn show_unseen<W: Write>(
 ) -> Result<(), Unshown>
     ensures ok { OnOk result (WritesUnseen loaded.now.program loaded.now.answers seen.now (W.contents out.old) (W.contents out.new)) }
     ensures err { IfErr result (LeavesUnseen loaded.now.program loaded.now.answers seen.now (W.contents out.old) (W.contents out.new)) }
-    ensures cause { IfErr result (IsUnshownBy number) }
+    ensures cause { IfErr result (IsUnshownBy loaded.now.program loaded.now.answers seen.now number) }
 {
     // Counted from 0, behind the outcomes of the orders; the number counts from 1.
     let place = (number as usize)
@@ -218,8 +219,8 @@ fn show_unseen<W: Write>(
 /// [`search_text`](crate::search_text) writes behind them.
 ///
 /// The faults are those of `survey_text`; `Engine` comes also where memory is refused to a search. Without a fault there may be no outcome with this
-/// number, or no run may be found that has it. Nothing is written then, but at a fault of the output a prefix of the journal's text.
-#[tactic(auto, using(crate::proofs::Showing::unwritten_for))]
+/// number (`NoOutcome`), or there is one and no run is found that has it (`NoRun`). Nothing is written then, but at a fault of the output a prefix of the
+/// journal's text.
 pub fn show_text<R: Threads + Sync, W: Write>(
     rt: &R,
     alloc: Global,

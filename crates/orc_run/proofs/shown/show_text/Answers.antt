@@ -4,7 +4,7 @@ use Rattle.orc_orders.specs.Survey.{IsSurvey}
 use Rattle.orc_run.specs.Running.{IsOwnOf}
 use Rattle.orc_run.specs.Shown.{IsUnshownBy, IsUnshownFor}
 use Rattle.orc_run.specs.declared.shown.Unshown.{Unshown}
-use Rattle.orc_run.proofs.Showing.{none_with, other_left, other_written, seen_left, seen_written, there_is, unshown_for}
+use Rattle.orc_run.proofs.Showing.{none_with, other_left, other_written, seen_left, seen_written, there_is, unshown_for, unwritten_for}
 use Rattle.orc_run.proofs.Told.{taken}
 use Rattle.orc_run.proofs.shown.show_text.Goals as goal
 
@@ -26,6 +26,16 @@ returns-in-Some-clause-fault g c =
     let there = there_is c.as_slice-seen.result.now c.saturating_sub.result _ c.in-Some.one.now c.saturating_sub.ensures found.3.0 (found.3.1 c.in-Some.one.now) in
     seen_left c.args.source.now c.args.script.now c.args.options.now.survey.orders c.args.options.now.survey.limit c.args.options.now.number loaded.program loaded.answers c.as_slice-seen.result.now came.says came.spells (subst (IsSurvey loaded.program loaded.answers c.args.options.now.survey.limit c.args.options.now.survey.orders) (sym c.as_slice-seen.ensures.value) came.survey)
     c.args.options.now.survey.limit c.in_ok-played.played c.in-Some.one.now _ _ _ c.write_shown.result there c.as_slice.ensures.value c.in_ok-played.ensures.played c.write_shown.ensures.err
+
+-- why it isn't written
+pub returns-in-Some-clause-cause : goal.returns-in-Some-clause-cause
+returns-in-Some-clause-cause g c =
+    let loaded = c.in_ok-loaded.loaded in
+    let came = c.in_ok-loaded.ensures in
+    let found = c.in-Some.ensures.lookup in
+    let there = there_is c.as_slice-seen.result.now c.saturating_sub.result _ c.in-Some.one.now c.saturating_sub.ensures found.3.0 (found.3.1 c.in-Some.one.now) in
+    unwritten_for c.args.source.now c.args.script.now c.args.options.now.survey.orders c.args.options.now.survey.limit c.args.options.now.number loaded.program loaded.answers c.as_slice-seen.result.now came.says came.spells (subst (IsSurvey loaded.program loaded.answers c.args.options.now.survey.limit c.args.options.now.survey.orders) (sym c.as_slice-seen.ensures.value) came.survey)
+    c.in-Some.one.now c.write_shown.result there c.write_shown.ensures.cause
 
 -- and one that a search found
 pub returns-clause-shown : goal.returns-clause-shown
@@ -54,7 +64,7 @@ returns-in-None-clause-cause g c =
 pub returns-clause-cause : goal.returns-clause-cause
 returns-clause-cause g c = go c.show_unseen.result c.show_unseen.ensures.cause
   where
-    go : (r : Result Unit Unshown) → IfErr r (IsUnshownBy c.args.options.now.number) → IfErr r (IsUnshownFor c.args.source.now c.args.script.now c.args.options.now.survey.orders c.args.options.now.survey.limit c.args.options.now.number)
+    go : (r : Result Unit Unshown) → IfErr r (IsUnshownBy c.in_ok-loaded.loaded.program c.in_ok-loaded.loaded.answers c.as_slice-seen.result.now c.args.options.now.number) → IfErr r (IsUnshownFor c.args.source.now c.args.script.now c.args.options.now.survey.orders c.args.options.now.survey.limit c.args.options.now.number)
     go (Ok u) h = h
     go (Err f) h =
         let loaded = c.in_ok-loaded.loaded in
