@@ -63,6 +63,7 @@ impl BareCounts {
         if len <= self.next.len() {
             return Ok(());
         }
+        // 0: no call of these sites without arguments was counted.
         self.next.resize(len, 0)
     }
 

@@ -16,7 +16,7 @@ use std::marker::Model;
 /// answers depend on it (`AreCounted`).
 #[derive(Drop)]
 pub struct Counts {
-    // Of the calls without arguments, for which nothing has to be hashed.
+    // The counts of the calls without arguments, for which nothing has to be hashed.
     bare: BareCounts,
     // The calls with arguments, by the key of a site with its arguments: which such call is the next one, from 1; the first, if the key isn't there.
     next: HashMap<Vec<u64>, u64, BuildHasherDefault<FoldHasher>>,
@@ -182,6 +182,7 @@ impl Counts {
             *next = more;
             return Ok(());
         }
+        // The table keeps the key as a list of its own.
         let words = Vec::from_slice(self.alloc, key.as_slice())?;
         // This was the first such call, so the next one is the second.
         self.next.insert(words, 2)?;

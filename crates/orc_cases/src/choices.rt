@@ -33,8 +33,8 @@ impl Drop for Choice {
     }
 }
 
-/// The sum of two numbers of calls off. Where it would overflow the error is refused memory: each of these calls has an answer that is kept, so
-/// memory for them is used up long before.
+/// The sum of two numbers of unusual calls. Where it would overflow the error is refused memory: each such call has an answer that is kept, so memory
+/// for them is used up long before.
 pub(crate) fn sum(a: u64, b: u64) -> Result<u64, AllocError>
     ensures { IfOk result (λ n. n ≡ a + b) }
 {
@@ -45,7 +45,7 @@ pub(crate) fn sum(a: u64, b: u64) -> Result<u64, AllocError>
 }
 
 impl Choice {
-    // The choice without answers yet, in which so many calls are off already.
+    // The choice without answers yet, in which so many calls are off already: they don't take the first alternative.
     fn begin(alloc: Global, off: u64) -> Choice
         ensures { choice_of result ≡ begin off }
     {
@@ -72,7 +72,7 @@ impl Choice {
     }
 }
 
-// The choice of one answer, with no call off: `histories` counts that for the whole alternative.
+// The choice of one answer, with no unusual call: `histories` counts that for the whole alternative.
 fn one_answer(alloc: Global, is_ranged: bool, answer: Found) -> Result<Choice, AllocError>
     ensures { IfOk result (λ c. choice_of c ≡ one_answer is_ranged answer) }
 {
@@ -166,8 +166,8 @@ fn each_followed(
     }
 }
 
-// What one alternative, an answer for each call, stands for: a choice for each combination of the delays of its ranges. In each so many calls are
-// off.
+// What one alternative, an answer for each call, stands for: a choice for each combination of the delays of its ranges. In each of them `off` calls
+// are off: 0 for the usual alternative, 1 for another. The error is refused memory.
 fn histories(alloc: Global, off: u64, replies: &[Reply]) -> Result<Vec<Choice>, AllocError>
     ensures { IfOk result (λ cs. choices_from cs.items ≡ with_replies (begin off ∷ []) replies.now) }
 {
@@ -187,7 +187,7 @@ fn histories(alloc: Global, off: u64, replies: &[Reply]) -> Result<Vec<Choice>, 
     }
 }
 
-// What the alternatives stand for, in their order. The first one is the usual one; each other one has one call off.
+// What the alternatives stand for, in their order. The first one is the usual one; each other one has one call off (unusual).
 fn options(alloc: Global, alternatives: &[Vec<Reply>]) -> Result<Vec<Choice>, AllocError>
     ensures { IfOk result (λ cs. choices_from cs.items ≡ options 0 (histories_of alternatives.now)) }
 {
@@ -223,7 +223,7 @@ fn all_choices(alloc: Global, service: &Service<'_>) -> Result<Vec<Choice>, Allo
     Ok(all)
 }
 
-// Those that are off first, and behind them the usual ones. Both keep their order.
+// The choices in which a call is off (unusual) first, and behind them the usual ones. Both keep their order.
 fn off_first(alloc: Global, choices: Vec<Choice>) -> Result<Vec<Choice>, AllocError>
     ensures { IfOk result (λ cs. choices_from cs.items ≡ off_first (choices_from choices.items)) }
 {

@@ -91,8 +91,8 @@ pub(crate) fn halts_of(
     Ok(halts)
 }
 
-// Whether a way's text has a line with this choice. With `only_telling` it has only the lines that tell the way from others: those that are off or
-// whose alternative has a range. Otherwise it has every line.
+// Whether a way's text has a line with this choice. With `only_telling` it has only the lines that tell the way from others: those that are off (a
+// call doesn't take the first alternative) or whose alternative has a range. Otherwise it has every line.
 fn is_shown(only_telling: bool, choice: &Choice) -> bool
     ensures { result ≡ is_shown only_telling (choice_of choice.now) }
 {
@@ -128,6 +128,7 @@ fn push_way(
     requires within { number < count }
     ensures { OnOk result (text.new.items ≡ text.old.items ++ lines_text only_telling (lines_from lines.now) (way_at (all_choices_of lines.now) number)) }
 {
+    // How many ways the lines have that are still to come.
     let mut left = count;
     // What is left of the number: its digits from this line on.
     let mut digits = number;
@@ -142,12 +143,14 @@ fn push_way(
     Ok(())
 }
 
-// The choice of the line at a place, from 0, in the way with this number; None where there is no such line. It divides as `push_way` does.
+// The choice of the line at a place, from 0, in the way with this number, of `count` ways; None where there is no such line. The number's digits are
+// the places of the lines' choices, the first line's digit the highest.
 fn choice_at(lines: &[Line], count: usize, number: usize, place: usize) -> Option<&Choice>
     requires counted { count ≡ length (combinations (all_choices_of lines.now)) }
     requires within { number < count }
     ensures { option_map (λ c. choice_of c.now) result ≡ slice_get (way_at (all_choices_of lines.now) number) place }
 {
+    // How many ways the lines have that are still to come, and what is left of the number: its digits from the next line on.
     let mut left = count;
     let mut digits = number;
     // How many lines still stand before the one at `place`.
@@ -207,8 +210,8 @@ impl Frame {
         }
     }
 
-    /// The text of the lines of the way with this number; with `only_telling` of those alone that are off or take an alternative with a range. The
-    /// error is refused memory.
+    /// The text of the lines of the way with this number; with `only_telling` of those alone that are off (a call doesn't take the first alternative)
+    /// or take an alternative with a range. The error is refused memory.
     pub(crate) fn way(
         &self,
         alloc: Global,

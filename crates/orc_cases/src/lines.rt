@@ -102,7 +102,7 @@ fn is_overridden(services: &[ServiceLine<'_>], places: &[usize], service: &Servi
     }
 }
 
-// The places of a case's own services, ascending. The error is refused memory.
+// The places of the own services of the case at place `case`, from 0; they ascend. The error is refused memory.
 fn own_places(
     alloc: Global,
     services: &[ServiceLine<'_>],
@@ -126,7 +126,8 @@ fn is_kept(services: &[ServiceLine<'_>], own: &[usize], line: &ServiceLine<'_>) 
     line.case.is_none() && !is_overridden(services, own, &line.service)
 }
 
-// Pushes the places of the services of `given` that none of the case's own services overrides. The error is refused memory.
+// Pushes the places of the services of `given` that none of the case's own services, which are at the places `own`, overrides. The error is refused
+// memory.
 fn add_kept(
     services: &[ServiceLine<'_>],
     own: &[usize],
@@ -142,8 +143,8 @@ fn add_kept(
     Ok(())
 }
 
-/// The places of the services of a case: its own in their order, then those of `given` that don't have the name and the patterns of one of its own.
-/// The error is refused memory.
+/// The places of the services of the case at place `case`, from 0: its own in their order, then those of `given` that don't have the name and the
+/// patterns of one of its own. The error is refused memory.
 pub(crate) fn case_places(
     alloc: Global,
     services: &[ServiceLine<'_>],
@@ -207,6 +208,7 @@ pub(crate) fn other_names<'a>(
 ) -> Result<Vec<&'a [u8]>, AllocError>
     ensures { IfOk result (λ ns. map (λ n. n.now) ns.items ≡ new_names (names (services_at services.now places.now)) (map (λ l. l.service) (service_lines_of services.now))) }
 {
+    // The names that are not to be added: those at the places, and each other one once it was added.
     let mut seen = names_at(alloc, services, places)?;
     let mut others = Vec::new(alloc);
     let mut rest = services;

@@ -22,6 +22,7 @@ use std::alloc::{AllocError, Global};
 /// The ways of a case that fail.
 #[derive(Clone, Copy)]
 pub(crate) struct Failing<'f> {
+    /// What the scripts of all ways have in common. In it each way has a number.
     pub(crate) frame: &'f Frame,
     /// The numbers that the ways have in the frame, in the order of the ways.
     pub(crate) numbers: &'f [usize],
@@ -56,6 +57,7 @@ impl Failing<'_> {
                     [does_fail, others @ ..] => {
                         if *does_fail {
                             let choice = self.frame.choice(*number, line);
+                            // None if the line takes no range in this way, or gives another answer to the call.
                             if let Some(delay) = delay_in(place, answer, choice) {
                                 delays.push(delay)?;
                             }
@@ -69,7 +71,7 @@ impl Failing<'_> {
     }
 
     // The delays after which a line gives this answer to the call at `place`, as `delays` has them, each once, as ascending intervals. The error is
-    // refused memory.
+    // refused memory. `line` is the line's place in the frame, and `place` the call's among those that the line answers, both from 0.
     fn intervals(
         &self,
         alloc: Global,
@@ -87,7 +89,8 @@ impl Failing<'_> {
         Ok(found)
     }
 
-    // Writes the answer to the call at `place`, with all delays with which some way fails in place of its own delay. The error is refused memory.
+    // Writes the answer `found` to the call at `place`, with all delays with which some way fails in place of its own delay. `line` is the line's
+    // place in the frame, and `place` the call's among those that the line answers, both from 0. The error is refused memory.
     fn write_answer(
         &self,
         alloc: Global,
@@ -111,7 +114,8 @@ impl Failing<'_> {
         }
     }
 
-    // Writes the rest of a line from its `=` on, with the LF. The error is refused memory.
+    // Writes the rest of a line from its `=` on, with the LF. `line` is the line's place in the frame, from 0. `answers` are its answers in the way
+    // that is shown, to one call after the other. The error is refused memory.
     fn write_answers(
         &self,
         alloc: Global,
@@ -129,6 +133,7 @@ impl Failing<'_> {
             match rest {
                 [] => return text.extend_from_slice(b"\n"),
                 [found, more @ ..] => {
+                    // Before the first answer ` = `, before each other ` then `.
                     push_mark(text, place)?;
                     self.write_answer(alloc, line, place, *found, text)?;
                     place += 1;

@@ -22,6 +22,7 @@ use std::marker::Model;
 /// ranges run from their low ends.
 #[derive(Drop)]
 pub struct Ways {
+    /// What the scripts of all ways have in common. In it each way has a number.
     frame: Frame,
     /// The number that each way has in the frame, in the order of the ways.
     numbers: Vec<usize>,
@@ -32,6 +33,7 @@ impl Model for Ways {
 
     ghost view = { λ w. ways_from w.frame };
 
+    // The numbers are those of all ways in the frame, in the order of the ways.
     ghost invariant = { λ w. IsOrdered w.frame w.numbers.items };
 }
 
@@ -43,11 +45,12 @@ fn numbers_of(alloc: Global, frame: &Frame) -> Result<Vec<usize>, AllocError>
     let lines = frame.lines.as_slice();
     let weights = weights_of(alloc, lines)?;
     let weighed = weights.as_slice();
+    // A way's weight stands at the way's number in the frame. So the places of the weights, in order, are these numbers.
     let numbers = in_order(alloc, weighed)?;
     Ok(numbers)
 }
 
-// The ways of the services at these places of the test's list; `count` is how many there are. The error is refused memory.
+// The ways of the services at these places of the test's list; `count` is how many ways there are. The error is refused memory.
 fn of_places(
     alloc: Global,
     services: &[ServiceLine<'_>],
@@ -109,8 +112,9 @@ impl Ways {
         Ok(scripts)
     }
 
-    /// Those lines of the script of the way with this number, from 0 in the order of the ways, that tell it from other ways: they are off, or take an
-    /// alternative with a range. The text is empty if there is no such way. The error is refused memory.
+    /// Those lines of the script of the way with this number, from 0 in the order of the ways, that tell it from other ways: they are off (a call
+    /// doesn't take the first alternative), or take an alternative with a range. The text is empty if there is no such way. The error is refused
+    /// memory.
     pub fn unusual(&self, alloc: Global, number: u64) -> Result<Vec<u8>, AllocError>
         ensures { IfOk result (λ t. t.items ≡ unusual self.now number) }
     {
@@ -119,6 +123,7 @@ impl Ways {
         if place >= numbers.len() {
             return Ok(Vec::new(alloc));
         }
+        // `numbers[place]` is the way's number in the frame. `true`: only the lines that tell it from other ways.
         let way = self.frame.way(alloc, numbers[place], true)?;
         Ok(way)
     }
@@ -134,6 +139,7 @@ impl Ways {
         if place >= numbers.len() {
             return false;
         }
+        // `numbers[place]` is the way's number in the frame.
         self.frame.has_range(numbers[place])
     }
 
@@ -159,6 +165,7 @@ impl Ways {
             numbers,
             fails,
         };
+        // `numbers[place]` is the way's number in the frame.
         let lines = failing.lines(alloc, numbers[place])?;
         Ok(lines)
     }

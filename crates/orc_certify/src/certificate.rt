@@ -83,7 +83,8 @@ fn check(
     Some(Certificate { journal, end })
 }
 
-// Writes what `form` asks for; `text` is the text of the journal. After an error a prefix of it is written.
+// Writes what `form` asks for of a run: the values that `journal` publishes, or `text`, which is the text of that journal. The error is that the
+// output couldn't be written whole, or refused memory; a prefix was written then.
 fn write_answer<W: Write>(
     alloc: Global,
     form: Form,

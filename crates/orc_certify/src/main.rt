@@ -27,6 +27,7 @@ const WRONG_WORDS: u8 = 2;
 /// What a command line asks for. The texts are paths of files.
 #[derive(Drop)]
 struct Asked<'a> {
+    /// What to write: the values that the run published, or its journal.
     form: Form,
     source: &'a str,
     journal: &'a str,
@@ -85,6 +86,7 @@ fn answer(rt: &HostRuntime, asked: &Asked) -> io::Result<u8> {
         &mut rt.stdout(),
     );
     match answered {
+        // 0 if the run halted, 3 if it is quiet.
         Ok(end) => Ok(end.status()),
         Err(Unanswered::Uncertified) => Ok(UNCERTIFIED),
         Err(Unanswered::Unwritten) => Ok(UNWRITTEN),

@@ -110,7 +110,8 @@ impl<'s, 'a> Services<'s, 'a> {
         }
     }
 
-    // Makes runs of the case at this place until each of its services was asked, or no run is left. The error is refused memory.
+    // Makes runs of the case at this place until each of its services was asked, or no run is left. `scripts` has the case's ways that were tried,
+    // and `workers` threads make the runs. The error is refused memory.
     fn try_case<'t, 'c, R: Threads + Sync>(
         &mut self,
         rt: &R,
@@ -120,6 +121,7 @@ impl<'s, 'a> Services<'s, 'a> {
         case: usize,
         scripts: &[Vec<u8>],
     ) -> Result<(), AllocError> {
+        // What is reported of each service's claim, over all runs of the case that were made so far.
         let mut told = CaseTold::new(alloc, trials.claims)?;
         for some in scripts.chunks(BATCH) {
             if !self.has_unasked(case) {

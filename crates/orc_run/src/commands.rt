@@ -100,7 +100,8 @@ fn read_script_text<'a, F: Files>(
     }
 }
 
-// `orc run`: runs the program of a file. The status says how the run ended. Its journal is kept if an explanation is asked for, which reads it.
+// `orc run`: runs the program of a file. The status says how the run ended. Its journal is kept if an explanation is asked for, which reads it. It
+// hands how the run ended, or a fault, to `explained`, with the names and texts of the files (`subject`).
 #[tactic(auto, using(crate::proofs::Statuses::unread, crate::proofs::Causing::unread_run, crate::proofs::Statuses::cut_or_kept, crate::proofs::Sound::unread_sound))]
 fn run_file<'a, R: Threads + Wait + Sync, F: Files, W: Write>(
     rt: &R,
@@ -140,7 +141,8 @@ fn run_file<'a, R: Threads + Wait + Sync, F: Files, W: Write>(
     }
 }
 
-// `orc outcomes`: runs the program of a file in many orders, and writes each outcome that came up.
+// `orc outcomes`: runs the program of a file in many orders, and writes each outcome that came up. It hands a fault to `explained`, with the names
+// and texts of the files (`subject`).
 #[tactic(auto, using(crate::proofs::Statuses::unread, crate::proofs::Causing::unread_run, crate::proofs::Statuses::cut_or_kept, crate::proofs::Sound::unread_sound))]
 fn survey_file<'a, R: Threads + Sync, F: Files, W: Write>(
     rt: &R,
@@ -182,8 +184,9 @@ fn search_status(all: bool) -> u8
     if all { 0 } else { 4 }
 }
 
-// `orc outcomes --all`: does the same, and searches all the program's schedules, through so many states at most. The status says whether the search
-// found all outcomes.
+// `orc outcomes --all`: runs the program of a file in many orders, and searches all its schedules, through so many states at most as the options say.
+// It writes each outcome. The status says whether the search found all outcomes. It hands a fault to `explained`, with the names and texts of the
+// files (`subject`).
 #[tactic(auto, using(crate::proofs::Statuses::unread, crate::proofs::Causing::unread_run, crate::proofs::Statuses::cut_or_kept, crate::proofs::Sound::unread_sound))]
 fn search_file<'a, R: Threads + Sync, F: Files, W: Write>(
     rt: &R,
@@ -218,8 +221,8 @@ fn search_file<'a, R: Threads + Sync, F: Files, W: Write>(
     }
 }
 
-// `orc outcomes --show`: writes the journal of a run that has the outcome with this number, from 1. Without a search only outcomes that came up in
-// an order have one.
+// `orc outcomes --show`: writes the journal of a run that has the outcome with this number, from 1. Without a search only outcomes that came up in an
+// order have one. It hands a fault to `explained`, with the names and texts of the files (`subject`).
 #[tactic(auto, using(crate::proofs::Statuses::unread, crate::proofs::Causing::unread_show, crate::proofs::Statuses::cut_or_kept, crate::proofs::Sound::unread_sound))]
 fn show_file<'a, R: Threads + Sync, F: Files, W: Write>(
     rt: &R,
@@ -256,8 +259,8 @@ fn show_file<'a, R: Threads + Sync, F: Files, W: Write>(
     }
 }
 
-// `orc check`: checks the journal of a file. It is read piece by piece, but where an explanation is asked for: then its text is kept, so that a fault
-// can be shown in it.
+// `orc check`: checks the journal of a file. It is read piece by piece; but where an explanation is asked for, its text is kept (`lines`), so that
+// `explained` can show a fault in it. `subject` has the names and texts of the files, the journal too.
 #[tactic(auto, using(crate::proofs::Statuses::unread, crate::proofs::Causing::unread_check, crate::proofs::Statuses::cut_or_kept, crate::proofs::Sound::unread_sound, crate::proofs::Statuses::unread_refused))]
 fn check_file<'a, F: Files, W: Write>(
     alloc: Global,
@@ -330,7 +333,8 @@ fn claims_status(failing: usize) -> u8
     if failing == 0 { 0 } else { 1 }
 }
 
-// `orc check --claims`: checks the journal of a file and judges the claims of a test on it. The status says whether all hold.
+// `orc check --claims`: checks the journal of a file and judges the claims of a test on it. The status says whether all hold. `lines` is the
+// journal's text, and `claims` the test's. It hands a fault to `explained`, with the names and texts of the files (`subject`).
 #[tactic(auto, using(crate::proofs::Statuses::unread, crate::proofs::Causing::unread_claim, crate::proofs::Statuses::cut_or_kept, crate::proofs::Sound::unread_sound, crate::proofs::Statuses::unread_untaken))]
 fn claims_file<'a, F: Files, W: Write>(
     alloc: Global,
@@ -391,7 +395,8 @@ fn name_of(path: &str) -> &str {
     Path::new(title).file_name().unwrap_or(title)
 }
 
-// `orc draw` with a JOURNAL: draws the journal of a file, once the check accepts it.
+// `orc draw` with a JOURNAL: draws the journal of a file, once the check accepts it. `text` is the journal's. It hands a fault to `explained`, with
+// the names and texts of the files (`subject`).
 #[tactic(auto, using(crate::proofs::Statuses::unread, crate::proofs::Causing::unread_draw, crate::proofs::Statuses::cut_or_kept, crate::proofs::Sound::unread_sound, crate::proofs::Statuses::undrawn_rows, crate::proofs::Statuses::unread_untaken))]
 fn draw_file<'a, F: Files, W: Write>(
     alloc: Global,
@@ -438,7 +443,8 @@ fn draw_file<'a, F: Files, W: Write>(
     }
 }
 
-// `orc draw` without one: runs a file's program, and draws that run's journal.
+// `orc draw` without a JOURNAL: runs a file's program, and draws that run's journal. It hands a fault to `explained`, with the names and texts of the
+// files (`subject`).
 #[tactic(auto, using(crate::proofs::Statuses::unread, crate::proofs::Causing::unread_draw_run, crate::proofs::Statuses::cut_or_kept, crate::proofs::Sound::unread_sound))]
 fn draw_run_of<'a, R: Threads + Wait + Sync, F: Files, W: Write>(
     rt: &R,
@@ -475,7 +481,7 @@ fn draw_run_of<'a, R: Threads + Wait + Sync, F: Files, W: Write>(
     }
 }
 
-// `orc print`: prints the program of a file.
+// `orc print`: prints the program of a file. It hands a fault to `explained`, with the source's name and text (`subject`).
 #[tactic(auto, using(crate::proofs::Statuses::unread, crate::proofs::Causing::unread_print, crate::proofs::Statuses::cut_or_kept, crate::proofs::Sound::unread_sound))]
 fn print_file<'a, F: Files, W: Write>(
     alloc: Global,
@@ -500,7 +506,8 @@ fn print_file<'a, F: Files, W: Write>(
     }
 }
 
-// `orc test`: judges the claims of a test on runs of a file's program. The status says whether all hold.
+// `orc test`: judges the claims of a test on runs of a file's program. The status says whether all hold. `claims` is the test's text, and `names` are
+// for the commands that the table shows. It hands a fault to `explained`, with the names and texts of the files.
 #[tactic(auto, using(crate::proofs::Statuses::unread, crate::proofs::Causing::unread_test, crate::proofs::Statuses::cut_or_kept, crate::proofs::Sound::unread_sound))]
 fn test_file<'a, R: Threads + Sync, F: Files, W: Write>(
     rt: &R,
@@ -532,7 +539,7 @@ fn test_file<'a, R: Threads + Sync, F: Files, W: Write>(
     };
     match test_text(rt, alloc, &names, &texts, options, out, explained) {
         Ok(failing) => Ok(claims_status(failing)),
-        // As in `claims_file`: a `Subject` doesn't have the test's text.
+        // `Explained::test` shows the fault in the test's text, which a `Subject` doesn't have.
         Err(Untested::Fault(RunFault::Test(fault))) => {
             let document = Document {
                 name: title_of(test),
@@ -638,6 +645,7 @@ where
     let mut explained = Explained::new(explain);
     match do_job(rt, alloc, job, files, out, &mut explained) {
         Ok(status) => {
+            // How a run ended, or what looks like a mistake in a test, if that is asked for.
             let _ = explained.write(err);
             status
         }

@@ -28,7 +28,8 @@ use std::alloc::AllocError;
 use std::thread::Threads;
 
 impl<R: Threads + Sync> Tester<'_, '_, R> {
-    // Makes the run again that shows a failure, in its way and its order. The error is that of the run, or refused memory.
+    // Makes the run again that shows a failure: in the way of `script`, in the order that `shown` names. The error is that of the run, or refused
+    // memory.
     #[tactic(auto, using(crate::proofs::Untold::unmade_again))]
     fn run_again(&self, script: &[u8], shown: Failing) -> Result<Run, Untested>
         ensures made { IfOk result (IsMadeAgain self.now.trials.now.source.now (sites_of self.now.trials.now.sites.now) self.now.trials.now.limit script.now) }
@@ -41,7 +42,8 @@ impl<R: Threads + Sync> Tester<'_, '_, R> {
         }
     }
 
-    // Of the way that shows a failure the lines that have a range, with the numbers of the range with which the claim fails. Empty if failures aren't
+    // Of the way that `shown` names the lines that have a range, each with the numbers of the range with which the claim fails. `cases` has the
+    // scripts of each case's tried ways, `ways` all ways of each case, and `claim` is the claim's place in the test, from 0. Empty if failures aren't
     // explained, or there is no such case, which doesn't come. The error is refused memory.
     fn ranges_of(
         &self,
@@ -66,8 +68,9 @@ impl<R: Threads + Sync> Tester<'_, '_, R> {
         }
     }
 
-    // The lines of `ranges_of` for this way of this case, from 0: every way that was tried is run again with this claim alone, to see in which ones
-    // it fails. Empty if no line of the way has a range. The error is refused memory.
+    // The lines of the way with this number in its case, from 0, that have a range, each with the numbers with which the claim fails. To see in which
+    // ways it fails, each way that was tried is run again with this claim alone. `case` has the scripts of these ways, and `claim` is the claim's
+    // place in the test, from 0. Empty if no line of the way has a range. The error is refused memory.
     fn failing_ranges(
         &self,
         case: &CaseScripts,
@@ -85,6 +88,7 @@ impl<R: Threads + Sync> Tester<'_, '_, R> {
             .get(claim..claim.saturating_add(1))
             .unwrap_or(&[]);
         let scripts = case.scripts.as_slice();
+        // Whether the claim fails, for each way that was tried. `Ways::failing_ranges` then writes the lines.
         let fails = failing_ways(
             self.rt,
             self.alloc,
@@ -96,8 +100,8 @@ impl<R: Threads + Sync> Tester<'_, '_, R> {
         ways.failing_ranges(self.alloc, way, fails.as_slice())
     }
 
-    // What explains a failure: the lines of `ranges`, and the picture of the run that shows it. Empty if failures aren't explained. The error is
-    // refused memory.
+    // What explains a failure: the lines of `ranges`, which `ranges_of` gives, and the picture of the run that shows the failure. `script` is that of
+    // the run's way. Empty if failures aren't explained. The error is refused memory.
     fn explanation(&self, script: &[u8], ranges: &[u8], run: Run) -> Result<Vec<u8>, Untested>
         ensures unasked { IfOk result (λ text. self.now.explains ≡ false → text.items ≡ []) }
         ensures cause { IfErr result IsNoText }
@@ -117,14 +121,16 @@ impl<R: Threads + Sync> Tester<'_, '_, R> {
         }
     }
 
-    // Makes the run again that shows that a claim fails, and judges the claim on it. The run of an order is the same each time, so the claim fails
-    // where it did; if it didn't, that would be answered as refused memory. The error is that of the run, or refused memory.
+    // Makes the run again that shows that a claim fails, and judges the claim on it. `script` is that of the way, and `claim` the claim's place in
+    // the test, from 0. The run of an order is the same each time, so the claim fails where it did; if it didn't, that would be answered as refused
+    // memory. The error is that of the run, or refused memory.
     fn fail_again(&self, script: &[u8], claim: usize, shown: Failing) -> Result<Run, Untested>
         ensures fails { IfOk result (FailsAt self.now.trials.now script.now claim shown.failure.verdict) }
         ensures cause { IfErr result (IsUnshown self.now.trials.now.source.now 1 self.now.trials.now.limit script.now) }
         ensures sound { IfErr result (λ f. IsOwnFault f → ⊥) }
     {
         let run = self.run_again(script, shown)?;
+        // What claims see of the run.
         let seen = Seen {
             happenings: run.happenings.as_slice(),
             state: state_at(run.played.summary.end),
@@ -140,8 +146,9 @@ impl<R: Threads + Sync> Tester<'_, '_, R> {
         }
     }
 
-    // What stands below a claim that fails in the run of an order: the unusual lines of the way that shows it, where it fails there, and what
-    // explains it. The error is that of the run, or refused memory.
+    // What stands below the failure with this `number`, from 1, if the run of an order shows it: the unusual `lines` of its way, where the claim
+    // fails in the run, and what explains it (`ranges` and a picture). `script` is that of the way, and `claim` the claim's place in the test, from
+    // 0. The error is that of the run, or refused memory.
     #[tactic(auto, using(crate::proofs::Untold::text_unshown))]
     fn details_of_trial(
         &self,
@@ -168,8 +175,8 @@ impl<R: Threads + Sync> Tester<'_, '_, R> {
         Ok(text)
     }
 
-    // What stands below a claim that a schedule breaks which no order showed: the unusual lines of its way, and what the claim saw there. The error
-    // is refused memory.
+    // What stands below the failure with this `number`, from 1, if a schedule breaks the claim which no order showed: the unusual `lines` of its way,
+    // and what the claim saw there. `script` is that of the way, and `claim` the claim's place in the test, from 0. The error is refused memory.
     fn details_of_schedule(
         &self,
         test: &Test<'_>,
@@ -200,7 +207,9 @@ impl<R: Threads + Sync> Tester<'_, '_, R> {
         }
     }
 
-    // What stands below the failure with this number. The error is that of a run that is made again, or refused memory.
+    // What stands below the failure with this `number`, from 1, which `found` shows: a run in an order, or a schedule that the search found. `claim`
+    // is the place in the test, from 0, of the claim that fails. `cases` has the scripts of each case's tried ways, and `ways` all ways of each case.
+    // The error is that of a run that is made again, or refused memory.
     #[tactic(auto, using(crate::proofs::Untold::of_script, crate::proofs::Untold::memory_unshown, crate::proofs::Untold::texts_unshown))]
     fn details_of(
         &self,
@@ -238,8 +247,8 @@ impl<R: Threads + Sync> Tester<'_, '_, R> {
         }
     }
 
-    /// What stands below each failure, in the order of the rows: one text for each row that fails. The error is a fault of a run that is made again,
-    /// or refused memory.
+    /// What stands below each failure, in the order of the rows: one text for each row that fails. `cases` has the scripts of each case's tried ways,
+    /// and `ways` all ways of each case. The error is a fault of a run that is made again, or refused memory.
     #[tactic(auto, using(crate::proofs::Untold::texts_unshown))]
     pub(crate) fn all_details(
         &self,
@@ -260,6 +269,7 @@ impl<R: Threads + Sync> Tester<'_, '_, R> {
                 [] => return Ok(all),
                 [row, more @ ..] => {
                     if let Row::Fails(claim, found) = row {
+                        // Failures are numbered from 1, in the order of the rows.
                         let number = all.len() + 1;
                         let details = self.details_of(test, cases, ways, number, *claim, *found)?;
                         if all.push(details).is_err() {

@@ -50,6 +50,7 @@ fn fault_of(fault: RunFault) -> Option<Fault> {
         // `Explained::refusal` explains it, which has the journal.
         RunFault::Check(_) => None,
         RunFault::Engine(EngineFault::Range) => Some(Fault::Range),
+        // Memory was refused to a run, or to a search through runs.
         RunFault::Engine(EngineFault::Memory) => Some(Fault::Run),
         RunFault::Engine(EngineFault::Broken) => Some(Fault::Broken),
         // Doesn't come: no command line has sites of its own.

@@ -51,6 +51,7 @@ fn fails_in(
     ensures { IfOk result (λ fails. fails ≡ true → FailsIn trials.now way.now.loaded.answers claim journal.now.entries summary.end summary.now) }
 {
     let sites = way.sites.as_slice();
+    // What claims see of the run: what happened in it, where it stands at its end, and when that is.
     let happenings = happenings_of(alloc, sites, journal)?;
     let happened = happenings.as_slice();
     let state = state_at(summary.end);

@@ -30,6 +30,7 @@ impl<R: Threads + Sync> Held<'_, '_, R> {
             scripts,
             &mut told,
         );
+        // The report on the one claim says in how many ways it fails.
         match (tried, told.told.first()) {
             (Ok(()), Some(told)) => Ok(told.failing),
             // Memory was refused; or there is no claim, which `failing_ways` answers as that.

@@ -108,7 +108,7 @@ fn judge_lines<R: Read + Drop>(
     ensures beyond { (text : List ℕ) (s : RunSummary) → R.remaining journal ≡ Some text → IsOfRun source.now script.now text s → IfErr result MayFail }
 {
     let loaded = load(alloc, source, script)?;
-    // As in `judge`, this shows the prover that the table's names differ.
+    // Shows the prover that the table's names differ, as reading a journal needs. At run time it does nothing.
     loaded.answers.are_apart();
     match check_lines(alloc, &loaded.program, &loaded.answers, journal) {
         Ok(checked) => Ok(Brought {

@@ -121,6 +121,7 @@ fn write_more(
 {
     for ended in found {
         let values = ended.values.as_slice();
+        // No order came to this outcome.
         if place_of(seen, ended.end, values).is_none() {
             write_unseen(alloc, text, orders, ended.end, values)?;
         }

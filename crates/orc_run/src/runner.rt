@@ -65,7 +65,8 @@ fn play<R: Threads + Wait + Sync>(
     run_parallel(rt, alloc, program, answers, workers, keeps, limit)
 }
 
-// Runs a program as `play` does; a fault of the engine becomes one of the run.
+// Runs a program with these options. The journal is kept where what is wanted of the run asks for it, or where `keeps` does. The fault is the
+// engine's.
 fn run_program<R: Threads + Wait + Sync>(
     rt: &R,
     alloc: Global,

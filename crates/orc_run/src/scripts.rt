@@ -46,6 +46,7 @@ pub(crate) fn ways_of(alloc: Global, test: &Test<'_>) -> Result<Vec<Ways>, Untes
                 let Ok(found) = Ways::of_case(alloc, test, at) else {
                     return Err(unread(TestFault::Memory));
                 };
+                // There are too many ways. The fault names the line of the case.
                 let Some(ways) = found else {
                     return Err(unread(TestFault::Ways(test.cases[at].line)));
                 };
@@ -59,8 +60,8 @@ pub(crate) fn ways_of(alloc: Global, test: &Test<'_>) -> Result<Vec<Ways>, Untes
     }
 }
 
-// The scripts of a case's first ways, `most` of them at most, each with the lines `behind` after its own: those of the script beside the test. The
-// fault is refused memory.
+// The scripts of a case's first ways, `most` at most, each with the lines `behind` after its own: those of the script beside the test. The fault is
+// refused memory.
 fn scripts_of(alloc: Global, ways: &Ways, most: u64, behind: &[u8]) -> Result<CaseScripts, Untested>
     ensures scripts { IfOk result (AreScripts most behind.now ways.now) }
     ensures cause { IfErr result IsNoMemory }
@@ -88,7 +89,7 @@ pub(crate) fn all_scripts(
     ensures sound { IfErr result (λ f. IsOwnFault f → ⊥) }
 {
     let mut all = Vec::new(alloc);
-    // Not a `for`, as in `ways_of`.
+    // Not a `for`: the loop's invariant speaks of the rest of the list.
     let mut rest = ways;
     loop {
         match rest {

@@ -50,7 +50,7 @@ impl Drop for Way<'_> {
 }
 
 impl<'w> Way<'w> {
-    /// The way of a script. Runs of it were made before, so the error is refused memory.
+    /// The way of a script: the source of `trials` is loaded with it. Runs of it were made before, so the error is refused memory.
     pub(crate) fn load(
         alloc: Global,
         trials: &Trials<'_, '_>,
@@ -140,10 +140,11 @@ pub(crate) struct Searcher<'s, 'a> {
     pub(crate) alloc: Global,
     /// The program, the claims, and the limit of each run.
     pub(crate) trials: &'s Trials<'s, 'a>,
+    /// The test, whose lines say to which case a claim belongs.
     pub(crate) test: &'s Test<'a>,
     /// The scripts of the tried ways of each case.
     pub(crate) cases: &'s [CaseScripts],
-    /// One for each case, in their order.
+    /// What the trials came to in each case, in the order of the cases.
     pub(crate) reports: &'s [CaseReport],
     /// How many states one search looks at, at most; 0 for no search.
     pub(crate) most: u64,
@@ -169,8 +170,8 @@ impl Searcher<'_, '_> {
         }
     }
 
-    // What is said of a claim before the first search: whole if searches are asked for and it failed in no run, of which none was left out or cut;
-    // otherwise it isn't searched for.
+    // What is said of a claim, at its place in the test from 0, before the first search: whole if searches are asked for, it failed in no run, all
+    // ways of its cases were tried, and no run was cut. Otherwise it isn't searched for (`No`).
     #[tactic(auto, using(crate::proofs::Schedules::open_is_full))]
     fn begun(&self, claim: usize) -> Searched
         ensures { (result ≡ Searched.No) ⊎ ((result ≡ Searched.Whole) × (are_full (section_of (slice_get self.now.test.now.claim_lines.items claim)) 0 self.now.reports.now ≡ true)) }
@@ -208,7 +209,8 @@ impl Searcher<'_, '_> {
         false
     }
 
-    // In how many of the tried ways of this case and those behind it a claim of this section is judged.
+    // In how many of the tried ways of this case and of the cases behind it a claim of this section is judged. `section` is the place of the claim's
+    // own case, from 0, or None below `always`.
     fn ways_from(&self, case: usize, section: Option<usize>) -> u64 {
         let mut number: u64 = 0;
         for at in case..self.cases.len() {
@@ -220,7 +222,8 @@ impl Searcher<'_, '_> {
     }
 
     // Whether a search of so many `states` in each way that is to come, this one among them, would need more than the `left` ones. It is asked at the
-    // first way of a case alone: then the claim is given up at once, and not after the states have been spent on some of its ways.
+    // first way of a case alone: then the claim is given up at once, and not after the states have been spent on some of its ways. `section` is the
+    // place of the claim's own case, from 0, or None below `always`.
     fn is_too_much(&self, place: Broken, section: Option<usize>, states: usize, left: u64) -> bool {
         place.way == 0
             && self
@@ -229,8 +232,9 @@ impl Searcher<'_, '_> {
                 > left
     }
 
-    // Searches the way at this place for a run that breaks this claim of this section, and takes the states at which it looked from those that are
-    // `left`. A claim that holds in the way is given up too (`TooMany`) if the other ways would need too many states. The error is refused memory.
+    // Searches the way at this place for a run that breaks this claim of this section (the place of its case, or None below `always`), and takes the
+    // states at which it looked from those that are `left`. A claim that holds in the way is given up too (`TooMany`) if the other ways would need
+    // too many states. The error is refused memory.
     fn find(
         &self,
         way: &Way<'_>,
@@ -259,7 +263,8 @@ impl Searcher<'_, '_> {
         Ok(found)
     }
 
-    // What is said after the way at this place of a claim that was whole before it. The claim stays whole if it is one of another case. The error is
+    // What is said of a claim, at its place in the test from 0, after the way at this place. The claim was whole before that way, and stays whole if
+    // it is one of another case. `left` is how many states all searches may still look at; this search takes those at which it looked. The error is
     // refused memory, here and in the functions that call this one.
     #[tactic(auto, using(crate::proofs::Schedules::untouched_word, crate::proofs::Schedules::unknown_word))]
     fn say_again(
@@ -289,7 +294,8 @@ impl Searcher<'_, '_> {
         }
     }
 
-    // What is said of a claim after the way at this place, where `before` was said of it. Once it isn't whole, no search changes that.
+    // What is said of a claim, at its place in the test from 0, after the way at this place, where `before` was said of it. Once it isn't whole, no
+    // search changes that. `left` is how many states all searches may still look at.
     #[tactic(auto, using(crate::proofs::Schedules::untouched_word))]
     fn say(
         &self,
@@ -311,7 +317,8 @@ impl Searcher<'_, '_> {
         }
     }
 
-    // What is said of each claim after the way that is loaded here, at this place. `explorer` serves all of these searches.
+    // What is said of each claim after the way that is loaded here, at this place. `explorer` serves all of these searches. `before` is what was said
+    // before this way, and `left` how many states all searches may still look at.
     #[tactic(auto, using(crate::proofs::Schedules::nothing_said))]
     fn say_of_claims(
         &self,
@@ -333,7 +340,8 @@ impl Searcher<'_, '_> {
         Ok(after)
     }
 
-    // What is said of each claim after the way of this script, at this place. The way is loaded only if a claim is to be searched for in it.
+    // What is said of each claim after the way of this script, at this place. The way is loaded only if a claim is to be searched for in it. `before`
+    // is what was said before this way, and `left` how many states all searches may still look at.
     #[tactic(auto, using(crate::proofs::Schedules::all_untouched))]
     fn say_of_way(
         &self,
@@ -353,7 +361,8 @@ impl Searcher<'_, '_> {
         Ok(after)
     }
 
-    // What is said of each claim after the ways of the case at this place, from 0. `ways` has their scripts.
+    // What is said of each claim after the ways of the case at this place, from 0. `ways` has their scripts. `before` is what was said before this
+    // case, and `left` how many states all searches may still look at.
     fn say_of_case(
         &self,
         case: usize,
@@ -397,6 +406,7 @@ impl Searcher<'_, '_> {
         let Some(broken) = self.trials.claims.get(claim) else {
             return Ok(None);
         };
+        // What a search has to watch in a run to judge the claim.
         let known = Watch::of_claim(self.alloc, broken)?;
         let Some(watch) = known else {
             return Ok(None);

@@ -68,6 +68,7 @@ impl Wanted for Outcome<'_> {
         }
     }
 
+    // All values were published, and the run ends as is wanted.
     fn is_met(&self, seen: usize, _time: u64, end: End) -> bool {
         seen == self.values.len() && end == self.end
     }
@@ -142,6 +143,7 @@ fn write_shown<W: Write>(
     if !has(played, outcome) {
         return Err(Unshown::NoRun(number));
     }
+    // Not reached: each caller's run keeps its journal.
     let Some(journal) = &played.journal else {
         return Err(Unshown::NoRun(number));
     };
@@ -151,7 +153,8 @@ fn write_shown<W: Write>(
     }
 }
 
-// Makes the run in one order again, and keeps its journal.
+// Makes the run in the order with this number, from 0, again, and keeps its journal (`true`). The fault is the engine's, also where memory is refused
+// once the run has begun.
 fn run_in_order(alloc: Global, loaded: &Loaded, order: u64, limit: u64) -> Result<Played, RunFault>
     ensures played { IfOk result (λ p. IsPlayed loaded.now.program loaded.now.answers limit p.summary p.published.items p.journal) }
     ensures fault { IfErr result IsOther }
@@ -177,8 +180,8 @@ fn run_in_order(alloc: Global, loaded: &Loaded, order: u64, limit: u64) -> Resul
     Ok(played)
 }
 
-// Writes the journal of a run that has an outcome to which no order came. `seen` has the outcomes of the orders. Those that only the search finds
-// have the numbers that follow, in the order in which a search through so many states finds them.
+// Writes the journal of a run that has an outcome to which no order came. `number` is the outcome's, from 1, and `seen` has the outcomes of the
+// orders. Those that only the search finds have the numbers that follow, in the order in which a search through so many states finds them.
 fn show_unseen<W: Write>(
     alloc: Global,
     loaded: &Loaded,
@@ -237,7 +240,7 @@ pub fn show_text<R: Threads + Sync, W: Write>(
 {
     let (loaded, seen) = surveyed(rt, alloc, source, script, &options.survey)?;
     let seen = seen.as_slice();
-    // An outcome that came up in an order is shown by the first of these.
+    // The number counts from 1, the list from 0. An outcome that came up in some orders is shown by the run in the first of these.
     if let Some(one) = seen.get((options.number as usize).saturating_sub(1)) {
         let played = run_in_order(alloc, &loaded, one.first, options.survey.limit)?;
         let outcome = Outcome {

@@ -85,7 +85,7 @@ pub(crate) const NO_MEMORY: Untested = Untested::Fault(RunFault::Engine(EngineFa
 pub(crate) struct Tester<'s, 'a, R> {
     pub(crate) rt: &'s R,
     pub(crate) alloc: Global,
-    /// For the commands that the table shows.
+    /// The names of the files, for the commands that the table shows.
     names: &'s Names<'s>,
     /// The program, the claims, and the orders and the limit of each run.
     pub(crate) trials: &'s Trials<'s, 'a>,
@@ -115,8 +115,8 @@ pub(crate) fn run_fault(fault: TrialFault) -> RunFault
 }
 
 impl<R: Threads + Sync> Tester<'_, '_, R> {
-    // Tries the ways of a case, each in all orders: how many there were, and what is reported of each claim. The fault is one of the source's names
-    // or of the engine.
+    // Tries the ways of a case that have these scripts, each in all orders: how many there were, and what is reported of each claim. The fault is one
+    // of the source's names or of the engine.
     fn try_case(&self, scripts: &CaseScripts) -> Result<CaseReport, Untested>
         ensures tried { IfOk result (IsTried self.now.trials.now scripts.now) }
         ensures cause { IfErr result (AreUntried self.now.trials.now.source.now self.now.workers self.now.trials.now.limit (texts scripts.now.scripts.items)) }
@@ -135,6 +135,7 @@ impl<R: Threads + Sync> Tester<'_, '_, R> {
         ) {
             return Err(Untested::Fault(run_fault(fault)));
         }
+        // How many ways were tried, the report on each claim, and how many runs were cut before they ended by themselves.
         let CaseTold {
             ways: tried,
             told: claims,
@@ -216,8 +217,9 @@ fn write_whole<W: Write>(out: &mut W, text: &[u8]) -> Result<(), Untested>
 fn failing_claim(rows: &[Row], number: u64) -> usize
     ensures { result ≡ failing_claim number rows.now }
 {
+    // Which failure of the rows that are left is looked for, from 1.
     let mut number = number;
-    // Not a `for`, as in `try_cases`.
+    // Not a `for`: the loop's invariant speaks of the rest of the list.
     let mut rest = rows;
     loop {
         match rest {
@@ -237,7 +239,8 @@ fn failing_claim(rows: &[Row], number: u64) -> usize
 
 impl<R: Threads + Sync> Tester<'_, '_, R> {
     // Writes the table of a test: its rows, below each failure what shows it, and the commands that show the first failure. The fault is that of a
-    // run that is made again, refused memory, or one of the output.
+    // run that is made again, refused memory, or one of the output. `cases` has the scripts of each case's tried ways, `ways` all ways of each case,
+    // and `rows` are those of `report`.
     #[tactic(auto, using(crate::proofs::Testing::unwritten, crate::proofs::Untold::texts_unshown))]
     fn write_table<W: Write>(
         &self,
@@ -255,6 +258,7 @@ impl<R: Threads + Sync> Tester<'_, '_, R> {
     {
         let details = self.all_details(report.test, cases, ways, rows)?;
         let names = self.names;
+        // The options on which failures depend, which the commands repeat.
         let Ok(known) = options_text(self.alloc, names.script, options) else {
             return Err(NO_TEXT);
         };
@@ -269,8 +273,8 @@ impl<R: Threads + Sync> Tester<'_, '_, R> {
         write_whole(out, text.as_slice())
     }
 
-    // Writes the script of the way in which the failure with this number, from 1, is. The fault is that there is no such failure, or one of the
-    // output.
+    // Writes the script of the way in which the failure with this number, from 1, is. `cases` has the scripts of each case's tried ways. The fault is
+    // that there is no such failure, or one of the output.
     #[tactic(auto, using(crate::proofs::Testing::unwritten, crate::proofs::Untold::texts_unshown, crate::proofs::Untold::unshown_unwritten))]
     fn write_script<W: Write>(
         &self,
@@ -293,7 +297,8 @@ impl<R: Threads + Sync> Tester<'_, '_, R> {
     }
 
     // Writes the journal of a run that breaks a claim, where a search says that a schedule does and no order showed it. `script` is that of the
-    // failure's way. The failure's number is for the fault that no such run is found.
+    // failure's way, `claim` the claim's place in the test, from 0, and `number` the failure's, from 1. The fault is that no such run is found, which
+    // names the failure's number; refused memory; or one of the output.
     fn write_found<W: Write>(
         &self,
         script: &[u8],
@@ -313,8 +318,8 @@ impl<R: Threads + Sync> Tester<'_, '_, R> {
         }
     }
 
-    // Writes the journal of the run that shows the failure with this number, from 1. The fault is that there is no such failure, or no run of it is
-    // found; refused memory; or one of the output.
+    // Writes the journal of the run that shows the failure with this number, from 1. `cases` has the scripts of each case's tried ways. The fault is
+    // that there is no such failure, or no run of it is found; refused memory; or one of the output.
     #[tactic(auto, using(crate::proofs::Testing::unwritten, crate::proofs::Untold::of_script, crate::proofs::Untold::texts_unshown, crate::proofs::Untold::unshown_unwritten))]
     fn write_journal<W: Write>(
         &self,
@@ -342,8 +347,9 @@ impl<R: Threads + Sync> Tester<'_, '_, R> {
         }
     }
 
-    // Writes what `options` want of a test whose ways were tried: the table, or the script or the journal of one failure. `rows` are those of
-    // `report`.
+    // Writes what `options` want of a test whose ways were tried: the table, or the script or the journal of one failure. `cases` has the scripts of
+    // each case's tried ways, `ways` all ways of each case, and `rows` are those of `report`. The fault is that there is no failure with the number
+    // that `options` have, or no run of it is found; that of a run that is made again; refused memory; or one of the output.
     #[tactic(auto, using(crate::proofs::Untold::unshown_unwritten))]
     fn write_shown<W: Write>(
         &self,
@@ -367,7 +373,9 @@ impl<R: Threads + Sync> Tester<'_, '_, R> {
         }
     }
 
-    // Writes what is wanted of a test whose ways were tried, as `write_shown` does, and answers how many claims fail.
+    // Writes what `options` want of a test whose ways were tried, the table or what shows one failure, and answers how many claims fail. `cases` has
+    // the scripts of each case's tried ways, and `ways` all ways of each case. The fault is that there is no failure with the number that `options`
+    // have, or no run of it is found; that of a run that is made again; refused memory; or one of the output.
     #[tactic(auto, using(crate::proofs::Testing::unwritten))]
     fn write_test<W: Write>(
         &self,
@@ -392,8 +400,8 @@ impl<R: Threads + Sync> Tester<'_, '_, R> {
     }
 }
 
-// What looks like a mistake in a test: services that no run asked, and calls that no line answers. `script` is the script beside the test. The error
-// is refused memory.
+// What looks like a mistake in a test: services that no run asked, and calls that no line answers. `script` is the script beside the test, `cases`
+// has the scripts of each case's tried ways, and `workers` threads make their runs again. The error is refused memory.
 fn remarks<'t, 'a, R: Threads + Sync>(
     rt: &R,
     alloc: Global,
@@ -412,7 +420,7 @@ fn remarks<'t, 'a, R: Threads + Sync>(
 }
 
 // Explains what looks like a mistake, where the table is wanted and explanations are asked for; else it does nothing. It makes the test's runs again.
-// `script` is the script beside the test.
+// `script` is the script beside the test, and `cases` has the scripts of each case's tried ways.
 fn tell_remarks<'t, 'a, R: Threads + Sync>(
     rt: &R,
     alloc: Global,
@@ -432,8 +440,9 @@ fn tell_remarks<'t, 'a, R: Threads + Sync>(
     }
 }
 
-// Tries the ways of a test's cases, searches all schedules, and writes what is wanted of the test: how many claims fail. `explains` says whether
-// failures are explained.
+// Tries the ways of a test's cases, searches all schedules, and writes what is wanted of the test: how many claims fail. `cases` has the scripts of
+// the ways that are tried, `ways` all ways of each case, and `explains` says whether failures are explained. The fault is that of a run, refused
+// memory, one of the output, or that what is to be shown isn't there.
 #[tactic(auto, using(crate::proofs::Testing::unwritten, crate::proofs::Untold::untried_untold, crate::proofs::Untold::memory_untold))]
 fn try_and_write<'t, 'a, R: Threads + Sync, W: Write>(
     rt: &'t R,
@@ -490,7 +499,8 @@ fn add_end(alloc: Global, test: &mut Test<'_>) -> Result<(), AllocError>
 }
 
 // Judges the claims of a test that was read, to which `add_end` has added one, in these ways of its cases: how many fail. `script` is the script
-// beside the test. The remarks come last, once the table has been written.
+// beside the test. The remarks on what looks like a mistake come last, once the table has been written. The fault is that of a run, refused memory,
+// one of the output, or that what is to be shown isn't there.
 #[tactic(auto, using(crate::proofs::Testing::unwritten))]
 fn hold<'t, 'a, R: Threads + Sync, W: Write>(
     rt: &R,
@@ -583,9 +593,11 @@ pub fn test_text<R: Threads + Sync, W: Write>(
     if let Err(fault) = parse(alloc, texts.source) {
         return Err(Untested::Fault(RunFault::Syntax(fault)));
     }
+    // The sites of the script beside the test; the test that the text says; and all ways of each of its cases.
     let others = others_of(alloc, texts.script)?;
     let mut known = known_of(alloc, texts.test, &others)?;
     let counted = ways_of(alloc, &known)?;
+    // Behind the claims of the test's lines comes the one that runs end by themselves.
     let Ok(()) = add_end(alloc, &mut known) else {
         return Err(NO_MEMORY);
     };

@@ -80,7 +80,8 @@ fn sites_behind(alloc: Global, test: &Test<'_>, script: &[u8]) -> Result<Answers
 #[derive(Drop)]
 struct Calls<'t, 'a> {
     test: &'t Test<'a>,
-    /// The sites of `sites_behind`.
+    /// The sites of the script, with lines behind its own that answer all other calls of services (`sites_behind`). So a call of a service halts
+    /// there only by a line of the script.
     behind: &'t Answers,
     /// The place of the case, from 0.
     case: usize,
@@ -99,6 +100,7 @@ impl Calls<'_, '_> {
     }
 
     // Whether no line answers a call of a service, so that it halts at once: no line of the case, and none of the script behind those of the test.
+    // `answers` has the sites of the way in which the call is made.
     fn is_unanswered(&self, answers: &Answers, name: &[u8], args: &Args) -> bool {
         is_service(self.test, name)
             && !self.is_taken(name, args.as_slice())
@@ -154,7 +156,7 @@ impl Calls<'_, '_> {
         Ok(())
     }
 
-    // Writes a line for each, and one if there are more; a head before the first line of the page.
+    // Writes a line for each call that is named, and one if there are more; a head before the first line of the page.
     fn say(&self, page: &mut Page) {
         let name = match self.test.cases.get(self.case) {
             Some(case) => case.name,
@@ -177,7 +179,8 @@ impl Calls<'_, '_> {
 }
 
 /// The text that names the calls of services that no line answers, be it of their case, of `given`, or of the script, in the first order of each of
-/// the ways that were tried; empty where each call is answered. Of a case it names four at most, each once. The error is refused memory.
+/// the ways that were tried; empty where each call is answered. Of a case it names four at most, each once. `cases` has the scripts of these ways,
+/// and `script` is the script beside the test. The error is refused memory.
 pub fn calls_never_answered(
     alloc: Global,
     trials: &Trials<'_, '_>,

@@ -31,7 +31,8 @@ impl Gate for Unheld {
 }
 
 /// Runs a program on workers, each on a thread of its own, that take the run's tokens as they come and share one journal. Where the rules leave it
-/// free, what a thread gets to first comes first, so that another run may go otherwise. The table answers all calls of sites.
+/// free, what a thread gets to first comes first, so that another run may go otherwise. The table answers all calls of sites. The run has at most
+/// `limit` entries, cancels not counted. If `keeps`, the result has its journal.
 ///
 /// The fault is Range where there are no workers or over `MOST_WORKERS`, or the limit is 0 or over `MOST_ENTRIES`, and then alone; or Memory as of
 /// [`run_alone`]. No other comes, if the program is one that the scope check takes: a run that the workers bring to no end is made again on one.
@@ -57,6 +58,7 @@ pub(crate) fn run_unordered<R: Threads + Wait + Sync>(
     };
     match run_pool(rt, alloc, program, answers, &sites, &Unheld, options) {
         Ok(played) => Ok(played),
+        // The workers brought the run to no end, so one worker makes it again.
         Err(EngineFault::Broken | EngineFault::Site(_)) => {
             // None: in the scheduler's own order.
             run_alone(alloc, program, answers, None, keeps, limit)

@@ -52,8 +52,9 @@ impl Sighting<'_> {
         }
     }
 
-    // As `after_what`, once something became of a call of a site. `site` is the site's number in the program's table; a site that no claim names gets
-    // a number behind those of the claims.
+    // How many occurrences are met, `seen` of them before, after a call of a site with these arguments came to `phase`: it was made, or answered.
+    // None: the run isn't the one that is looked for. `site` is the site's number in the program's table; `number` becomes the one by which claims
+    // name it, and a site that no claim names gets a number behind those of the claims.
     fn after_call(
         &self,
         seen: usize,
@@ -79,6 +80,7 @@ impl Wanted for Sighting<'_> {
         now.min(self.watch.latest())
     }
 
+    // How many occurrences are met once this happened, `seen` of them before. None: the run isn't the one that is looked for.
     fn after(&self, seen: usize, time: u64, happened: Happened<'_>) -> Option<usize> {
         match happened {
             Happened::Called(site, args) => {
@@ -96,6 +98,7 @@ impl Wanted for Sighting<'_> {
         }
     }
 
+    // All occurrences are met, and the run ends at the time and in the way that the search saw.
     fn is_met(&self, seen: usize, time: u64, end: End) -> bool {
         seen == self.seen.happened.len() && time == self.seen.now && end == self.seen.end
     }

@@ -22,7 +22,7 @@ use std::alloc::{AllocError, Global};
 // In contracts `IsAst ast s` says that a tree is that of the program s, and `Checks sites s result` is all that the check promises of its result
 // (specs/Checking.antt).
 
-// The numbers of a definition's parameters, in their order.
+// The numbers of a definition's parameters, in their order. The error is refused memory.
 fn parameter_numbers(
     alloc: Global,
     numbers: &Numbers,
@@ -37,7 +37,8 @@ fn parameter_numbers(
     Ok(params)
 }
 
-// The program with all terms written out. All of them share one list of nodes, and an expression is the number of its node there.
+// The program with all terms written out. All of them share one list of nodes, and an expression is the number of its node there. The error is
+// refused memory.
 fn write_out(alloc: Global, numbers: &Numbers, ast: &Ast) -> Result<Program, AllocError>
     ensures { (s : Source) → IsAst ast.now s → HaveSmallCalls s → IfOk result (IsWrittenOut numbers.now.known numbers.now.names s) }
 {

@@ -37,7 +37,8 @@ fn repeated(kind: FaultKind, before: Option<usize>, span: Span) -> Option<ScopeF
     }
 }
 
-// The least fault of a definition's parameters. Afterwards they are the names in scope, and no others.
+// The least fault of a definition's parameters. Afterwards they are the names in scope, and no others. `looking.room` stays as it is. The error is
+// refused memory.
 fn parameters_fault<'a>(
     looking: &mut Looking<'a>,
     parameters: &[Name<'a>],
@@ -53,7 +54,8 @@ fn parameters_fault<'a>(
     while at < parameters.len() {
         let name = parameters[at];
         let before = looking.scope.find(name.text);
-        // Parameters are counted from 1, and the one behind the last allowed is a fault.
+        // Of the two faults of this parameter the one that stands first: its name came before, or it is the one behind the last allowed. Parameters
+        // are counted from 1.
         let own = lesser(
             repeated(FaultKind::ParameterTwice, before, name.span),
             number_fault(at + 1, name.span),
@@ -65,7 +67,8 @@ fn parameters_fault<'a>(
     Ok(least)
 }
 
-// The least fault of the definition of this number, from 0: of its name, its parameters and its body.
+// The least fault of the definition of this number, from 0: of its name, its parameters and its body. Afterwards `looking.room` is smaller by the
+// number of nodes of its written-out body. The error is refused memory.
 fn definition_fault<'a>(
     looking: &mut Looking<'a>,
     known: &Known,
@@ -77,13 +80,14 @@ fn definition_fault<'a>(
 {
     let before = earlier(&known.definitions, number, definition.name.text);
     let own = repeated(FaultKind::DefinedTwice, before, definition.name.span);
-    // Before the body, since it puts the parameters into its scope.
+    // The parameters come before the body, since this call leaves them in scope for it.
     let parameters = parameters_fault(looking, &definition.parameters)?;
     let body = looking.expression(known, &definition.body.nodes)?;
     Ok(lesser(own, lesser(parameters, body)))
 }
 
-// The least fault of the definitions.
+// The least fault of the definitions. Afterwards `looking.room` is smaller by the number of nodes of all their written-out bodies. The error is
+// refused memory.
 fn definitions_fault<'a>(
     looking: &mut Looking<'a>,
     known: &Known,
@@ -119,7 +123,7 @@ pub fn program_fault<'a>(
     Ok(lesser(definitions, main))
 }
 
-// Adds the names of parameters.
+// Adds the names of parameters. The error is refused memory.
 fn parameter_names<'a>(names: &mut Names<'a>, parameters: &[Name<'a>]) -> Result<(), AllocError>
     ensures { OnOk result (names.new ≡ names.old ++ map text (map label parameters.now)) }
 {
@@ -140,7 +144,7 @@ fn bound_name(part: Part<'_>) -> Option<&[u8]>
     }
 }
 
-// Adds the names that an expression binds.
+// Adds the names that an expression binds. The error is refused memory.
 fn bound_names<'a>(names: &mut Names<'a>, nodes: &[Node<'a>]) -> Result<(), AllocError>
     ensures { (t : Tree) → IsExpr nodes.now t → OnOk result (names.new ≡ names.old ++ names_bound t) }
 {

@@ -129,8 +129,8 @@ pub fn number_fault(number: usize, span: Span) -> Option<ScopeFault>
     }
 }
 
-// How many nodes of the written-out term a node makes, as an argument of that number or, at 0, as no argument. A literal or a variable stays in the
-// call's list of arguments and makes none; any other argument, `stop` too, makes its own and that of the pruning of its new variable.
+// How many nodes of the written-out term a node makes, as an argument of that number, from 1, or, at 0, as no argument. A literal or a variable stays
+// in the call's list of arguments and makes none; any other argument, `stop` too, makes its own and that of the pruning of its new variable.
 fn weight(number: usize, part: Part) -> usize
     ensures value { result ≡ weight_of number (sort part.entry) }
 {
@@ -156,7 +156,8 @@ impl<'a> Looking<'a> {
         }
     }
 
-    // Pushes a task for a part, which is then looked at next. It keeps all names that are in scope here.
+    // Pushes a task for a part, which is then looked at next. The part keeps all names that are in scope here. `bind` is the variable that comes into
+    // scope in it, if there is one. `number` is that of an argument, from 1, and 0 for any other part. The error is refused memory, here and below.
     fn wait(&mut self, bind: Option<&'a [u8]>, number: usize) -> Result<(), AllocError>
         requires { IsFit self.old }
         ensures scope { self.new.scope ≡ self.old.scope }
@@ -172,7 +173,8 @@ impl<'a> Looking<'a> {
         Ok(())
     }
 
-    // Takes the part that is looked at next from the stack, and makes its scope. Gives its number as in `Task`, and None where no part is left.
+    // Takes the part that is looked at next from the stack, and makes its scope. Gives the part's number: that of an argument, from 1, and 0 for any
+    // other part. None where no part is left. The error is refused memory.
     fn next(&mut self) -> Result<Option<usize>, AllocError>
         requires { IsFit self.old }
         ensures some { IfOk result (IfTaken (λ n. waiting self.old ≡ task self.new.scope n ∷ waiting self.new)) }
@@ -190,7 +192,7 @@ impl<'a> Looking<'a> {
         Ok(Some(task.number))
     }
 
-    // Pushes so many arguments, as one task: that of the last one. Once it is looked at, it is pushed again for those before it.
+    // Pushes so many arguments, as one task: that of the last one, which adds no name. Once it is looked at, it is pushed again for those before it.
     fn arguments(&mut self, count: usize) -> Result<(), AllocError>
         requires { IsFit self.old }
         ensures scope { self.new.scope ≡ self.old.scope }
@@ -204,7 +206,8 @@ impl<'a> Looking<'a> {
         Ok(())
     }
 
-    // Pushes two parts, each with the name, if any, that comes into scope in it. The right one's nodes stand last, so it comes next.
+    // Pushes two parts, each with the name, if any, that comes into scope in it. The right one's nodes stand last, so it comes next. Neither is an
+    // argument, so both have the number 0.
     fn both(&mut self, left: Option<&'a [u8]>, right: Option<&'a [u8]>) -> Result<(), AllocError>
         requires { IsFit self.old }
         ensures scope { self.new.scope ≡ self.old.scope }
@@ -235,7 +238,8 @@ impl<'a> Looking<'a> {
         }
     }
 
-    // The least fault of the parts on the stack, whose nodes these are.
+    // The least fault of the parts on the stack, whose nodes these are: the one that stands first. `room` is then smaller by the number of nodes of
+    // their written-out terms.
     fn find(&mut self, known: &Known, nodes: &[Node<'a>]) -> Result<Option<ScopeFault>, AllocError>
         requires { IsFit self.old }
         ensures least { IfOk result (λ least. IsLeast least (looks (known_of known.now) (waiting self.old) (reverse (map item nodes.now)))) }
@@ -251,11 +255,13 @@ impl<'a> Looking<'a> {
             };
             count -= 1;
             let node = nodes[count];
+            // Of two faults `lesser` gives the one that stands first.
             let own = lesser(
                 number_fault(number, node.span),
                 node_fault(known, &self.scope, node.part),
             );
             least = lesser(least, own);
+            // The written-out term has so many nodes for this one. Room for them is taken, down to 0.
             self.room = self.room.saturating_sub(weight(number, node.part));
             // The arguments before this one, if it is one, below its own parts: their nodes stand further left, so they come later.
             self.arguments(number.saturating_sub(1))?;
@@ -276,6 +282,7 @@ impl<'a> Looking<'a> {
     {
         // No task is left of an expression that was looked through; no contract says so.
         self.tasks.clear();
+        // At first one part is left, the whole expression.
         self.wait(None, 0)?;
         self.find(known, nodes)
     }

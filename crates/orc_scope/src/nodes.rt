@@ -59,8 +59,8 @@ impl Nodes {
         Ok(at)
     }
 
-    /// Adds a call of this name with these operands, or `stop` where the name means nothing. Gives its number, from 0. The error is refused memory;
-    /// the list of operands may be there then.
+    /// Adds a call of the definition or the site that this name means, with these operands, or `stop` where it means neither. Gives its number, from
+    /// 0. The error is refused memory; the list of operands may be there then.
     pub fn add_call(
         &mut self,
         numbers: &Numbers,

@@ -61,7 +61,8 @@ impl<'a, 's> Numbers<'a, 's> {
         Some(Numbers { known, variables })
     }
 
-    /// The number of a variable, that of a new one where no variable has this name. The cast loses nothing, here and below: all numbers fit 32 bits.
+    /// The number of a variable; where no variable has this name, the first number behind those of all variables, which is that of a new one. The
+    /// cast loses nothing, here and below: all numbers fit 32 bits.
     #[tactic(auto, using(crate::proofs::Places::position_within))]
     pub fn variable(&self, text: &[u8]) -> u32
         ensures { result ≡ number self.now.names text.now }
@@ -72,7 +73,7 @@ impl<'a, 's> Numbers<'a, 's> {
         }
     }
 
-    /// The number of an operator's variable, a new one where it has none.
+    /// The number of an operator's variable. Where it has none, that of a new one: the first number behind those of all variables.
     pub fn operator(&self, name: Option<Name>) -> u32
         ensures { result ≡ variable_of self.now.names (label_if name.entry) }
     {

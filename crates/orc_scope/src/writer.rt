@@ -118,7 +118,8 @@ impl Writing {
         })
     }
 
-    // The arguments of a call, which are the pieces from `base` on, as operands. One that has a node is replaced by a new variable.
+    // The arguments of a call, which are the pieces from `base` on, as operands. One that has a node is replaced by a new variable, whose number
+    // `fresh` gives for the argument's place in the call, from 0.
     fn operands(&self, numbers: &Numbers, base: usize) -> Operands
         requires ready { IsReady self.now }
         requires base { base ≤ length self.now.pieces.items }
@@ -150,7 +151,8 @@ impl Writing {
         }
     }
 
-    // Puts a call into the prunings of its new variables, the first argument's innermost. The arguments are the pieces from `base` on.
+    // Puts a call, whose node is `call`, into the prunings of its new variables, the first argument's innermost, and gives the outermost one's node.
+    // The arguments are the pieces from `base` on.
     fn prunings(&mut self, call: usize, numbers: &Numbers, base: usize) -> Result<usize, AllocError>
         requires ready { IsReady self.old }
         requires base { base ≤ length self.old.pieces.items }
@@ -237,7 +239,7 @@ impl Writing {
         }
     }
 
-    // Writes out nodes one after another.
+    // Writes out nodes one after another, in postorder: each finds its parts on the stack.
     fn write_all(&mut self, numbers: &Numbers, nodes: &[Node]) -> Result<(), AllocError>
         requires { IsReady self.old }
         ensures parts { AreSmall (map item nodes.now) → OnOk result (parts self.new ≡ builds numbers.now.known numbers.now.names (parts self.old) (map item nodes.now)) }

@@ -27,10 +27,10 @@ use std::marker::PhantomData;
 /// 2^32: a word's count is the remainder by this.
 const COUNT: u64 = 4294967296;
 
-/// The value of bit 32.
+/// The value of bit 32, which says that the group has published.
 const PUBLISHED: u64 = 4294967296;
 
-/// The value of bit 33.
+/// The value of bit 33, which says that the group is killed.
 const KILLED: u64 = 8589934592;
 
 /// The words of groups, which all threads share.
@@ -40,7 +40,9 @@ pub struct Groups<J: Naming> {
     pub(crate) table: Table<(), View, Plan, Counts, Global>,
     // Names the table in the type; it takes no memory.
     pub(crate) of: PhantomData<J>,
+    // The table is the one that `J` names.
     pub ghost named: { table.shared.table_id ≡ J.table },
+    // The table has a word for each group that was planned, at least one word, and no slot.
     pub ghost planned: { (table.shared.key.groups ≡ J.table.words) × (0 < J.table.words) × (J.table.slots ≡ 0) },
 }
 
@@ -60,6 +62,7 @@ impl<J: Naming> Groups<J> {
         requires idle { group_of idle ≡ None }
         ensures { MatchResult result (λ pass. (stance_of pass ≡ Names group no_bits no_bits) × Opens group (deeds_of idle) (deeds_of pass)) (λ back. back ≡ idle) }
     {
+        // An idle pass names no group: `none` is None.
         let Pass {
             group: none,
             mut seat,
@@ -67,6 +70,7 @@ impl<J: Naming> Groups<J> {
         } = idle;
         let shared = &self.table.shared;
         let word = group as usize;
+        // `Peek` and `Open` are for the prover alone: they say what an exchange tells the seat, by which the table knows the pass.
         let found = shared.load::<Peek>(&mut seat, word);
         // `is_left`: the word counts no pass. Only then the exchange is tried: it puts 1, which counts one pass and has no bits, in place of the word
         // that was read, bits of the last group included. It has done so if it meets, and so gives, the word that was read.
@@ -94,12 +98,13 @@ impl<J: Naming> Groups<J> {
         ensures clear { (seen_of result ≡ no_bits) × (won_of result ≡ no_bits) }
         ensures deeds { Comes (group_of with.now) (deeds_of idle) (deeds_of result) }
     {
+        // An idle pass names no group: `none` is None.
         let Pass {
             group: none,
             mut seat,
             of,
         } = idle;
-        // `with` names a group, as the clause *names* asks; the other arm never runs. Nor do those of `leave`, `mark` and `look`.
+        // Not reached: `with` names a group, as the clause *names* asks.
         let Some(group) = with.group else {
             return Pass {
                 group: none,
@@ -108,7 +113,8 @@ impl<J: Naming> Groups<J> {
             };
         };
         let shared = &self.table.shared;
-        // There are fewer than 2^31 passes, so the count never reaches bit 32.
+        // The group's count goes up by 1; `Enter` says to the prover alone what that tells the seat. There are fewer than 2^31 passes, so the count
+        // never reaches bit 32.
         shared.fetch_add::<Enter>(&mut seat, group as usize, 1);
         Pass {
             group: Some(group),
@@ -128,6 +134,7 @@ impl<J: Naming> Groups<J> {
             mut seat,
             of,
         } = pass;
+        // Not reached: the pass names a group, as the contract asks.
         let Some(group) = group else {
             return Left {
                 pass: Pass {
@@ -139,6 +146,7 @@ impl<J: Naming> Groups<J> {
             };
         };
         let shared = &self.table.shared;
+        // The group's count goes down by 1; `Leave` says to the prover alone what that tells the seat.
         let found = shared.fetch_sub::<Leave>(&mut seat, group as usize, 1);
         // The word as it was counted this pass alone.
         let is_last = found % COUNT == 1;
@@ -168,11 +176,13 @@ impl<J: Naming> Groups<J> {
         ensures won { won_of pass.new ≡ cond result (with_bit bit (won_of pass.old)) (won_of pass.old) }
         ensures deeds { Marks (group_of pass.old) bit result (deeds_of pass.old) (deeds_of pass.new) }
     {
+        // Not reached: the pass names a group, as the contract asks.
         let Some(group) = pass.group else {
             return false;
         };
         let shared = &self.table.shared;
         let word = group as usize;
+        // The type after `::<` says to the prover alone what the exchange tells the pass's seat.
         match bit {
             Bit::Published => {
                 let found = shared.fetch_or::<MarkPublished>(&mut pass.seat, word, PUBLISHED);
@@ -196,6 +206,7 @@ impl<J: Naming> Groups<J> {
         ensures deeds { deeds_of pass.new ≡ deeds_of pass.old }
         ensures covers { Covers (seen_of pass.old) result }
     {
+        // Not reached: the pass names a group, as the contract asks.
         let Some(group) = pass.group else {
             return Bits {
                 published: false,
@@ -203,6 +214,7 @@ impl<J: Naming> Groups<J> {
             };
         };
         let shared = &self.table.shared;
+        // `Look` says to the prover alone what the load tells the pass's seat.
         let found = shared.load::<Look>(&mut pass.seat, group as usize);
         Bits {
             published: found / PUBLISHED % 2 == 1,

@@ -26,6 +26,7 @@ impl<J: Naming> Model for Pass<J> {
 
     ghost view = { λ p. p.seat.me.0 };
 
+    // The seat is one of the table that `J` names, and is idle or names a group as the field `group` says.
     ghost invariant = { λ p. (p.seat.table_id ≡ J.table) × (p.seat.me.1 ≡ []) × IsPass J.table.words p.group p.seat.me.0.stance };
 }
 

@@ -20,7 +20,7 @@ impl TableRule<(), View, Plan> for Counts {
     ghost first = { λ plan. view_of (Supplies plan.passes) [] };
 }
 
-/// A load before an opening, which tells nothing.
+/// A load before an opening, which tells the seat nothing.
 pub struct Peek;
 
 impl Play<(), View> for Peek {
@@ -41,49 +41,49 @@ impl Play<(), View> for SetAside {
     ghost then = { seeing set_aside };
 }
 
-/// The opening of a group, if the word is still the one that was read.
+/// The opening of a group, if the word is still the one that was read. Then the pass has a deed more (`if_opened`), and names the group (`opened`).
 pub struct Open;
 
 impl Play<(), View> for Open {
     ghost then = { doing if_opened opened };
 }
 
-/// A pass enters a group.
+/// A pass enters a group, and names it (`entered`). It has a deed more where no pass named the group (`if_found`).
 pub struct Enter;
 
 impl Play<(), View> for Enter {
     ghost then = { doing if_found entered };
 }
 
-/// A pass leaves its group.
+/// A pass leaves its group, and is idle (`left`). It has a deed more where it was the last that named the group (`if_ended`).
 pub struct Leave;
 
 impl Play<(), View> for Leave {
     ghost then = { doing if_ended left };
 }
 
-/// A pass reads its group's bits.
+/// A pass reads its group's bits, and has then seen those that are set (`looked`). That is no deed.
 pub struct Look;
 
 impl Play<(), View> for Look {
     ghost then = { seeing looked };
 }
 
-/// A pass sets the bit *published*.
+/// A pass sets the bit *published*, and has seen it then (`marked`). If the bit was clear the pass has won it, which is a deed (`if_won`).
 pub struct MarkPublished;
 
 impl Play<(), View> for MarkPublished {
     ghost then = { doing (if_won Published) (marked Published) };
 }
 
-/// A pass sets the bit *killed*.
+/// A pass sets the bit *killed*, and has seen it then (`marked`). If the bit was clear the pass has won it, which is a deed (`if_won`).
 pub struct MarkKilled;
 
 impl Play<(), View> for MarkKilled {
     ghost then = { doing (if_won Killed) (marked Killed) };
 }
 
-/// One pass out of a supply.
+/// One pass out of a supply: `left` is what the table then knows of the supply, `right` of the pass.
 pub struct TakeOne;
 
 impl Split<View> for TakeOne {
@@ -92,7 +92,7 @@ impl Split<View> for TakeOne {
     ghost right = { λ v. view_of Idle (given_deeds (one_less v.stance) v.deeds) };
 }
 
-/// The passes that a supply has set aside.
+/// The passes that a supply has set aside: `left` is what the table then knows of that supply, `right` of the new one.
 pub struct PartWith;
 
 impl Split<View> for PartWith {
@@ -101,7 +101,7 @@ impl Split<View> for PartWith {
     ghost right = { λ v. view_of (all_given v.stance) (given_deeds (all_kept v.stance) v.deeds) };
 }
 
-/// An idle pass back into a supply.
+/// An idle pass back into a supply: `both` is what the table then knows of the supply, `spent` of the pass that was given back.
 pub struct GiveBack;
 
 impl Join<View> for GiveBack {

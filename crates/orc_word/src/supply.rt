@@ -30,6 +30,7 @@ impl<J: Naming> Model for Supply<J> {
 
     ghost view = { λ s. s.passes };
 
+    // The seat is one of the table that `J` names, and stands for a supply of so many passes.
     ghost invariant = { λ s. (s.seat.table_id ≡ J.table) × (s.seat.me.1 ≡ []) × (s.seat.me.0.stance ≡ Supplies s.passes) };
 }
 
@@ -41,6 +42,7 @@ impl<J: Naming> Supply<J> {
         if self.passes == 0 {
             return None;
         }
+        // The pass gets a seat of its own, split from the supply's: by a seat the table knows a pass. `TakeOne` is for the prover alone.
         let seat = groups.shared().split_seat::<TakeOne>(&mut self.seat);
         self.passes -= 1;
         Some(Pass {
@@ -62,6 +64,7 @@ impl<J: Naming> Supply<J> {
         // word: if it finds `aside`, it puts `aside` back.
         let aside = passes as u64;
         shared.compare_exchange::<SetAside>(&mut self.seat, 0, aside, aside);
+        // The new supply's seat is split from this one's. `PartWith` and `SetAside` are types for the prover alone.
         let seat = shared.split_seat::<PartWith>(&mut self.seat);
         self.passes -= passes;
         Some(Supply {
@@ -82,6 +85,7 @@ impl<J: Naming> Supply<J> {
             of: _,
         } = pass;
         let shared = groups.shared();
+        // The pass's seat goes into the supply's. `GiveBack` and `Bound` are for the prover alone.
         shared.join_seat::<GiveBack>(&mut self.seat, seat);
         // The load, of any word, shows the prover that the supply has fewer than 2^31 passes, so that one more can be counted.
         shared.load::<Bound>(&mut self.seat, 0);

@@ -19,7 +19,9 @@ pub struct Unnamed {
     table: Table<(), View, Plan, Counts, Global>,
     seat: Seat<(), View>,
     passes: u32,
+    // The seat is one of this table, and stands for a supply of all passes.
     pub ghost full: { (seat.table_id ≡ table.shared.table_id) × (seat.me.1 ≡ []) × (seat.me.0 ≡ view_of (Supplies passes) []) },
+    // The table was planned for as many groups as it has words, at least one, and for these passes. It has no slot.
     pub ghost planned: { (table.shared.key.groups ≡ table.shared.table_id.words) × (table.shared.key.passes ≡ passes) × (0 < table.shared.table_id.words) × (table.shared.table_id.slots ≡ 0) },
 }
 

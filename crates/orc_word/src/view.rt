@@ -10,7 +10,7 @@ pub enum Stance {
     Parting(u32, u32),
     /// A pass that names no group.
     Idle,
-    /// A pass that names the group, with the bits that it has seen set and those that it has won, which is to say, set itself.
+    /// A pass that names the group, with the bits that it has seen set and those that it has won, which means that it set them itself.
     Names(u32, Bits, Bits),
     /// A pass that was taken back.
     Spent,
