@@ -45,7 +45,7 @@ impl<'a> Bindings<'a> {
         for definition in &ast.definitions {
             bindings.read_definition(definition)?;
         }
-        // Only its variables are wanted: no name is known in all of it.
+        // The call adds the variables of the main expression. Its bytes aren't used: no parameter is known in it.
         let _main = bindings.read_expression(&ast.main)?;
         Ok(bindings)
     }
@@ -95,14 +95,14 @@ impl<'a> Bindings<'a> {
         }
     }
 
-    // In `val x = g f` the variable is known in f, the last part.
+    // In `val x = g f` the variable is known in f, the last part; the part before it is g, the value.
     fn read_val(&mut self, name: Name<'a>) -> Result<(), AllocError> {
         let scope = self.take();
         let _value = self.take();
         self.add(name, Binder::Val, scope)
     }
 
-    // Takes the last part.
+    // Takes the last part off the stack, and gives its bytes.
     fn take(&mut self) -> Span {
         self.parts.pop().unwrap_or(NOWHERE)
     }

@@ -48,7 +48,7 @@ pub enum Unread {
     Other,
 }
 
-// A run that the engine brought to no end (E4).
+// Explains fault E4: the engine brought a run to no end.
 fn say_broken(page: &mut Page) {
     page.note(
         "this is a fault of orc, not of your files: the engine found nothing to do where something was left\n",
@@ -56,14 +56,15 @@ fn say_broken(page: &mut Page) {
     page.help("please keep FILE and the script, and report them");
 }
 
-// A limit that is out of range (E1).
+// Explains fault E1: the limit, which says how many entries the journal of a run may have, is out of range.
 fn say_range(page: &mut Page) {
     page.note("the limit is 1 to ");
     page.number(MOST_ENTRIES);
     page.say("\n");
 }
 
-// The explanation of any fault.
+// Writes the explanation of a fault. `subject` has the names and texts of the command line's files. `say_refused` takes the end of its line, which
+// begins with "memory was refused while".
 fn say_fault(page: &mut Page, alloc: Global, subject: &Subject, fault: Fault) {
     match fault {
         Fault::Syntax(fault) => say_syntax(page, alloc, &subject.source, fault),
@@ -79,14 +80,14 @@ fn say_fault(page: &mut Page, alloc: Global, subject: &Subject, fault: Fault) {
     }
 }
 
-// A line that begins with a file's name.
+// Writes a line ` = ` that begins with a file's name; `words` are the rest of it, with its line feed.
 fn say_of(page: &mut Page, name: &str, words: &str) {
     page.note("");
     page.path(name);
     page.say(words);
 }
 
-// There is no file of this name. Of a name that doesn't begin with `/` it says where the file was looked for.
+// Writes that there is no file of this name. If the name doesn't begin with `/`, a help says in which folder the file was looked for.
 fn say_missing(page: &mut Page, name: &str) {
     page.note("there is no file ");
     page.path(name);
@@ -98,7 +99,7 @@ fn say_missing(page: &mut Page, name: &str) {
     }
 }
 
-// Why a file could not be read, and what to do.
+// Writes why the file of this name could not be read, and what to do.
 fn say_unread(page: &mut Page, name: &str, why: Unread) {
     match why {
         Unread::Missing if name.is_empty() => {

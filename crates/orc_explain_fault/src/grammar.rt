@@ -161,7 +161,7 @@ enum Next {
     Event(Place),
     /// Behind the event that it is in, at the place that `Event` gave.
     Back,
-    /// Nowhere: the line is one.
+    /// Nowhere: the line ends here, and has one of the forms.
     Done,
 }
 
@@ -190,7 +190,8 @@ const FOLLOWING: [&[u8]; 12] = [
     b"cancelled",
 ];
 
-/// What may stand at the places in a service's line. The numbers of calls in `in each of N calls` are 2 to 4.
+/// What may stand at the places in a service's line: at the first place, a piece that passes the test; then the walk goes on at the second place.
+/// `Else` takes no piece. The numbers of calls in `in each of N calls` are 2 to 4.
 const SERVICE_WAYS: [Way; 27] = [
     (Place::Bracket, Test::Is(b"("), Next::To(Place::Patterns)),
     (Place::Patterns, Test::Is(b")"), Next::To(Place::Equals)),
@@ -229,7 +230,8 @@ const SERVICE_WAYS: [Way; 27] = [
     (Place::Service, Test::Name, Next::To(Place::Bracket)),
 ];
 
-/// What may stand at the places in an event.
+/// What may stand at the places in an event: at the first place, a piece that passes the test; then the walk goes on at the second place. `Else`
+/// takes no piece, and `Back` leads behind the event, into the claim.
 const EVENT_WAYS: [Way; 20] = [
     (Place::Published, Test::Slot, Next::To(Place::EventEnd)),
     (Place::Open, Test::Is(b"("), Next::To(Place::Slots)),
@@ -273,7 +275,8 @@ const EVENT_WAYS: [Way; 20] = [
     (Place::Event, Test::Site, Next::To(Place::Open)),
 ];
 
-/// What may stand at the places in a claim on published values or on the run's end.
+/// What may stand at the places in a claim on published values or on the run's end: at the first place, a piece that passes the test; then the walk
+/// goes on at the second place. `Done` ends the line.
 const OUTCOME_WAYS: [Way; 19] = [
     (Place::Ends, Test::Is(b"Halted"), Next::To(Place::EndsEnd)),
     (Place::Ends, Test::Is(b"Quiet"), Next::To(Place::EndsEnd)),
@@ -312,7 +315,8 @@ const OUTCOME_WAYS: [Way; 19] = [
     (Place::Order, Test::Is(b"order"), Next::To(Place::LineEnd)),
 ];
 
-/// What may stand at the places in a claim, outside its events.
+/// What may stand at the places in a claim, outside its events: at the first place, a piece that passes the test; then the walk goes on at the second
+/// place. `Event` leads through an event before it.
 const CLAIM_WAYS: [Way; 30] = [
     (Place::Claim, Test::Word(b"at"), Next::To(Place::Bound)),
     (Place::Claim, Test::Word(b"exactly"), Next::To(Place::Count)),
@@ -374,7 +378,8 @@ const CLAIM_WAYS: [Way; 30] = [
     (Place::Then, Test::Is(b"then"), Next::To(Place::Claim)),
 ];
 
-/// What may stand at the places where a line begins or ends.
+/// What may stand at the places where a line begins or ends: at the first place, a piece that passes the test; then the walk goes on at the second
+/// place. `Else` takes no piece.
 const LINE_WAYS: [Way; 7] = [
     (Place::Line, Test::Word(b"given"), Next::To(Place::LineEnd)),
     (Place::Line, Test::Word(b"always"), Next::To(Place::LineEnd)),
@@ -386,7 +391,8 @@ const LINE_WAYS: [Way; 7] = [
 ];
 
 // What may follow at a place, in words. Where the walk may also go on without a piece (`Test::Else`) they end with `, ` or `or `, and the explanation
-// writes those of the next place behind them. So those of a place behind an event begin with `or` if they have none of their own.
+// writes those of the next place behind them. So the words of a place behind an event begin with `or` if no `or` stands within them; but not those of
+// `LineEnd`, which is also elsewhere.
 fn wanted(place: Place) -> &'static str {
     match place {
         Place::Bracket | Place::Open => "`(`",
@@ -549,8 +555,10 @@ impl Walk {
         None
     }
 
-    // Goes on behind the piece that is looked at, unless the test leaves it for the next place, and to that place.
+    // Goes on by an entry of the tables whose test the piece that is looked at passes: behind the piece, unless the test leaves it for the next
+    // place, and to the place that `next` says.
     fn step(&mut self, line: &mut Line, test: Test, next: Next) {
+        // What may follow at a place that the walk leaves without a piece is said together with what may follow at the next one.
         self.before = match test {
             Test::Else => Some(self.place),
             _ => None,
@@ -569,7 +577,8 @@ impl Walk {
         }
     }
 
-    /// What may follow where the walk ended, in words, in two parts: at the place before, empty if the walk came here over a piece, and at this one.
+    /// What may follow where the walk ended, in words, in two parts: what may follow at the place before, empty if the walk came here over a piece,
+    /// and what may follow at this place.
     pub(crate) fn wanted(&self) -> (&'static str, &'static str) {
         let before = match self.before {
             Some(place) => wanted(place),
@@ -588,7 +597,7 @@ impl Walk {
     }
 }
 
-// The word of a place in a table that is nearest, if it is nearer than those that the search saw before; otherwise `nearest`.
+// The nearest word of those that a table has at a place, if it is nearer than those that the search saw before; otherwise `nearest`.
 fn nearest_in(
     near: &mut Near,
     ways: &[Way],
@@ -606,7 +615,7 @@ fn nearest_in(
     found
 }
 
-// The word of a place that is nearest, of all tables, if it is nearer than those that the search saw before; otherwise `nearest`.
+// The nearest word of those that all tables have at a place, if it is nearer than those that the search saw before; otherwise `nearest`.
 fn nearest_way(near: &mut Near, place: Place, nearest: &'static [u8]) -> &'static [u8] {
     let found = nearest_in(near, LINE_WAYS.as_slice(), place, nearest);
     let found = nearest_in(near, SERVICE_WAYS.as_slice(), place, found);

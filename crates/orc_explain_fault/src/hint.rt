@@ -3,7 +3,7 @@
 use orc_report::{Document, Page};
 
 /// A hint's words, with what fills them: `%` stands for `name`, `@` for `line L, column C` of the byte of the text at `at`, from 0, and `#` for `line
-/// L` of it. What no sign stands for is empty or 0.
+/// L` of it. `name` is empty if the words have no `%`, and `at` is 0 if they have neither `@` nor `#`.
 #[derive(Clone, Copy)]
 pub(crate) struct Hint<'a> {
     words: &'static str,

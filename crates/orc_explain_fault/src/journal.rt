@@ -12,15 +12,16 @@ use orc_rules::limits::{LONGEST_JOURNAL, MOST_ENTRIES};
 use orc_site::read_script;
 use std::alloc::Global;
 
-/// The form of a `cancel`, which version 1 of journals doesn't have.
+/// The form of an entry `cancel`, which version 1 of journals doesn't have.
 const CANCEL: &str = "cancel K";
 
 /// What is said of a line that ends with CR and LF.
 const NO_RETURNS: &str =
     "lines end with a line feed alone, and this one with a carriage return before it";
 
-/// The words with which entries begin, each with the form of its entries as docs/orc.md, *Journals*, has it. A form is shown between two backquotes,
-/// so the one of `return` closes and opens them in its middle.
+/// The words with which entries begin, each with the form of its entries as docs/orc.md, *Journals*, has it. S is the mark of the token that the
+/// entry names, or the otherwise of a `right`; A and B are new marks, C is a cell, K a call, V a value and T a time. A form is shown between two
+/// backquotes, so the one of `return` closes and opens them in its middle.
 const FORMS: [(&[u8], &str); 16] = [
     (b"end", "end S"),
     (b"fork", "fork S A B"),
@@ -40,7 +41,7 @@ const FORMS: [(&[u8], &str); 16] = [
     (b"cancel", CANCEL),
 ];
 
-// What stands before the first such byte, and what behind it. Without such a byte: all, and nothing.
+// The bytes before the first byte `byte` of a text, and those behind it. If the text has no such byte: all of it, and nothing.
 fn split_at_byte(text: &[u8], byte: u8) -> (&[u8], &[u8]) {
     let end = match text.iter().position(|other| *other == byte) {
         Some(end) => end,
@@ -51,7 +52,8 @@ fn split_at_byte(text: &[u8], byte: u8) -> (&[u8], &[u8]) {
     (front, back)
 }
 
-// The name of the site in the line of a `call S K NAME(..)`. None where there is no name, or nothing stands behind a `(`.
+// The name of the site in the line of a `call S K NAME(..)`. The word, the mark S and the number K each end at a blank. None where there is no name,
+// or nothing stands behind a `(`.
 fn called(line: &[u8]) -> Option<&[u8]> {
     let (_word, fields) = split_at_byte(line, b' ');
     let (_mark, fields) = split_at_byte(fields, b' ');
@@ -77,7 +79,7 @@ pub(crate) fn say_journal(page: &mut Page, alloc: Global, subject: &Subject, fau
     }
 }
 
-// J1: a first line that is no header.
+// Fault J1: a first line that is no header.
 fn say_header(page: &mut Page, document: &Document) {
     let span = document.line(1);
     page.point(document, span);
@@ -90,13 +92,13 @@ fn say_header(page: &mut Page, document: &Document) {
     }
 }
 
-// J3: a journal of too many bytes or entries.
+// Fault J3: a journal of too many bytes or entries. `say_most` leaves its line open, and the number of entries ends it.
 fn say_long_journal(page: &mut Page, document: &Document) {
     say_most(page, document, LONGEST_JOURNAL as u64);
     page.say_number(" and ", MOST_ENTRIES, " entries\n");
 }
 
-// J2: the line with this number, from 1, is no entry.
+// Fault J2: the line with this number, from 1, is no entry.
 fn say_journal_line(
     page: &mut Page,
     alloc: Global,
@@ -121,7 +123,7 @@ fn say_journal_line(
     }
 }
 
-// A line that begins with an entry's word, which belongs to entries of this form.
+// Says what is wrong with the line at `span`, which begins with the word of an entry of this form.
 fn say_entry(
     page: &mut Page,
     alloc: Global,
@@ -139,7 +141,7 @@ fn say_entry(
     }
 }
 
-// A line that begins with no entry's word.
+// Says that a line begins with `word`, which no entry has, and which word may have been meant.
 fn say_no_entry(page: &mut Page, alloc: Global, word: &[u8]) {
     page.say_word("no entry is called `", word, "`");
     let meant = near_word(page, alloc, word);
@@ -149,11 +151,12 @@ fn say_no_entry(page: &mut Page, alloc: Global, word: &[u8]) {
     page.say("\n");
 }
 
-// The entries' word that is nearest to this one; empty where none is near.
+// The entries' word that is nearest to this one; empty where none is near. The page is refused if the search was refused memory.
 fn near_word(page: &mut Page, alloc: Global, word: &[u8]) -> &'static [u8] {
     let mut near = Near::new(alloc, word);
     let mut meant: &'static [u8] = b"";
     for (other, _form) in FORMS.iter() {
+        // The search takes only nearer words than it took before, so the last one that it takes is the nearest.
         if near.takes(*other) {
             meant = *other;
         }
@@ -162,7 +165,7 @@ fn near_word(page: &mut Page, alloc: Global, word: &[u8]) -> &'static [u8] {
     meant
 }
 
-// An entry in another form, or the call of a site that the table doesn't name.
+// Says that a line has another form than `form`, or calls a site that is neither built in nor in the script.
 fn say_wrong_form(page: &mut Page, alloc: Global, subject: &Subject, line: &[u8], form: &str) {
     if line.starts_with(b"call ") {
         if let Some(name) = called(line) {

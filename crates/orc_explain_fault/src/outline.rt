@@ -8,7 +8,9 @@ use std::alloc::{AllocError, Global};
 /// What a line of a test is.
 #[derive(Clone, Copy)]
 pub(crate) enum Head<'a> {
+    /// The line `given`: services for all cases stand below it.
     Given,
+    /// The line `always`: claims on all cases stand below it.
     Always,
     /// `case` and its name.
     Case(&'a [u8]),
@@ -48,7 +50,7 @@ pub(crate) fn arguments(pieces: &[Piece]) -> Option<usize> {
     }
 }
 
-// What a line with these pieces is; None of a blank one. A line that has a section's word, but not its form, counts as a claim.
+// What a line with these pieces is; None if it is blank. A line that has a section's word, but not its form, counts as a claim.
 fn head_of<'a>(pieces: &[Piece<'a>]) -> Option<Head<'a>> {
     let first = pieces.first()?;
     if pieces.iter().any(|piece| piece.is(b"=")) {
@@ -82,8 +84,9 @@ impl<'a> Outline<'a> {
         Ok(outline)
     }
 
-    // Adds the line with this number, unless it is blank.
+    // Adds the line with this number, from 1, unless it is blank. The error is refused memory.
     fn read(&mut self, alloc: Global, number: usize, text: &'a [u8]) -> Result<(), AllocError> {
+        // `text` is the one line, so the span is all of it.
         let span = Span {
             start: 0,
             end: text.len(),

@@ -122,8 +122,8 @@ fn has_too_many(ast: &Ast) -> bool {
     has_wide_call(&ast.main)
 }
 
-// The nearest variable, None if none is near. The three functions below continue the same search, which takes only nearer names than it took before,
-// and give None if it takes none of theirs.
+// The variable whose name is nearest to the one that `near` searches for; None if none is near. The three functions below continue the same search,
+// which takes only nearer names than it took before, and give None if it takes none of theirs.
 fn near_variable<'a>(near: &mut Near, bindings: &Bindings<'a>) -> Option<Name<'a>> {
     let mut nearest = None;
     for binding in bindings.list.iter() {
@@ -195,7 +195,7 @@ pub(crate) fn say_scope(page: &mut Page, alloc: Global, subject: &Subject, fault
     }
 }
 
-// The line of the name, and behind the carets what is wrong with it.
+// Shows the line of the name that the fault points at, and says behind the carets what is wrong with it.
 fn say_name(page: &mut Page, alloc: Global, subject: &Subject, ast: &Ast, fault: ScopeFault) {
     let document = &subject.source;
     let at = fault.span.start;
@@ -218,10 +218,11 @@ fn say_name(page: &mut Page, alloc: Global, subject: &Subject, ast: &Ast, fault:
     }
 }
 
-// C1: a name that means nothing here. If a variable has this name elsewhere, it says where that is known.
+// Fault C1: a name that means nothing here. If a variable has this name elsewhere, it says where that is known.
 fn say_unbound(page: &mut Page, alloc: Global, document: &Document, ast: &Ast, name: &[u8]) {
     page.say_word("no `", name, "` is in scope here\n");
     let Ok(bindings) = Bindings::new(alloc, ast) else {
+        // Memory was refused, so the page isn't given out.
         page.refuse();
         return;
     };
@@ -238,13 +239,14 @@ fn say_unbound(page: &mut Page, alloc: Global, document: &Document, ast: &Ast, n
     }
 }
 
-// The name that may have been meant by one that is known nowhere. The search is shown variables, definitions and words in turn, and takes only ever
-// nearer names, so the last kind that it took from has the nearest.
+// Writes which name may have been meant by one that is known nowhere. The search is shown variables, definitions and words in turn, and takes only
+// ever nearer names, so the last kind that it took from has the nearest.
 fn say_near(page: &mut Page, alloc: Global, ast: &Ast, bindings: &Bindings, name: &[u8]) {
     let mut near = Near::new(alloc, name);
     let variable = near_variable(&mut near, bindings);
     let definition = near_definition(&mut near, ast);
     let word = near_word(&mut near);
+    // If the search was refused memory, the page isn't given out.
     page.heed_search(&near);
     match word.or(text_of(definition.or(variable))) {
         Some(other) => say_meant(page, other),
@@ -277,7 +279,7 @@ fn say_perhaps_site(page: &mut Page, name: &[u8]) {
     }
 }
 
-// C2: a definition or a site that is used as a value: it can only be called.
+// Fault C2: a definition or a site that is used as a value: it can only be called.
 fn say_not_value(page: &mut Page, ast: &Ast, name: &[u8]) {
     let kind = match definition_of(ast, name) {
         Some(_) => "definition",
@@ -292,7 +294,7 @@ fn say_not_value(page: &mut Page, ast: &Ast, name: &[u8]) {
     page.say("s aren't values\n");
 }
 
-// C3: a call of a definition that takes `want` arguments with `got` of them.
+// Fault C3: a call of a definition that takes `want` arguments with `got` of them.
 fn say_arity(page: &mut Page, document: &Document, ast: &Ast, name: &[u8], want: u64, got: u64) {
     page.say("called with ");
     page.count(got, "argument");
@@ -306,7 +308,7 @@ fn say_arity(page: &mut Page, document: &Document, ast: &Ast, name: &[u8], want:
     page.say("\n");
 }
 
-// C4: a second definition of a name. `definition_of` gives the first.
+// Fault C4: a second definition of a name. `definition_of` gives the first.
 fn say_second_definition(page: &mut Page, document: &Document, ast: &Ast, name: &[u8]) {
     page.say("a second definition of this name\n");
     if let Some(first) = definition_of(ast, name) {
@@ -314,7 +316,7 @@ fn say_second_definition(page: &mut Page, document: &Document, ast: &Ast, name: 
     }
 }
 
-// C5: a second parameter of a name, at this byte.
+// Fault C5: a second parameter of a name, at this byte.
 fn say_second_parameter(page: &mut Page, document: &Document, ast: &Ast, name: &[u8], at: usize) {
     page.say("a second parameter of this name\n");
     if let Some(first) = first_parameter(ast, name, at) {
@@ -322,14 +324,14 @@ fn say_second_parameter(page: &mut Page, document: &Document, ast: &Ast, name: &
     }
 }
 
-// Where the first one of two stands.
+// Writes in which line and column the first one of two names stands.
 fn say_first(page: &mut Page, document: &Document, name: Name) {
     page.note("the first one stands in ");
     page.place(document.text, name.span.start);
     page.say("\n");
 }
 
-// C6: a called name that means a variable.
+// Fault C6: a called name that means a variable. The name begins at byte `at` of the source.
 fn say_call_of_variable(
     page: &mut Page,
     alloc: Global,
@@ -345,6 +347,7 @@ fn say_call_of_variable(
     );
     match Bindings::new(alloc, ast) {
         Ok(bindings) => say_binding(page, document, bindings.known(name, at)),
+        // Memory was refused, so the page isn't given out.
         Err(_) => page.refuse(),
     }
     page.note("help: ");
@@ -355,7 +358,7 @@ fn say_call_of_variable(
     );
 }
 
-// Where a variable is named; nothing where that isn't known.
+// Writes where a variable is named; nothing if that isn't known.
 fn say_binding(page: &mut Page, document: &Document, binding: Option<Binding>) {
     if let Some(binding) = binding {
         page.note("it is named in ");
@@ -364,7 +367,7 @@ fn say_binding(page: &mut Page, document: &Document, binding: Option<Binding>) {
     }
 }
 
-// C7: a called name that means nothing.
+// Fault C7: a called name that means nothing. The name begins at byte `at` of the source.
 fn say_no_site(
     page: &mut Page,
     alloc: Global,
@@ -385,8 +388,8 @@ fn say_no_site(
     }
 }
 
-// The site or the definition that may have been meant, or else how to write a site of one's own. A name that the program calls elsewhere was surely
-// meant; for another one the script may have the wrong name.
+// Writes which site or definition may have been meant by the called name at byte `at`, or else how to write a site of one's own. A name that the
+// program calls elsewhere was surely meant; for another one the script may have the wrong name.
 fn say_near_site(
     page: &mut Page,
     alloc: Global,
@@ -399,6 +402,7 @@ fn say_near_site(
     let mut near = Near::new(alloc, name);
     let definition = near_definition(&mut near, ast);
     let site = near_site(&mut near, answers);
+    // If the search was refused memory, the page isn't given out.
     page.heed_search(&near);
     match site.or(text_of(definition)) {
         Some(other) if calls(ast, other) => say_meant(page, other),
@@ -407,7 +411,8 @@ fn say_near_site(
     }
 }
 
-// A name that may have been meant, but that the program never calls. If a line of the script has it, either of the two names may be wrong.
+// `meant` is a name that may have been meant by `name`, but that the program never calls. If a line of the script has `meant`, either of the two
+// names may be wrong, so both are written.
 fn say_perhaps_script(
     page: &mut Page,
     alloc: Global,
@@ -416,6 +421,7 @@ fn say_perhaps_script(
     name: &[u8],
 ) {
     let Ok(script) = Outline::new(alloc, subject.script_text()) else {
+        // Memory was refused, so the page isn't given out.
         page.refuse();
         return;
     };
@@ -430,7 +436,7 @@ fn say_perhaps_script(
     }
 }
 
-// The line that a script needs for a site of one's own with so many arguments. Its answer, 0 after 1, is only an example.
+// Writes the line that a script needs for a site of one's own with `count` arguments. Its answer, 0 after 1, is only an example.
 fn say_own_site(page: &mut Page, subject: &Subject, name: &[u8], count: usize) {
     page.note("help: a site of your own needs a line in ");
     match subject.script {
@@ -447,7 +453,7 @@ fn say_own_site(page: &mut Page, subject: &Subject, name: &[u8], count: usize) {
     page.say(") = 0 after 1`\n");
 }
 
-// C8: an argument or a parameter too many if `are_arguments`, or else too many nodes.
+// Fault C8: if `are_arguments`, a call or a definition has too many arguments or parameters; or else the program has too many nodes.
 fn say_too_many(page: &mut Page, are_arguments: bool) {
     if are_arguments {
         page.say_number(

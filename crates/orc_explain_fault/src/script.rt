@@ -48,19 +48,26 @@ pub struct Piece<'a> {
     pub(crate) span: Span,
 }
 
-/// What is wrong with a line, mostly what had to stand there. `words` says each in words.
+/// What is wrong with a line: mostly what had to stand where something else stands. `words` says each in words.
 #[derive(Clone, Copy)]
 enum Wrong {
+    /// The name of a site.
     Name,
+    /// The name is that of a built-in site.
     BuiltIn,
+    /// The name is a reserved word.
     Reserved,
+    /// The bracket that opens the patterns.
     Bracket,
     Pattern,
     /// A comma or the closing bracket.
     Comma,
+    /// The `=`.
     Assign,
     Answer,
+    /// An `after` stands behind `never`, which takes none.
     NeverAfter,
+    /// The number behind `after`.
     Time,
     /// A number is out of range.
     Range,
@@ -79,7 +86,7 @@ impl Piece<'_> {
     }
 }
 
-// What the piece is that stands first in the rest of a line, which isn't empty.
+// The kind of the piece that stands first in `rest`, the rest of a line, which isn't empty.
 fn kind_at(rest: &[u8]) -> Kind {
     match rest {
         [b'A'..=b'Z' | b'a'..=b'z', ..] => Kind::Name,
@@ -88,7 +95,7 @@ fn kind_at(rest: &[u8]) -> Kind {
     }
 }
 
-// How many bytes the first piece of `rest` has, which is of this kind. A sign has one byte, except `..`. `end` is the number of bytes behind the
+// How many bytes the first piece of `rest` has, which is of kind `kind`. A sign has one byte, except `..`. `end` is the number of bytes behind the
 // piece's first.
 fn length(kind: Kind, rest: &[u8]) -> usize {
     let more = rest.get(1..).unwrap_or(b"");
@@ -217,8 +224,8 @@ impl<'a> Line<'a> {
         self.here().text == text
     }
 
-    // Goes on behind this word or sign. If another piece is looked at the error is `wrong`. At an error the line stays at the
-    // piece that is wrong, here and in all functions below.
+    // Goes on behind this word or sign, if it is looked at; otherwise the error is `wrong`. At an error the line stays at the piece that is wrong,
+    // here and in all functions below.
     fn want(&mut self, text: &[u8], wrong: Wrong) -> Result<(), Wrong> {
         if self.is_here(text) {
             self.go();
@@ -328,7 +335,7 @@ impl<'a> Line<'a> {
         Err(Wrong::Answers)
     }
 
-    // Reads the whole line. The error is what is wrong first, with the piece that is looked at then.
+    // Reads the whole line as a line of a script. The error is what is wrong first; then the piece that is wrong is looked at.
     fn whole(&mut self) -> Result<(), Wrong> {
         self.site()?;
         self.patterns()?;
@@ -370,9 +377,10 @@ pub(crate) fn say_script(page: &mut Page, alloc: Global, subject: &Subject, faul
     }
 }
 
-// L1: the line with this number, from 1, is no line of a script.
+// Fault L1: the line with this number, from 1, is no line of a script.
 fn say_script_line(page: &mut Page, alloc: Global, document: &Document, number: usize) {
     let Ok(mut line) = Line::new(alloc, document.text, document.line(number)) else {
+        // Memory was refused, so the page isn't given out.
         page.refuse();
         return;
     };
@@ -385,7 +393,7 @@ fn say_script_line(page: &mut Page, alloc: Global, document: &Document, number: 
     }
 }
 
-// What is wrong, behind the carets.
+// Writes what is wrong with the piece `here`, behind the carets.
 fn say_wrong(page: &mut Page, wrong: Wrong, here: Piece) {
     match wrong {
         Wrong::BuiltIn | Wrong::Reserved => page.say_word("`", here.text, ""),
@@ -454,7 +462,7 @@ fn say_bare_site(page: &mut Page, site: Option<Piece>) {
     }
 }
 
-// A hint: these words, and where a name stands in the place of a value also a sentence in which `%` is that name.
+// Writes a hint: these words, and, if the piece `here` is a name in the place of a value, also a sentence in which `%` is that name.
 fn say_named(page: &mut Page, words: &str, here: Piece, sentence: &str) {
     page.note("help: ");
     page.say(words);

@@ -23,8 +23,8 @@ pub(crate) const ORDER_MARK: &[u8] = b"\xEF\xBB\xBF";
 pub(crate) const NO_ORDER_MARK: &str =
     "this is a byte order mark: save the file as UTF-8 without one";
 
-// What is said of a text that begins with these bytes. The first entry that fits is taken, so an entry for two signs is before one for the first
-// alone.
+// What is said of a place where the text goes on with these bytes. The first entry that fits is taken, so an entry for two signs is before one for
+// the first alone.
 const HINTS: [(&[u8], &str); 22] = [
     (ORDER_MARK, NO_ORDER_MARK),
     (b"//", COMMENT),
@@ -106,7 +106,7 @@ fn hint(text: &[u8], at: usize) -> Option<&'static str> {
     }
 }
 
-// A character by itself if it is printable ASCII, 33 to 126, or else by its number.
+// Writes a character: printable ASCII, 33 to 126, as itself, and any other by its number. `bytes` are those of the character, or of a pair of signs.
 fn say_character(page: &mut Page, bytes: &[u8]) {
     match bytes {
         [33..=126, ..] => page.say_word("`", bytes, "`"),
@@ -114,7 +114,7 @@ fn say_character(page: &mut Page, bytes: &[u8]) {
     }
 }
 
-// A character that isn't printable ASCII.
+// Writes the number of a character that isn't printable ASCII.
 fn say_unshown(page: &mut Page, bytes: &[u8]) {
     match code(bytes) {
         Some(code) if code < 128 => page.say_number("the control character ", code as u64, ""),

@@ -15,7 +15,8 @@ use std::alloc::Global;
 /// Which numbers are values, in words: those of 64 bits with a sign.
 pub(crate) const VALUES: &str = "-9223372036854775808 to 9223372036854775807";
 
-// What the parser expected. Of an operator's second sign the first one, two tokens before, says which it is.
+// What the parser expected, in words. For the second sign of an operator with a variable (`Arrow`) the first sign says which way it points: that sign
+// is two tokens before the place, since the name stands between.
 fn wanted(what: What, tokens: &Tokens) -> &'static str {
     match what {
         What::Expression => "an expression",
@@ -51,7 +52,7 @@ pub(crate) fn say_syntax(page: &mut Page, alloc: Global, document: &Document, fa
     }
 }
 
-// S1: bytes that aren't UTF-8, from this one on.
+// Fault S1: the bytes from `at` on, from 0, aren't UTF-8.
 fn say_encoding(page: &mut Page, document: &Document, at: usize) {
     let end = at.saturating_add(1);
     page.point(document, Span { start: at, end });
@@ -66,7 +67,7 @@ pub(crate) fn say_out_of_range(page: &mut Page, document: &Document, span: Span)
     page.expected(VALUES);
 }
 
-// S7: a `{-` that isn't closed. The carets go under its two bytes.
+// Fault S7: the `{-` at byte `at`, from 0, isn't closed. The carets go under its two bytes.
 fn say_comment(page: &mut Page, document: &Document, at: usize) {
     let end = at.saturating_add(2);
     page.point(document, Span { start: at, end });
@@ -74,9 +75,10 @@ fn say_comment(page: &mut Page, document: &Document, at: usize) {
     page.expected("one `-}` for each `{-`, the ones inside it too");
 }
 
-// S4: the token with which the program can't go on, or the end of the text, with what was expected and a hint.
+// Fault S4: the program can't go on with the token at byte `at`, from 0, or the text ends there. Below stand what was expected, and a hint.
 fn say_unexpected(page: &mut Page, alloc: Global, document: &Document, at: usize, what: What) {
     let Ok(tokens) = Tokens::new(alloc, document.text, at) else {
+        // Memory was refused, so the page isn't given out.
         page.refuse();
         return;
     };
@@ -94,14 +96,16 @@ fn say_unexpected(page: &mut Page, alloc: Global, document: &Document, at: usize
     }
 }
 
-// The end of the text. The caret stands behind its last token, not behind blanks and comments.
+// Points at the end of the text, and says that it ends there. The caret stands behind the token `last`, not behind blanks and comments; if there is
+// no token it stands at byte `at`.
 fn say_end(page: &mut Page, document: &Document, last: Option<Token>, at: usize) {
     let start = last.map_or(at, |token| token.span.end);
     page.point(document, Span { start, end: start });
     page.say("the text ends here\n");
 }
 
-// S5: a bracket, a `val` or an operator too many. The numbers are one more than `MOST_BRACKETS` and `MOST_OPERATORS` allow.
+// Fault S5: the bracket, `val` or operator at byte `at`, from 0, is one too many. The numbers are one more than `MOST_BRACKETS` and `MOST_OPERATORS`
+// allow.
 fn say_deep(page: &mut Page, document: &Document, at: usize) {
     let span = span_at(document.text, at);
     page.point(document, span);

@@ -60,16 +60,18 @@ const WORDS: [(&[u8], &str); 13] = [
 pub(crate) fn say_line(page: &mut Page, alloc: Global, document: &Document, number: usize) {
     let span = document.line(number);
     let Ok(mut line) = Line::new(alloc, document.text, span) else {
+        // Memory was refused, so the page isn't given out.
         page.refuse();
         return;
     };
+    // The walk leaves the line at the first piece that can't stand where it does, if there is one.
     match Walk::over(&mut line) {
         Some(walk) => say_stop(page, alloc, document, &line, walk),
         None => say_whole(page, document, &line),
     }
 }
 
-// A piece that can't stand where it does, at which the walk over the line has stopped.
+// Says that the piece at which the walk over the line has stopped can't stand where it does.
 fn say_stop(page: &mut Page, alloc: Global, document: &Document, line: &Line, walk: Walk) {
     let here = line.here();
     if here.kind == Kind::Number && !is_in_range(here.text) {
@@ -84,7 +86,8 @@ fn say_stop(page: &mut Page, alloc: Global, document: &Document, line: &Line, wa
     say_wanted(page, alloc, line, walk);
 }
 
-// What may stand there, and what may have been meant.
+// Writes what may stand where the walk has stopped, and what may have been meant. `before` has the words for the place that the walk left without a
+// piece.
 fn say_wanted(page: &mut Page, alloc: Global, line: &Line, walk: Walk) {
     let here = line.here();
     let (before, wanted) = walk.wanted();
@@ -93,6 +96,8 @@ fn say_wanted(page: &mut Page, alloc: Global, line: &Line, walk: Walk) {
     page.say(wanted);
     page.say("\n");
     let mut near = Near::new(alloc, here.text);
+    // The word that may stand here and is nearest to the one that does; empty if none is near. If the search was refused memory, `heed_search`
+    // refuses the page.
     let word = walk.near_word(&mut near);
     page.heed_search(&near);
     if !word.is_empty() {
@@ -157,7 +162,7 @@ fn is_of_range(here: Piece) -> bool {
     }
 }
 
-// The bytes of the first range whose second number is less than its first. None where there is none.
+// Where the first range `5..0` stands whose second number is less than its first. None if there is no such range.
 fn backwards(pieces: &[Piece]) -> Option<Span> {
     for at in 0..pieces.len() {
         if let [low, dots, high, ..] = pieces.get(at..).unwrap_or(pieces) {
@@ -172,7 +177,7 @@ fn backwards(pieces: &[Piece]) -> Option<Span> {
     None
 }
 
-// Whether a number is less than another. False where one has over 64 bits.
+// Whether a number is less than another, both as digits. False if one of them takes over 64 bits.
 fn is_less(one: &[u8], other: &[u8]) -> bool {
     match (digits_at(one), digits_at(other)) {
         (Some((one, _)), Some((other, _))) => one < other,

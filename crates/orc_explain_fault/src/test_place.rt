@@ -19,9 +19,10 @@ const CLAIMS: &str = "claims stand below `always` or a case";
 /// How many services and claims there may be: `MOST_SERVICES` and `MOST_CLAIMS`.
 const FEWER: &str = "a test has at most 1,024 services and 1,024 claims: make two tests of it";
 
-/// Why the line with this number, from 1, can't stand where it does.
+/// Explains why the line with this number, from 1, can't stand where it does.
 pub(crate) fn say_place(page: &mut Page, alloc: Global, document: &Document, number: usize) {
     let Ok(outline) = Outline::new(alloc, document.text) else {
+        // Memory was refused, so the page isn't given out.
         page.refuse();
         return;
     };
@@ -57,8 +58,8 @@ pub(crate) fn span_of(pieces: &[Piece]) -> Span {
     }
 }
 
-// Why a service or a claim can't stand in a section, None before the first one, and what to do. In a section in which it can stand, there are too
-// many.
+// Two texts: why a service or a claim can't stand in a section, and what to do. `section` is None for a line before the first section. If the line
+// can stand in the section, there are too many of its kind.
 fn misplaced(head: Head, section: Option<Head>) -> (&'static str, &'static str) {
     match (head, section) {
         (Head::Claim, None) => ("a claim can't stand before the first section", CLAIMS),
@@ -71,7 +72,7 @@ fn misplaced(head: Head, section: Option<Head>) -> (&'static str, &'static str) 
     }
 }
 
-// A service or a claim that can't stand in its section.
+// Says why a service or a claim can't stand in its section, None before the first one, and in which line the section begins.
 fn say_misplaced(page: &mut Page, head: Head, section: Option<Outlined>) {
     let (words, help) = misplaced(head, section.map(|section| section.head));
     page.say(words);
@@ -84,7 +85,8 @@ fn say_misplaced(page: &mut Page, head: Head, section: Option<Outlined>) {
     page.help(help);
 }
 
-// A second section of its name, if an earlier line begins one; otherwise a case too many.
+// Says that the line with this number, from 1, begins a second section of a name, if an earlier line begins one; otherwise that it is a case too
+// many.
 fn say_second_section(page: &mut Page, outline: &Outline, number: usize, head: Head) {
     match outline.first(head) {
         Some(first) if first < number => {

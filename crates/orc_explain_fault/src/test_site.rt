@@ -22,7 +22,7 @@ fn is_known(outline: &Outline, others: &Answers, name: &[u8], count: usize) -> b
     others.site_named(name).is_some()
 }
 
-/// The first site that isn't known in the line with this number, from 1.
+/// Explains the first site in the line with this number, from 1, that isn't known. `others` is the table of the built-in sites and the script.
 pub(crate) fn say_unknown(
     page: &mut Page,
     alloc: Global,
@@ -31,6 +31,7 @@ pub(crate) fn say_unknown(
     number: usize,
 ) {
     let Ok(outline) = Outline::new(alloc, document.text) else {
+        // Memory was refused, so the page isn't given out.
         page.refuse();
         return;
     };
@@ -38,7 +39,8 @@ pub(crate) fn say_unknown(
         page.refuse();
         return;
     };
-    // Of each piece that is a site, its arguments are counted. The fault says that there is one that isn't known.
+    // A piece that is a name with brackets behind it is a site, and `arguments` counts what stands in them. The fault says that one of the sites
+    // isn't known.
     for (at, piece) in line.pieces.iter().enumerate() {
         let pieces = line.pieces.get(at..).unwrap_or(&[]);
         if let Some(count) = arguments(pieces) {
@@ -63,11 +65,13 @@ fn near_service<'a>(
     let mut meant = near_site(&mut near, others).unwrap_or(b"");
     for line in outline.lines.iter() {
         if let Head::Service(other, _) = line.head {
+            // The search takes only nearer names than it took before, so the last one that it takes is the nearest.
             if near.takes(other) {
                 meant = other;
             }
         }
     }
+    // If the search was refused memory, the page isn't given out.
     page.heed_search(&near);
     meant
 }
@@ -78,6 +82,7 @@ fn say_other_arguments(page: &mut Page, outline: &Outline, name: &[u8]) -> bool 
     let Some((line, count)) = outline.service(name) else {
         return false;
     };
+    // Begins a line ` = `.
     page.note("");
     page.say_word("`", name, "` has ");
     page.count(count as u64, "argument");
@@ -85,7 +90,7 @@ fn say_other_arguments(page: &mut Page, outline: &Outline, name: &[u8]) -> bool 
     true
 }
 
-// The rest of the line on a site that no service has, and what may have been meant.
+// Writes, behind the carets, that no service has this name and `count` arguments, and what may have been meant.
 fn say_no_service(
     page: &mut Page,
     alloc: Global,

@@ -1,5 +1,6 @@
 //! Cases with too many ways (T6). A way is one choice among all that the case's services may do. A test without a case has one that is called
-//! `given`: where a function takes a case by its place, from 0, None stands for that one.
+//! `given`. Functions take a case by its place in the test, from 0; the `case` of a service is None if it stands below `given`, where it is one of
+//! all cases.
 
 use crate::script::Line;
 use crate::test_place::span_of;
@@ -17,8 +18,9 @@ fn times(reply: Reply) -> u64 {
     }
 }
 
-// How many ways a service has by itself: the ways of all its alternatives, to the power of the number of calls that each take an alternative of their
-// own. If that is over 64 bits, the greatest number of 64 bits.
+// How many ways a service has by itself: the ways of all its alternatives, added up, to the power of the number of calls that each take an
+// alternative of their own. The replies of an alternative answer one call after the other, so its ways are the times of its replies, multiplied. If
+// the result is over 64 bits, the greatest number of 64 bits.
 fn ways_of(service: &Service) -> u64 {
     let mut all: u64 = 0;
     for replies in service.alternatives.iter() {
@@ -35,7 +37,8 @@ fn ways_of(service: &Service) -> u64 {
     ways
 }
 
-// Whether a service is one of a case: a line of its own, or one below `given` whose name and patterns no line of its own has.
+// Whether a service is one of the case at place `case`, from 0: its line stands in the case, or below `given`, and then no line in the case has the
+// same name and patterns.
 fn is_of(test: &Test, case: Option<usize>, line: &ServiceLine) -> bool {
     if line.case.is_some() {
         return line.case == case;
@@ -53,7 +56,8 @@ fn is_same(one: &Service, other: &Service) -> bool {
     one.name == other.name && one.patterns.as_slice() == other.patterns.as_slice()
 }
 
-// The service of a case that has most ways by itself, and how many. None where no service has more than one.
+// The name of the service that has most ways by itself, of those of the case at place `case`, from 0; and how many ways it has. None where no service
+// has more than one.
 fn widest<'a>(test: &Test<'a>, case: Option<usize>) -> Option<(&'a [u8], u64)> {
     let mut found = None;
     let mut most: u64 = 1;
@@ -77,6 +81,7 @@ pub(crate) fn say_ways(
     number: usize,
 ) {
     let Ok(line) = Line::new(alloc, document.text, document.line(number)) else {
+        // Memory was refused, so the page isn't given out.
         page.refuse();
         return;
     };
@@ -88,8 +93,10 @@ pub(crate) fn say_ways(
         page.refuse();
         return;
     };
+    // The place of the case among all cases, from 0. There is one, since the fault names the line of a case.
     let case = test.cases.iter().position(|case| case.line == number);
     if let Some((name, ways)) = widest(&test, case) {
+        // Begins a line ` = `.
         page.note("");
         page.say_word("`", name, "` alone has ");
         page.number(ways);

@@ -29,11 +29,13 @@ impl<'a> Tokens<'a> {
         Ok(tokens)
     }
 
-    // A comment and blanks are no tokens. What can't be read ends the tokens.
+    // Reads the tokens from the text's beginning up to the byte at `place`. A `Gap`, blanks or a comment, is no token. The tokens end where neither a
+    // token nor a gap can be read.
     fn read(&mut self, text: &'a [u8], place: usize) -> Result<(), AllocError> {
         let mut at: usize = 0;
         // Each piece has a byte at least, so there are no more pieces than bytes.
         for _piece in 0..text.len() {
+            // The text ends, or a token or a gap reaches over the place: no token begins there.
             if at >= text.len() || at > place {
                 return Ok(());
             }
@@ -71,7 +73,8 @@ pub(crate) fn say_token(page: &mut Page, document: &Document, token: &Token) {
     page.say_word(before, document.part(token.span), "`");
 }
 
-/// The bytes of the token that begins at a place of a text, from 0; the one byte there where none does, also at the text's end, where there is none.
+/// The span of the token that begins at byte `at` of a text, from 0. If no token begins there, the span has this one byte, also at the text's end,
+/// where the text has no byte.
 pub fn span_at(text: &[u8], at: usize) -> Span {
     if at < text.len() {
         if let Piece::Token(token) = piece_at(text, at) {

@@ -100,7 +100,8 @@ fn said_of_both(
     None
 }
 
-// What is said of the last token and the one at the place, or of the latter alone, which stands where an expression has to.
+// What is said of the token `here` at the place of the fault, where an expression has to stand, and the token `last` before it; or, if the table has
+// no such pair, of `here` alone.
 fn said_of_pair(last: &[u8], here: &[u8]) -> Option<&'static str> {
     match said_of_both(last, here, PAIRS.as_slice()) {
         Some(said) => Some(said),
@@ -108,7 +109,7 @@ fn said_of_pair(last: &[u8], here: &[u8]) -> Option<&'static str> {
     }
 }
 
-// A token's name, if it is one.
+// The name that a token is. None if it is no name, or there is no token.
 fn name_of<'a>(token: Option<Token<'a>>) -> Option<&'a [u8]> {
     match token {
         Some(
@@ -186,11 +187,13 @@ impl<'a> Around<'_, 'a> {
         None
     }
 
-    // Whether a `;`, at the place or before it, stands behind the last `val` within the same brackets.
+    // Whether a `;` (`Joint::Other`), at the place of the fault or before it, stands behind the last `val` within the same brackets. The walk goes
+    // back from the place.
     fn is_val_ended(&self) -> bool {
         let mut is_ended = self.here() == b";".as_slice();
         let mut closed: usize = 0;
         for token in self.tokens.before.iter().rev() {
+            // The token isn't in brackets that were closed again before the place.
             if closed == 0 {
                 match token.kind {
                     Kind::Val => return is_ended,
@@ -208,7 +211,7 @@ impl<'a> Around<'_, 'a> {
         false
     }
 
-    // Whether a `def` or a `val` stands before the place.
+    // Whether a `def` or a `val` stands anywhere before the place of the fault.
     fn has_begun(&self) -> bool {
         self.tokens
             .before
@@ -216,14 +219,14 @@ impl<'a> Around<'_, 'a> {
             .any(|token| matches!(token.kind, Kind::Def | Kind::Val))
     }
 
-    // Whether a line ends between two tokens.
+    // Whether a line ends between two tokens, of which `first` stands before `second`.
     fn is_line_between(&self, first: Token, second: Token) -> bool {
         let between = self.text.get(first.span.end..second.span.start);
         between.unwrap_or(b"").iter().any(|byte| *byte == b'\n')
     }
 
-    // The last name with blanks and then a `(` behind it: it reads as a call, though its writer may have meant two expressions. A name with a line's
-    // end before the `(` takes precedence. The name behind `def` doesn't count. None where there is none.
+    // The last name before the place that has a gap and then a `(` behind it: it reads as a call, though its writer may have meant two expressions. A
+    // name with a line's end before the `(` takes precedence. The name behind `def` doesn't count. None where there is no such name.
     fn loose_call(&self) -> Option<Token<'a>> {
         let mut found: Option<Token<'a>> = None;
         let mut over_lines: Option<Token<'a>> = None;
@@ -247,7 +250,7 @@ impl<'a> Around<'_, 'a> {
         over_lines.or(found)
     }
 
-    // A hint on a word of another language, before the place or at it.
+    // A hint on a word of another language, before the place of the fault or at it. None where no such word stands there.
     fn foreign_word(&self) -> Option<Hint<'a>> {
         let last = self.back(1);
         if last == b"if".as_slice() || is_one_of(self.here(), CHOOSING.as_slice()) {
@@ -295,7 +298,7 @@ impl<'a> Around<'_, 'a> {
         self.here() == equals && (self.back(1) == equals || is_behind_expression(what))
     }
 
-    // A hint on a word or a sign of another language.
+    // A hint on a word or a sign of another language. None where none stands at the place of the fault or right before it.
     fn foreign(&self, what: What) -> Option<Hint<'a>> {
         if let Some(hint) = self.foreign_word() {
             return Some(hint);
@@ -311,7 +314,7 @@ impl<'a> Around<'_, 'a> {
         None
     }
 
-    // A hint where an expression was expected.
+    // A hint where an expression was expected, by the token at the place and the one before it. None where nothing helpful is known.
     fn expression(&self) -> Option<Hint<'a>> {
         let last = self.back(1);
         let here = self.here();
@@ -329,6 +332,7 @@ impl<'a> Around<'_, 'a> {
         if is_one_of(last, SIGNS.as_slice()) {
             return Some(Hint::of_name("something has to follow `%`", last));
         }
+        // The text ends behind a definition or a `val`, and the main expression is missing.
         if here.is_empty() && self.has_begun() {
             return Some(self.main_expression());
         }
@@ -377,6 +381,7 @@ impl<'a> Around<'_, 'a> {
     // A hint where a name was expected.
     fn name(&self) -> Hint<'a> {
         let here = self.here();
+        // Behind a `<` or `>` a reserved word, as `true`, was meant as a value to compare: `name_words` speaks of that.
         if is_reserved_word(here) && !self.is_behind_arrow() {
             return Hint::of_name("`%` is a reserved word, so it can't be a name", here);
         }
@@ -391,7 +396,7 @@ impl<'a> Around<'_, 'a> {
         }
     }
 
-    // The words of the hint of `name`, by the token before the place.
+    // What to write where a name was expected, by the token before the place and the one at it.
     fn name_words(&self) -> &'static str {
         match self.back(1) {
             b"<" | b">" => {
@@ -411,6 +416,7 @@ impl<'a> Around<'_, 'a> {
 
     // A hint where the second sign of `>x>` or `<x<` was expected.
     fn arrow(&self) -> Hint<'a> {
+        // The token before the place is the name, and the one before that the first sign.
         if are_crossed(self.back(2), self.here()) {
             return Hint::plain(
                 "both signs point the same way: `f >x> g` hands on, `f <x< g` waits for the first",
@@ -421,7 +427,8 @@ impl<'a> Around<'_, 'a> {
         )
     }
 
-    // A hint where the `=` of a `def` or a `val` was expected.
+    // A hint where the `=` of a `def` or a `val` was expected. A `(` there was meant to begin the parameters of a `val`; behind a `)`, which ends
+    // parameters, a `def` goes on.
     fn assign(&self) -> Hint<'a> {
         if self.here() == b"(".as_slice() {
             return Hint::plain("parameters belong to `def`: `def f(a) = ..`");
@@ -432,7 +439,7 @@ impl<'a> Around<'_, 'a> {
         Hint::plain(VAL)
     }
 
-    // A hint where the `(` behind a definition's name was expected.
+    // A hint where the `(` behind a definition's name was expected. The token before the place is that name.
     fn paren(&self) -> Hint<'a> {
         Hint::of_name(
             "parameters stand in brackets, and the brackets stay where there are none: `def %() = ..`",
@@ -448,8 +455,8 @@ impl<'a> Around<'_, 'a> {
         }
     }
 
-    // A hint where a closing bracket was expected. Where the bracket was opened in an earlier line, or a `def` follows, it says where; `otherwise` is
-    // for one opened in this line.
+    // A hint where a closing bracket was expected. If the bracket was opened in an earlier line, or a `def` stands at the place, the hint says where
+    // it was opened. `otherwise` has the words for a bracket that was opened in the same line.
     fn close(&self, otherwise: &'static str) -> Hint<'a> {
         if let Some(open) = self.open_bracket() {
             if self.is_line_since(open) || self.here() == b"def".as_slice() {
@@ -470,7 +477,7 @@ impl<'a> Around<'_, 'a> {
         }
     }
 
-    // A hint where an operator or the end of the text was expected.
+    // A hint where an operator or the end of the text was expected, by the token that stands there instead.
     fn end(&self) -> Hint<'a> {
         match self.here() {
             b")" => Hint::plain("this `)` closes nothing"),
@@ -487,7 +494,8 @@ impl<'a> Around<'_, 'a> {
     }
 }
 
-// Whether an expression stands before the place: only behind one the parser expects an operator, the end, or what closes or divides.
+// Whether an expression ends right before the place where `what` was expected: only behind an expression the parser expects an operator, the end, or
+// what closes or divides.
 fn is_behind_expression(what: What) -> bool {
     match what {
         What::End | What::Close | What::CommaOrClose => true,
@@ -495,7 +503,7 @@ fn is_behind_expression(what: What) -> bool {
     }
 }
 
-/// The first hint that fits at the place behind these tokens, where `what` was expected. None where nothing helpful is known.
+/// The first hint that fits at the place behind these tokens of `text`, where the parser expected `what`. None where nothing helpful is known.
 pub(crate) fn hint_of<'a>(text: &'a [u8], tokens: &Tokens<'a>, what: What) -> Option<Hint<'a>> {
     let around = Around { text, tokens };
     if let Some(hint) = around.foreign(what) {

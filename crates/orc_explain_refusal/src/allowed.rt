@@ -15,8 +15,8 @@ pub(crate) fn cancel_in(allowed: &Allowed) -> Option<u64> {
     }
 }
 
-/// Writes the line of the first entries that are allowed, and how many more are. If none is, it says that the term has halted, or, without
-/// `has_halted`, that it is quiet.
+/// Writes the line of the first entries that are allowed, and how many more are. If none is, it says that the term has halted (`has_halted`), or else
+/// that it has gone quiet.
 pub(crate) fn say_allowed(
     page: &mut Page,
     alloc: Global,

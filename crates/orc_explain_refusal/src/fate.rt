@@ -29,13 +29,15 @@ pub(crate) enum Fate {
 /// What an entry names, watched while the entries before it are applied.
 #[derive(Clone, Copy)]
 pub(crate) struct Watch {
+    /// What is watched.
     pub named: Named,
+    /// What has become of it so far.
     pub fate: Fate,
     // The number of its node, which stays the same as long as it stands. None until an entry has made it.
     place: Option<usize>,
 }
 
-// Whether an entry makes what is named: it is among the entry's new numbers; an otherwise is made by the `other` of its mark.
+// Whether an entry makes what is named: its number is among the entry's new ones, or, for an otherwise, the entry is the `other` of its mark.
 fn is_brought(named: Named, entry: &Entry) -> bool {
     let new = numbers_of(entry);
     match named {
@@ -47,7 +49,7 @@ fn is_brought(named: Named, entry: &Entry) -> bool {
     }
 }
 
-// Whether an entry uses up what is named, which it names itself. A `bind` uses up its cell beside its token.
+// Whether an entry uses up what is named, since the entry names the same. A `bind` uses up its token and its cell.
 fn is_used(named: Named, entry: &Entry) -> bool {
     match (named, named_by(entry)) {
         (Named::Token(mark), Named::Token(used)) => mark == used,
@@ -62,7 +64,7 @@ fn is_used(named: Named, entry: &Entry) -> bool {
 }
 
 impl Watch {
-    /// Watches what is named from the beginning of a run on, whose marked term this is.
+    /// Watches what is named from the beginning of a run on. `marked` is the run's term before its first entry.
     pub(crate) fn new(named: Named, marked: &Marked) -> Watch {
         Watch {
             named,
@@ -134,6 +136,7 @@ impl Watch {
         };
         // How many of its kind there have been: they are numbered from 1.
         let last = next.saturating_sub(1);
+        // The words for why it isn't there, and the number that stands for their `%`; 0 if they have none.
         let (why, other) = match self.fate {
             Fate::UsedUp(entry) => (": entry % used it up", entry),
             Fate::Returned(entry) => (": it has returned at entry %", entry),

@@ -33,7 +33,7 @@ pub(crate) fn named_by(entry: &Entry) -> Named {
     }
 }
 
-// Whether a node is what is named.
+// Whether a node of this kind is what is named.
 fn is_named(kind: Kind, named: Named) -> bool {
     match (kind, named) {
         (Kind::Leaf(Tip::Token(mark, _, _)), Named::Token(token)) => mark == token,
@@ -47,7 +47,7 @@ fn is_named(kind: Kind, named: Named) -> bool {
     }
 }
 
-/// Whether the node at a place is what is named.
+/// Whether the node with the number `place` is what is named.
 pub(crate) fn stands_at(marked: &Marked, place: usize, named: Named) -> bool {
     match marked.nodes().get(place) {
         Some(slot) => is_named(slot.node().kind, named),

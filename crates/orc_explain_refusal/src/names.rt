@@ -33,8 +33,8 @@ impl Drop for Names<'_, '_> {
     }
 }
 
-// The variable of each cell below the number `next`: the first scope that has the cell is the one in which its pruning was opened. None for a cell
-// that no scope has, and for cell 0. The error is refused memory.
+// The variable of each cell below the number `next`, that of the next cell. The first scope that binds a name to the cell was made when its pruning
+// was opened, so that name is the cell's variable. None for a cell that no scope has, and for cell 0. The error is refused memory.
 fn cells_of(
     alloc: Global,
     scopes: &[StoredScope],
@@ -78,14 +78,14 @@ impl<'r, 's> Names<'r, 's> {
         (name as usize).checked_sub(self.variables.len())
     }
 
-    /// Writes the name of a variable of the source; nothing for one that the scope check made.
+    /// Writes the name of the variable with this number; nothing if the scope check made the variable for an argument.
     pub(crate) fn say_variable(&self, page: &mut Page, name: u32) {
         if let Some(text) = self.variables.get(name as usize) {
             page.word(text);
         }
     }
 
-    /// Writes a cell as `x#1`: its variable, nothing where that is no variable of the source, and its number.
+    /// Writes a cell as `x#1`: its variable and its number. Nothing stands before the `#` if that is no variable of the source.
     pub(crate) fn say_cell(&self, page: &mut Page, cell: u64) {
         if let Some(Some(name)) = self.cells.get(cell as usize) {
             self.say_variable(page, *name);

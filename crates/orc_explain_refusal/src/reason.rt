@@ -19,7 +19,9 @@ use std::alloc::Global;
 /// An entry that is refused, with its line, what was before it, and what is allowed there.
 #[derive(Clone, Copy)]
 pub(crate) struct Refused<'r> {
+    /// The program that was run.
     pub program: &'r Program,
+    /// The table of sites, which says what calls are answered.
     pub answers: &'r Answers,
     /// The run up to the entry.
     pub replay: &'r Replay,
@@ -34,7 +36,8 @@ pub(crate) struct Refused<'r> {
 }
 
 impl Refused<'_> {
-    // Shows the entry with carets under a word of its line, or under the whole line where `word` is None. What is said next stands behind the carets.
+    // Shows the entry with carets under a word of its line, or under the whole line where `word` is None. Words count from 0: word 0 is the entry's
+    // kind, and word 1 what it names first. What is said next stands behind the carets.
     fn show(&self, page: &mut Page, word: Option<usize>) {
         let part = match word {
             Some(number) => part_at(self.line, b' ', number),
@@ -97,7 +100,7 @@ impl Refused<'_> {
         }
     }
 
-    // The token can't make this entry: says which entry it can make, or that it waits.
+    // The token that the entry names can't make this entry: says which entry the token can make, or that it waits.
     fn say_form(&self, page: &mut Page, alloc: Global, entry: &Entry) {
         // An entry that names no token gets mark 0, which no token has.
         let mark = mark_named(entry).unwrap_or(0);
@@ -124,6 +127,7 @@ impl Refused<'_> {
         let mut cells: u64 = 0;
         for place in 0..MOST_ARGUMENTS {
             if marked.awaited(self.program, mark, place).is_some() {
+                // The argument at this place is a cell without a value.
                 cells = cells.saturating_add(1);
             }
         }
@@ -198,7 +202,7 @@ impl Refused<'_> {
         }
     }
 
-    // Says when the call is due, where a return comes at another time; or what is wrong with a tick.
+    // The entry comes at a wrong time. Of a return this says when its call is due, and of a tick what is wrong with it.
     fn say_time(&self, page: &mut Page, entry: &Entry) {
         self.show(page, Some(1));
         let (Entry::Return(call, _, _) | Entry::ReturnHalt(call)) = entry else {
@@ -206,6 +210,7 @@ impl Refused<'_> {
             return;
         };
         let call = Fill::Number(*call);
+        // `at` is the time at which the call was made.
         let due = match self.returned(entry) {
             Some((found, at)) => due_time(found, at),
             None => None,

@@ -19,7 +19,7 @@ use orc_syntax::{Ast, parse};
 use orc_verdict::{Allowed, CheckFault};
 use std::alloc::{AllocError, Global};
 
-/// A refused journal, and the program and the table that it is checked against.
+/// A refused journal, and the program and the table of sites that it is checked against. `ast` is the program's tree, which has the names.
 struct Case<'s> {
     ast: Ast<'s>,
     program: Program,
@@ -41,6 +41,7 @@ impl Drop for Case<'_> {
 
 // The program of a tree. The tree was checked before without a fault, so the error is refused memory.
 fn program_of(alloc: Global, ast: &Ast, answers: &Answers) -> Result<Program, AllocError> {
+    // The check has to know the names of all sites.
     let names = answers.names(alloc)?;
     match orc_scope::check(alloc, ast, names.as_slice()) {
         Ok(program) => Ok(program),
@@ -84,6 +85,7 @@ impl<'s> Case<'s> {
         why: RuleFault,
     ) -> Result<(), AllocError> {
         let mut replay = Replay::new(alloc, &self.program, &self.answers, &self.journal, place)?;
+        // Looks for all entries that could come here instead. The term is lent for that, and stays the same.
         let allowed = Allowed::new(alloc, &mut replay.marked, &self.program, &self.answers)?;
         let number = line_number(place);
         // The entry's line has the greatest number that is shown, so the left margin is made as wide as that. Entry N is in line N + 1.
@@ -127,7 +129,8 @@ impl<'s> Case<'s> {
         Ok(())
     }
 
-    // Writes the term before the entry, and below it its marks. The error is refused memory.
+    // Writes the term before the entry, and below it its marks. `entry` is None where a cancel is due behind the last entry. The error is refused
+    // memory.
     fn say_term(
         &self,
         page: &mut Page,

@@ -66,7 +66,8 @@ impl Replay {
         Ok(replay)
     }
 
-    // Applies the entry at a place, and notes what it does to what is watched.
+    // Applies the entry at place `at`, from 0, and notes what it does to what is watched. The checker has taken the entry before, so the error is
+    // refused memory.
     fn apply(
         &mut self,
         program: &Program,
@@ -80,6 +81,7 @@ impl Replay {
         if let Entry::Call(_, _, _, _) = entry {
             self.calls.push(at)?;
         }
+        // Explanations count entries from 1.
         let number = (at as u64).saturating_add(1);
         self.first.note(&self.marked, entry, number);
         self.second.note(&self.marked, entry, number);

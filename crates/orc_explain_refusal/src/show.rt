@@ -21,8 +21,9 @@ impl Strip<'_, '_> {
         let text = self.page.as_str().as_bytes();
         let shown = text.get(window.first..window.end).unwrap_or(b"");
         show_line(page, window, ".. ", shown, " ..");
-        // The line below the term.
+        // The line below the term, without the blanks at its end.
         let Ok(rule) = self.rule(alloc, window) else {
+            // Memory was refused, so the page isn't given out.
             page.refuse();
             return;
         };
@@ -49,12 +50,14 @@ impl Strip<'_, '_> {
         }
         for note in &self.notes {
             if note.column >= window.first && note.column < window.end {
+                // A number that has no room is left out.
                 let column = note.column.saturating_sub(window.first);
                 put(&mut signs, alloc, column, "%", note.mark, false)?;
             }
         }
         match self.way.label {
             Some((words, number)) if start < end => {
+                // The words stand right behind the carets, as the last ones of the line.
                 let column = end.saturating_sub(window.first);
                 put(&mut signs, alloc, column, words, number, true)?;
             }

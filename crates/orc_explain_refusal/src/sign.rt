@@ -26,7 +26,8 @@ pub(crate) struct Levels {
 }
 
 impl Sign {
-    /// The levels follow the grammar of sources: `;` 1, `<x<` 2, `|` 3 and `>x>` 4. All but `>x>` group to the left.
+    /// How tightly the sign and its parts have to bind. The levels follow the grammar of sources: `;` 1, `<x<` 2, `|` 3 and `>x>` 4. All but `>x>`
+    /// group to the left, so their right part needs a level more.
     pub(crate) fn levels(self) -> Levels {
         let (own, left, right, bound_left, bound_right) = match self {
             Sign::Other => (1, 1, 2, None, None),

@@ -46,7 +46,7 @@ impl Spent {
         }
     }
 
-    /// Whether the part at a node has halted, and no token stands in it.
+    /// Whether the part at the node with number `place` has halted, and no token stands in it.
     pub(crate) fn is_spent(&self, marked: &Marked, place: usize) -> bool {
         marked.part_has_halted(place) && self.is_held.get(place) == Some(&false)
     }

@@ -46,9 +46,13 @@ pub(crate) struct Stretch {
 
 /// A term that is written from its left to its right, as far as it is shown.
 pub(crate) struct Strip<'r, 's> {
+    /// The program that was run.
     pub program: &'r Program,
+    /// The run up to the refused entry, with the term before that entry.
     pub replay: &'r Replay,
+    /// The refused journal, from which the entries of calls are read.
     pub journal: &'r Journal,
+    /// The names of variables, definitions, sites and cells.
     pub names: &'r Names<'r, 's>,
     /// The way from what the refused entry names up to the whole.
     pub way: &'r Way,
@@ -95,7 +99,8 @@ impl Drop for Strip<'_, '_> {
 }
 
 impl<'r, 's> Strip<'r, 's> {
-    /// Writes the term before an entry. Where memory is refused, its page says so.
+    /// Writes the term to which `replay` was brought, the one before the refused entry. `way` leads up from what that entry names. Where memory is
+    /// refused, the strip's page says so.
     pub(crate) fn new(
         alloc: Global,
         program: &'r Program,
@@ -159,11 +164,13 @@ impl<'r, 's> Strip<'r, 's> {
                     is_long,
                 };
                 if self.parts.push(part).is_err() {
+                    // Memory was refused, so the page isn't given out.
                     self.page.refuse();
                 }
             }
             Task::Close => self.close(is_long),
             Task::Bind(name) => {
+                // From here on this name is written as a variable.
                 if self.bound.push(name).is_err() {
                     self.page.refuse();
                 }
@@ -176,6 +183,7 @@ impl<'r, 's> Strip<'r, 's> {
             Task::Node(at, level) => self.node(at, level),
             Task::Way(at, level) => self.way_node(at, level),
             Task::Source(node, scope, level) => {
+                // The node counts in the innermost part, since it takes a column at least.
                 if let Some(part) = self.parts.last_mut() {
                     part.seen = part.seen.saturating_add(1);
                 }
@@ -191,14 +199,14 @@ impl<'r, 's> Strip<'r, 's> {
         }
     }
 
-    /// Puts a task on the stack: it is done next, unless others are put on it.
+    /// Puts a task on the stack: it is done next, unless others are put on it. Where memory is refused, the page isn't given out.
     pub(crate) fn push(&mut self, task: Task) {
         if self.tasks.push(task).is_err() {
             self.page.refuse();
         }
     }
 
-    // Ends the innermost part. If it has become long (`is_long`), it is taken back, with the notes in it, and `..` is written.
+    // Ends the innermost part. If it has become long (`is_long`), what was written of it is taken back, with the notes in it, and `..` is written.
     fn close(&mut self, is_long: bool) {
         // Each `Close` has its `Open`, so a part is there.
         let Some(part) = self.parts.pop() else {
@@ -248,7 +256,7 @@ impl<'r, 's> Strip<'r, 's> {
         }
     }
 
-    // Puts the tasks of a side on the stack. If a name is given, the sign binds it in this side.
+    // Puts the tasks of a side on the stack, what comes last first. If a name is given, the operation's sign binds it in this side.
     fn push_side(&mut self, side: Side, name: Option<u32>) {
         if side.is_part {
             self.push(Task::Close);

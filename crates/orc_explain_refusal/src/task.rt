@@ -9,7 +9,7 @@ use orc_rules::param::Operand;
 pub(crate) enum Task {
     /// The node of the marked term with this number; its level.
     Node(usize, usize),
-    /// The node at this place of the way, where the named one is at 0; its level.
+    /// The node at this place of the way, which leads up from the node that the refused entry names, at place 0; its level.
     Way(usize, usize),
     /// The node of the program with this number, in a scope; its level.
     Source(usize, usize, usize),
@@ -23,7 +23,7 @@ pub(crate) enum Task {
     Open,
     /// That part ends.
     Close,
-    /// What the refused entry names ends here; it began in this column.
+    /// What the refused entry names ends here; it began in this column of the line, from 0.
     Underline(usize),
     /// Here begins a part in which a sign of the term binds this name: it is written as a variable there, and not looked up in a scope.
     Bind(u32),

@@ -22,7 +22,7 @@ struct Called {
 }
 
 impl<'r, 's> Strip<'r, 's> {
-    /// Writes the node at a place of the way: the named one, at 0, or one above it.
+    /// Writes the node at place `at` of the way, from the named node, at 0, upwards. `wanted` is how tightly it has to bind to need no brackets.
     pub(crate) fn way_node(&mut self, at: usize, wanted: usize) {
         if let Some(node) = self.way.node(at) {
             if at == 0 {
@@ -31,11 +31,13 @@ impl<'r, 's> Strip<'r, 's> {
                 self.most = start.saturating_add(AHEAD);
                 self.push(Task::Underline(start));
             }
+            // The part of this node that is on the way is one place lower. The named node has no such part.
             self.parts_of(node, wanted, at.checked_sub(1));
         }
     }
 
-    /// Writes a node off the way. A part that has halted, and in which no token stands, is `stop`.
+    /// Writes the node with number `at`, which is off the way. A part that has halted, and in which no token stands, is `stop`. `wanted` is how
+    /// tightly the node has to bind to need no brackets.
     pub(crate) fn node(&mut self, at: usize, wanted: usize) {
         if self.spent.is_spent(&self.replay.marked, at) {
             self.page.say("stop");
@@ -52,8 +54,8 @@ impl<'r, 's> Strip<'r, 's> {
         }
     }
 
-    // The task for a part of a node, to be written at this level. `below` is the place on the way of that node's own part; None for a node off the
-    // way, and for the named one, whose parts are off it.
+    // The task for a part of a node, to be written at this level, and whether the part becomes `..` where it is long. `below` is the place on the way
+    // of that node's own part; None for a node off the way, and for the named one, whose parts are off it.
     fn part(&self, part: u32, level: usize, below: Option<usize>) -> Side {
         match below {
             Some(place) if self.is_on_way(part, below) => Side {
@@ -67,7 +69,8 @@ impl<'r, 's> Strip<'r, 's> {
         }
     }
 
-    // Puts the tasks for the parts of a node on the stack, or writes it if it has none. `below` is as in `part`.
+    // Puts the tasks for the parts of the node with number `at` on the stack, or writes the node if it has none. `below` is the place on the way of
+    // that node's own part; None for a node off the way, and for the named one.
     fn parts_of(&mut self, at: usize, wanted: usize, below: Option<usize>) {
         let kind = match self.replay.marked.nodes().get(at) {
             Some(slot) => slot.node().kind,
@@ -107,21 +110,23 @@ impl<'r, 's> Strip<'r, 's> {
         self.push_joined(sign, wanted, left, right);
     }
 
-    // Whether a side of a `|` is left out: it has halted, and isn't on the way.
+    // Whether `part`, a side of a `|`, is left out: it has halted, no token stands in it, and it isn't on the way.
     fn is_left_out(&self, part: u32, below: Option<usize>) -> bool {
         !self.is_on_way(part, below) && self.spent.is_spent(&self.replay.marked, part as usize)
     }
 
-    // Writes a node without parts. The number of a token's mark is noted for the line below.
+    // Writes a node of the marked term without parts. The number of a token's mark is noted for the line below.
     fn tip(&mut self, tip: Tip, wanted: usize) {
         if let Tip::Token(mark, _, _) | Tip::Bears(mark, _) = tip {
             let column = self.page.len();
             if self.notes.push(Note { column, mark }).is_err() {
+                // Memory was refused, so the page isn't given out.
                 self.page.refuse();
             }
         }
         match tip {
             Tip::Gone | Tip::Ended => self.page.say("stop"),
+            // What the token still has to do: the node of the program on which it stands.
             Tip::Token(_, node, scope) => {
                 self.push(Task::Source(node as usize, scope as usize, wanted));
             }
@@ -137,7 +142,8 @@ impl<'r, 's> Strip<'r, 's> {
         }
     }
 
-    /// Writes a node of the program in a scope, or puts the tasks for its parts on the stack.
+    /// Writes a node of the program in a scope, or puts the tasks for its parts on the stack. `wanted` is how tightly the node has to bind to need no
+    /// brackets.
     pub(crate) fn source(&mut self, node: usize, scope: usize, wanted: usize) {
         if let Some(called) = self.called(node) {
             self.call(called, scope);
@@ -166,9 +172,9 @@ impl<'r, 's> Strip<'r, 's> {
         self.push_joined(sign, wanted, left, right);
     }
 
-    // The call that a node was in the source, where its arguments were no prunings yet: a call, or one with the prunings of its arguments round it.
-    // The first argument's is the innermost, so their places fall from the outside in (`room`), and each has the variable that stands at its place in
-    // the call. None where the node is anything else.
+    // The call that a node was in the source. The scope check writes a call with expressions as arguments, as `f(g, h)`, as `f(x, y) <x< g <y< h`,
+    // where x and y are variables that the check has made. The first argument's pruning is the innermost, so the places fall from the outside in, and
+    // `room` is the last one that was found. None where the node is no call, with or without such prunings.
     fn called(&self, node: usize) -> Option<Called> {
         let mut given = [None; MOST_ARGUMENTS];
         let mut at = node;
@@ -205,7 +211,7 @@ impl<'r, 's> Strip<'r, 's> {
         None
     }
 
-    // Puts the tasks for a call's arguments on the stack, the last one first, and writes its name.
+    // Writes the name of a call and its `(`, and puts the tasks for its arguments and the `)` on the stack, what comes last first.
     fn call(&mut self, called: Called, scope: usize) {
         let (name, list) = match called.node {
             TermNode::Site(site, list) => (self.names.site(site), list),

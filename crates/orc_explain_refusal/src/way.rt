@@ -21,7 +21,7 @@ pub(crate) struct Way {
     pub is_inner: bool,
 }
 
-// The node of the side of which a `lost` or a `right` says that it has halted. None for other entries, or where there is no such side.
+// The number of the node of the side of which a `lost` or a `right` says that it has halted. None for other entries, or where there is no such side.
 fn side_of(marked: &Marked, entry: &Entry) -> Option<usize> {
     let named = match entry {
         Entry::Lost(cell) => Named::Cell(*cell),
@@ -82,7 +82,7 @@ impl Way {
         Ok(way)
     }
 
-    // Notes the nodes from `from` up to the whole, node 0, or to the highest level that is shown. The error is refused memory.
+    // Notes the numbers of the nodes from node `from` up to the whole, node 0, or to the highest level that is shown. The error is refused memory.
     fn climb(&mut self, marked: &Marked, spent: &Spent, from: usize) -> Result<(), AllocError> {
         let mut place = from;
         let mut levels: usize = 0;
@@ -101,6 +101,7 @@ impl Way {
                 return Ok(());
             };
             if !is_silent(marked, spent, above.node(), place) {
+                // The node above would be one level too many: what is shown ends below it.
                 if levels == LEVELS {
                     self.is_inner = true;
                     return Ok(());

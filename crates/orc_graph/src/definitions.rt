@@ -60,8 +60,8 @@ impl Definitions {
         }
     }
 
-    /// Adds a definition at the end: its parameters and the node of its body. `Memory` where memory is refused or a number takes more than 32 bits;
-    /// then there is no new definition, though its parameters may be in `names`.
+    /// Adds a definition at the end: its parameters, as numbers of names, and the number of its body's node. `Memory` where memory is refused or a
+    /// number takes more than 32 bits; then there is no new definition, though its parameters may be in `names`.
     pub(crate) fn push(&mut self, params: &[u32], body: usize) -> Result<(), GraphFault>
         ensures { OnOk result (self.new ≡ self.old ++ record { params = params.now; body = body } ∷ []) }
     {

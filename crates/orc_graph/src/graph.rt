@@ -90,7 +90,7 @@ fn short_nodes(alloc: Global, program: &Program) -> Result<Vec<Node>, GraphFault
     Ok(nodes)
 }
 
-// The lists of operands of a program's calls, in their order. `Memory` as in `short_nodes`.
+// The lists of operands of a program's calls, in their order. `Memory` if memory is refused or a number takes more than 32 bits.
 fn lists_of(alloc: Global, program: &Program) -> Result<Lists, GraphFault>
     ensures { IfOk result (λ lists. lists ≡ program.now.lists) }
 {
@@ -101,7 +101,7 @@ fn lists_of(alloc: Global, program: &Program) -> Result<Lists, GraphFault>
     Ok(lists)
 }
 
-// The definitions of a program, in their order. `Memory` as in `short_nodes`.
+// The definitions of a program, in their order. `Memory` if memory is refused or a number takes more than 32 bits.
 fn definitions_of(alloc: Global, program: &Program) -> Result<Definitions, GraphFault>
     ensures { IfOk result (λ definitions. definitions ≡ program.now.routines) }
 {
@@ -112,7 +112,7 @@ fn definitions_of(alloc: Global, program: &Program) -> Result<Definitions, Graph
     Ok(definitions)
 }
 
-// Values as the operands of a call.
+// Values as the operands of a call; at most `MOST_ARGUMENTS` of them.
 fn operands_of(values: &[Value]) -> Operands
     requires { length values.now ≤ MOST_ARGUMENTS }
     ensures { result ≡ map operand_is values.now }
@@ -124,7 +124,7 @@ fn operands_of(values: &[Value]) -> Operands
     operands
 }
 
-// Whether a call's list of operands is there, if the graph has `lists` lists. True for a node that is no call.
+// Whether the list of operands that a call names is there, if the graph has `lists` lists. True for a node that is no call.
 fn has_list(node: Node, lists: usize) -> bool
     ensures { result ≡ true → HasList lists (term_node node) }
 {
@@ -141,6 +141,7 @@ impl Graph {
         ensures same { IfOk result (λ graph. graph ≡ program.now) }
         ensures why { IfErr result (λ fault. fault ≡ GraphFault.Memory) }
     {
+        // The number of the main term's node.
         let root = short(program.source())?;
         // For the prover alone, nothing runs: each node of a program stands behind its parts. The graph's invariant says the same.
         program.are_parts_first();
@@ -168,9 +169,10 @@ impl Graph {
         true
     }
 
-    /// A copy of the graph whose main term is the call of that definition with these values: one node and one list more, behind the others. `Memory`
-    /// is the only fault: memory was refused, or a number would take more than 32 bits. `Memory` is also the answer for a graph in which a node
-    /// names a missing list, or a definition a missing body, since the new list or node would take that number. No checked program has such a graph.
+    /// A copy of the graph whose main term is the call of the definition with the number `definition`, from 0, with the values `args`,
+    /// `MOST_ARGUMENTS` at most: one node and one list more, behind the others. `Memory` is the only fault: memory was refused, or a number would
+    /// take more than 32 bits. `Memory` is also the answer for a graph in which a node names a missing list, or a definition a missing body, since
+    /// the new list or node would take that number. No checked program has such a graph.
     pub fn for_call(
         &self,
         alloc: Global,

@@ -68,8 +68,8 @@ impl Lists {
         self.ranges.len()
     }
 
-    /// Adds a list at the end. `Memory` where memory is refused or there are more operands than 32 bits count; then there is no new list, though its
-    /// operands may be in `operands`.
+    /// Adds a list of at most `MOST_ARGUMENTS` operands at the end. `Memory` where memory is refused or there are more operands than 32 bits count;
+    /// then there is no new list, though its operands may be in `operands`.
     pub(crate) fn push(&mut self, operands: &[Operand]) -> Result<(), GraphFault>
         requires { length operands.now ≤ MOST_ARGUMENTS }
         ensures { OnOk result (self.new ≡ self.old ++ operands.now ∷ []) }

@@ -21,7 +21,7 @@ pub(crate) struct Range {
     pub(crate) end: u32,
 }
 
-/// The same number in 32 bits. `Memory` where it takes more.
+/// The same number in 32 bits. The error is `Memory` where it takes more.
 pub(crate) fn short(number: usize) -> Result<u32, GraphFault>
     ensures { IfOk result (λ short. short ≡ number) }
 {
@@ -41,7 +41,7 @@ pub(crate) fn put<T: Copy + Drop>(items: &mut Vec<T>, item: T) -> Result<(), Gra
     }
 }
 
-/// A copy of the items, with room for `more` of them. The error is refused memory.
+/// A copy of the items, with room for `more` further ones. The error is refused memory.
 pub(crate) fn copied<T: Copy + Drop>(
     alloc: Global,
     items: &[T],
@@ -60,7 +60,8 @@ pub(crate) fn copied<T: Copy + Drop>(
     }
 }
 
-/// Adds a list at the end, and gives where it is. `Memory` where memory is refused or a place takes more than 32 bits; nothing is added then.
+/// Adds the items of `list` at the end of `items`, and gives their range there. `Memory` where memory is refused or a place takes more than 32 bits;
+/// nothing is added then.
 pub(crate) fn place<T: Copy + Drop>(items: &mut Vec<T>, list: &[T]) -> Result<Range, GraphFault>
     ensures start { IfOk result (λ range. range.start ≡ length items.old.items) }
     ensures end { IfOk result (λ range. range.end ≡ length items.old.items + length list.now) }
@@ -76,7 +77,7 @@ pub(crate) fn place<T: Copy + Drop>(items: &mut Vec<T>, list: &[T]) -> Result<Ra
     }
 }
 
-/// The list that a range names.
+/// The items in a range, which has to be within `items`.
 pub(crate) fn part<T: Copy>(items: &[T], range: Range) -> &[T]
     requires order { range.start ≤ range.end }
     requires within { range.end ≤ length items.now }

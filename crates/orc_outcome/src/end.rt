@@ -21,6 +21,7 @@ pub enum End {
 /// What is reported of a run.
 #[derive(Clone, Copy, Debug, PartialEq, Eq)]
 pub struct Summary {
+    /// Why the run ended.
     pub end: End,
     /// How many entries its journal has, cancels counted.
     pub entries: u64,

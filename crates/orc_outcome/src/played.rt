@@ -6,8 +6,9 @@ use orc_rules::value::Value;
 
 /// A run that has ended.
 pub struct Played {
+    /// How the run ended, with its numbers of entries and values and its last time.
     pub summary: Summary,
-    /// What it published, in order.
+    /// The values that the run published, in order.
     pub published: Vec<Value>,
     /// Its journal in the second version, the one that has cancels. None if it wasn't kept.
     pub journal: Option<Journal>,

@@ -11,6 +11,7 @@ use std::alloc::AllocError;
 /// Makes calls that the table of sites answers. They need no memory and wait for nobody.
 #[derive(Drop)]
 pub struct Scripted<'a> {
+    /// The table of the built-in sites and a script's.
     answers: &'a Answers,
 }
 

@@ -33,10 +33,13 @@ pub enum State {
 /// A call that has been made, as a future. A task that polls it before its due time leaves a waker, which wakes the task once that time has come.
 #[derive(Drop)]
 pub struct SiteCall<'a> {
+    /// The table of sites, which says when the call is answered and with what.
     answers: &'a Answers,
+    /// The call: its site, its arguments and the time at which it was made.
     request: Request,
     /// The greatest moment that was handed in.
     moment: u64,
+    /// How far the call has come.
     state: State,
     /// What a pending poll registers with: it stands for the coming of the due time.
     source: Source,
@@ -66,7 +69,7 @@ impl<'a> SiteCall<'a> {
     }
 }
 
-// The answer that the table gives. Of a call that is never answered nobody asks; it would be halt.
+// The answer in what the table has found for a call. Nobody asks it of a call that is never answered; that would be halt.
 fn reply(found: Found) -> Answer
     ensures { result ≡ answer_of found }
 {
@@ -82,7 +85,7 @@ impl SiteCall<'_> {
     ghost use Rattle.orc_site.specs.Call.{IsExact, IsSameCall};
     ghost use Rattle.orc_site.specs.declared.site_call.State.TheVariants.{Fresh as StateFresh};
 
-    // What the table says of this call.
+    // What the table says of this call: its answer and the delay, or never.
     fn find(&self) -> Found
         ensures { result ≡ found self.now.answers.now self.now.request }
     {
@@ -90,7 +93,7 @@ impl SiteCall<'_> {
             .find(self.request.site, &self.request.args, self.request.nth)
     }
 
-    // Looks up when the answer comes.
+    // Asks the table when the call is due, and keeps that as the state.
     fn begin(&mut self)
         ensures same { IsSameCall self.old self.new × (self.new.moment ≡ self.old.moment) }
         ensures begun { ¬ (self.new.state ≡ StateFresh) }
@@ -101,7 +104,7 @@ impl SiteCall<'_> {
         };
     }
 
-    // Answers from the due time on, and registers before it. `begin` has come first.
+    // Answers from the due time on. Before it the task leaves its waker, to be woken when that time comes. `begin` has come first.
     fn advance(&mut self, cx: &mut Context<'_>) -> Poll<Answer>
         requires { ¬ (self.old.state ≡ StateFresh) }
         ensures same { IsSameCall self.old self.new × (self.new.moment ≡ self.old.moment) }
@@ -116,7 +119,7 @@ impl SiteCall<'_> {
                 self.state = State::Done(answer);
                 Poll::Ready(answer)
             }
-            // Not due yet, or never. `Fresh` doesn't come: `begin` has ended it.
+            // Not due yet, or never: `register` keeps the task's waker in `self.waker`. `Fresh` doesn't come: `begin` has ended it.
             State::Fresh | State::Waiting(_) | State::Never => {
                 cx.register(&self.source, &mut self.waker)
             }
@@ -166,7 +169,7 @@ impl SiteFuture for SiteCall<'_> {
 
     ghost early = { λ call answer is. is.0 };
 
-    // From the due time on the waker is dropped, which wakes its task.
+    // If `now` is the due time or later, the waker is dropped, which wakes its task.
     fn at(&mut self, now: u64)
         ensures moment { self.new.moment ≡ max self.old.moment now }
         ensures when { due_of self.new ≡ due_of self.old }

@@ -24,11 +24,11 @@ pub trait SiteFuture: Future<Output = Answer> {
         ensures moment { moment self.new ≡ max (moment self.old) now }
         ensures when { when self.new ≡ when self.old };
 
-    /// When it is answered. Whenever it is asked, it says the same.
+    /// When the call is answered, in logical time. It says the same whenever it is asked.
     fn due(&self) -> Due
         ensures { result ≡ when self.now };
 
-    // It may be polled at any time.
+    // The call may be polled at any time.
     ghost always: { (call : Self) → Self.can_poll call };
 
     // Where the call may answer, it is due.
@@ -37,6 +37,7 @@ pub trait SiteFuture: Future<Output = Answer> {
 
 /// Makes the calls of a program. Several workers may ask it at the same time.
 pub trait Sites {
+    /// A call that is under way.
     type Call: SiteFuture;
 
     // What a caller may know of sites: that they go by the table, so that `goes_by_table` answers true. By default nothing is known.

@@ -26,6 +26,7 @@ impl Gate for Slow {
 /// Holds each call until `wanted` calls are in the gate, so that `wanted` workers have to make a call at the same time.
 #[derive(Drop)]
 pub struct Turnstile {
+    // How many calls have to come before the gate lets one go on.
     wanted: u64,
     // How many calls have come to the gate.
     entered: AtomicU64,
@@ -57,6 +58,7 @@ impl Gate for Turnstile {
                 return;
             }
         }
+        // Too few calls have come: this one gives up, and goes on.
         self.ran_out.fetch_add(1, Ordering::SeqCst);
     }
 
@@ -68,7 +70,9 @@ impl Gate for Turnstile {
 /// Sites that answer by the table; each call of `Ask` sleeps first, on the worker that makes it.
 #[derive(Drop)]
 pub struct Sleepy<'a, R: Clock> {
+    // The runtime, in which calls sleep.
     rt: &'a R,
+    // What answers all calls.
     scripted: Scripted<'a>,
     // The number of the site `Ask`. None if the table has no such site: then no call sleeps.
     site: Option<u32>,

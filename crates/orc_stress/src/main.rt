@@ -30,7 +30,7 @@ const ROUNDS: u32 = 3;
 /// The status of a command line whose first word is neither a number of rounds nor a program's name.
 const UNKNOWN: u8 = 2;
 
-// Whether a run ended as it has to, and its journal is accepted.
+// Whether a run of this program (`storm`) ended as it has to, and the check accepts its journal. False if the engine gave a fault instead of a run.
 fn is_right(alloc: Global, storm: &Storm, played: Result<Played, EngineFault>) -> bool {
     match played {
         Ok(played) => storm.is_right(&played) && storm.is_accepted(alloc, &played),
@@ -38,7 +38,7 @@ fn is_right(alloc: Global, storm: &Storm, played: Result<Played, EngineFault>) -
     }
 }
 
-// A run with sites that answer as the table says. The error is the engine's.
+// Runs a program on `workers` workers, with sites that answer as the table says. The error is the engine's.
 fn run_scripted<R: Threads + Wait + Sync, G: Gate + Sync>(
     rt: &R,
     alloc: Global,
@@ -50,8 +50,8 @@ fn run_scripted<R: Threads + Wait + Sync, G: Gate + Sync>(
     run(rt, alloc, loaded, &sites, gate, workers)
 }
 
-// How many of `rounds` runs of a program on `workers` workers are odd; all if the program can't be loaded. `Slow` holds no call: it makes the workers
-// hold the tokens.
+// How many of `rounds` runs of a program on `workers` workers are odd; all if the program can't be loaded. The gate `Slow` holds no call, but doesn't
+// say so: then the engine asks it for each call, and runs the program on its workers.
 fn count_odd<R: Threads + Wait + Sync>(
     rt: &R,
     alloc: Global,
@@ -95,7 +95,8 @@ fn count_held<R: Threads + Wait + Sync>(
     odd
 }
 
-// Runs every program `rounds` times on each number of workers, and writes how many of the runs are odd.
+// Runs every program of `STORMS` `rounds` times on each number of workers, and writes how many of the runs are odd: ended otherwise than they have
+// to, or left a journal that the check doesn't accept.
 fn run_all<R: Threads + Wait + Sync + Print>(rt: &R, alloc: Global, rounds: u32) -> io::Result<()> {
     for storm in &STORMS {
         for workers in [2, 4, 16] {
@@ -129,7 +130,8 @@ fn run_all<R: Threads + Wait + Sync + Print>(rt: &R, alloc: Global, rounds: u32)
     Ok(())
 }
 
-// Writes how a run ended, and whether the check accepts its journal. It checks twice, since `checks/memory` may refuse memory for the first check.
+// Writes how a run of this program (`storm`) ended, whether it ended as it has to, and whether the check accepts its journal. It checks twice, since
+// `checks/memory` may refuse memory for the first check.
 fn tell<R: Print>(
     rt: &R,
     alloc: Global,
@@ -188,7 +190,7 @@ fn run_one<R: Threads + Wait + Sync + Print + Clock>(
     Ok(())
 }
 
-// The program with this name among all that there are. None if it has another name.
+// The program with this name, of those in `STORMS` and `ALONE`. None if no program has this name.
 fn storm_named(name: &str) -> Option<Storm> {
     for storm in &STORMS {
         if storm.name == name {
@@ -203,7 +205,7 @@ fn storm_named(name: &str) -> Option<Storm> {
     None
 }
 
-// Writes that a word names no program, and which names there are.
+// Writes to standard error that `word` is no number and names no program, and which names there are.
 fn tell_names<R: Eprint>(rt: &R, alloc: Global, word: &str) -> io::Result<()> {
     let mut names = String::new(alloc);
     for storm in &STORMS {
@@ -228,11 +230,13 @@ fn number_of(words: &[String], place: usize, otherwise: u32) -> u32 {
 fn main(rt: HostRuntime) -> io::Result<ExitCode> {
     let alloc = rt.alloc();
     let words = env::args(&rt)?.collect::<Vec<String>>(alloc)?;
+    // Word 0 is the program's own name. Word 1 is the name of a program to run, or a number of rounds.
     let Some(word) = words.get(1) else {
         run_all(&rt, alloc, ROUNDS)?;
         return Ok(ExitCode::SUCCESS);
     };
     if let Some(storm) = storm_named(word.as_str()) {
+        // Word 2 is the number of workers, and word 3 how often to run; each is 1 if it is missing or no number.
         let workers = number_of(words.as_slice(), 2, 1) as usize;
         let rounds = number_of(words.as_slice(), 3, 1);
         run_one(&rt, alloc, &storm, workers, rounds)?;

@@ -16,8 +16,11 @@ const SCRIPT: &[u8] = b"Never() = never\nSlow() = 1 after 3\nAsk() = 1\n";
 /// A program, and how its runs have to end.
 #[derive(Clone, Copy)]
 pub struct Storm {
+    /// The name by which the command line and the output call it.
     pub name: &'static str,
+    /// The text of the program.
     pub source: &'static [u8],
+    /// How each run has to end.
     pub end: End,
     /// How many values a run publishes.
     pub published: u64,
@@ -35,7 +38,7 @@ pub const STORMS: [Storm; 8] = [
         published: 64,
         values: &[1],
     },
-    // The same tree, whose leaves wait three units.
+    // The same tree, whose leaves call `Slow`: each publishes its answer, 1, after three units of logical time.
     Storm {
         name: "late",
         source: b"def tree(n) = Lt(0, n) >b> (Iff(b) >> Slow() | Ift(b) >> Add(n, -1) >m> (tree(m) | tree(m)))\ntree(6)",
@@ -44,6 +47,7 @@ pub const STORMS: [Storm; 8] = [
         values: &[1],
     },
     // Two loops of races, one of 50 rounds and one of 30: in each round `n` wins at once, and the bind cancels the calls beside it that were made.
+    // Each loop publishes 50 when it ends.
     Storm {
         name: "race",
         source: b"def loop(n) = Lt(n, 50) >b> (Iff(b) >> n | Ift(b) >> (x <x< (n | Never() | Slow())) >> Add(n, 1) >m> loop(m))\nloop(0) | loop(20)",
@@ -51,7 +55,8 @@ pub const STORMS: [Storm; 8] = [
         published: 2,
         values: &[50],
     },
-    // Two loops of fallbacks, with a race of two late calls in each round; and a call without an answer, so that the run is quiet in the end.
+    // Two loops of fallbacks, with a race of two late calls in each round; each loop publishes 30 when it ends. Beside them is a call without an
+    // answer, so that the run is quiet in the end.
     Storm {
         name: "mixed",
         source: b"def mix(n) = Lt(n, 30) >b> (Iff(b) >> n | Ift(b) >> ((Ift(false) ; (x <x< (Slow() | Slow()))) ; stop) >> Add(n, 1) >m> mix(m))\nmix(0) | mix(9) | Never()",
@@ -59,7 +64,8 @@ pub const STORMS: [Storm; 8] = [
         published: 2,
         values: &[30],
     },
-    // Two calls that open one left side of an otherwise inside the other until no more groups may be open.
+    // Two calls of `f`, each of which goes on to open one left side of a `;` inside the other. Each such side is a group, and `MOST_GROUPS` groups
+    // may be open: so the run ends as full, before it publishes a value.
     Storm {
         name: "deep",
         source: b"def f() = Add(1, 1) >> (f() ; 1)\nf() | f()",
@@ -67,7 +73,7 @@ pub const STORMS: [Storm; 8] = [
         published: 0,
         values: &[],
     },
-    // The earlier of two answers wins.
+    // The earlier of two answers wins: 10, at time 1.
     Storm {
         name: "first",
         source: b"x <x< (Rwait(2) >> 20 | Rwait(1) >> 10)",
@@ -75,7 +81,7 @@ pub const STORMS: [Storm; 8] = [
         published: 1,
         values: &[10],
     },
-    // Either answer wins.
+    // Two calls that are due at once: either answer may win.
     Storm {
         name: "either",
         source: b"x <x< (Add(0, 1) | Add(0, 2))",
@@ -83,8 +89,9 @@ pub const STORMS: [Storm; 8] = [
         published: 1,
         values: &[1, 2],
     },
-    // More races one after another, 2,100, than there are words of groups, 2,048: a killed group's word has to become free again. The races are in
-    // three loops, since the term may get deeper with each round of a loop, and the check takes 10,000 levels.
+    // More races one after another, 2,100, than the engine has words for groups, 2,048. A bind kills the group of the side that it drops, and that
+    // group's word has to become free again. The last loop publishes 700. The races are in three loops, since the term may get deeper with each round
+    // of a loop, and the check takes 10,000 levels.
     Storm {
         name: "kills",
         source: b"def loop(n) = Lt(n, 700) >b> (Iff(b) >> n | Ift(b) >> (x <x< (n | Never() | Rwait(5))) >> Add(n, 1) >m> loop(m))\nloop(0) >> loop(0) >> loop(0)",
@@ -136,12 +143,12 @@ impl Storm {
         }
     }
 
-    /// The program, ready to be run.
+    /// The program with the script of all storms, ready to be run. The error is refused memory, since the texts are right.
     pub fn load(&self, alloc: Global) -> Result<Loaded, LoadFault> {
         orc_load::load(alloc, self.source, SCRIPT)
     }
 
-    // Whether a run may publish this value.
+    // Whether a run may publish this value: one of the numbers in `values`, or any value if that list is empty.
     fn may_publish(&self, value: &Value) -> bool {
         match value {
             Value::Number(number) => self.values.is_empty() || self.values.contains(number),
@@ -149,7 +156,7 @@ impl Storm {
         }
     }
 
-    /// Whether a run ended as it has to.
+    /// Whether a run ended as it has to: in the right way, with so many values, and each one a value that it may publish.
     pub fn is_right(&self, played: &Played) -> bool {
         played.summary.end == self.end
             && played.summary.published == self.published

@@ -11,9 +11,9 @@ pub struct Numbering {
     pub token: u64,
     /// The next mark of the enclosing run, at least 2: the part's mark 2.
     pub mark: u64,
-    /// How many calls were made before.
+    /// How many calls the enclosing run made before the part.
     pub calls: u64,
-    /// How many cells were opened before.
+    /// How many cells the enclosing run opened before the part.
     pub cells: u64,
 }
 

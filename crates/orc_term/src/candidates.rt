@@ -39,7 +39,7 @@ pub fn is_side(kind: Kind, part: usize) -> bool
     }
 }
 
-/// Whether the part at a place is a side.
+/// Whether the node at a place is a side of its parent.
 pub(crate) fn is_side_at(nodes: &Nodes, place: usize) -> bool
     ensures { result ≡ is_side_at nodes.now.items place }
 {
@@ -47,7 +47,7 @@ pub(crate) fn is_side_at(nodes: &Nodes, place: usize) -> bool
     is_side(nodes.node_at(parent as usize).kind, place)
 }
 
-/// Whether a node has a flag that is set; false where there is no node, unlike `flag_at`.
+/// Whether the flag of the node at `place` is set, since the node has halted. False where there is no such node; `flag_at` gives true there.
 fn is_set(flags: &Vec<bool>, place: usize) -> bool
     ensures { result ≡ is_set flags.now.items place }
 {
@@ -57,14 +57,14 @@ fn is_set(flags: &Vec<bool>, place: usize) -> bool
     }
 }
 
-/// Whether the part at a place is a side and has halted.
+/// Whether the node at a place is a side, and has halted by its flag.
 fn has_ended(nodes: &Nodes, flags: &Vec<bool>, place: usize) -> bool
     ensures { result ≡ has_ended nodes.now.items flags.now.items place }
 {
     is_set(flags, place) && is_side_at(nodes, place)
 }
 
-/// The least node that is a side and has halted, looked for among all nodes. None if there is none.
+/// The node with the least number that is a side and has halted, looked for among all nodes. None if there is none.
 fn any_ended(nodes: &Nodes, flags: &Vec<bool>) -> Option<usize>
     ensures { HasEnded nodes.now.items flags.now.items result }
 {
@@ -110,14 +110,14 @@ impl Candidates {
         self.places.push_back_reserved(place);
     }
 
-    /// Whether all places are meant.
+    /// Whether all nodes are candidates, since memory for one was refused.
     fn are_all(&self) -> bool
         ensures { result ≡ self.now.all }
     {
         self.all
     }
 
-    /// The place added first. None if no place is listed.
+    /// The listed place that was added first. None if no place is listed.
     fn first(&self) -> Option<usize>
         ensures { result ≡ slice_get self.now.listed 0 }
     {
@@ -127,7 +127,7 @@ impl Candidates {
         }
     }
 
-    /// Takes out the place added first.
+    /// Takes the place that was added first out of the list.
     fn drop_first(&mut self)
         ensures all { self.new.all ≡ self.old.all }
         ensures rest { (p : ℕ) → slice_get self.old.listed 0 ≡ Some p → self.old.listed ≡ p ∷ self.new.listed }
@@ -136,8 +136,8 @@ impl Candidates {
     }
 }
 
-/// The node of a side that has halted, and None if there is none: of several the one that was added first, or the least where all are candidates.
-/// Candidates before it are taken out; it stays one.
+/// The node of a side that has halted, and None if there is none: of several the one that was added first, or the least where all are candidates. All
+/// sides that have halted have to be candidates. Candidates before the one that is given are taken out; that one stays a candidate.
 pub fn ended_side(nodes: &Nodes, flags: &Vec<bool>, candidates: &mut Candidates) -> Option<usize>
     requires { AreKnown nodes.now.items flags.now.items candidates.old }
     ensures ends { HasEnded nodes.now.items flags.now.items result }
@@ -150,7 +150,7 @@ pub fn ended_side(nodes: &Nodes, flags: &Vec<bool>, candidates: &mut Candidates)
         if has_ended(nodes, flags, place) {
             return Some(place);
         }
-        // It is added again when it halts.
+        // The place isn't a side that has halted. If it becomes one, it is added again.
         candidates.drop_first();
     }
     None

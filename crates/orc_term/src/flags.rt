@@ -11,7 +11,7 @@ use crate::candidates::{Candidates, is_side_at};
 use crate::nodes::Nodes;
 use crate::room::push_within;
 
-/// A node's flag, true where there is none.
+/// Whether node `i` has halted, by its flag. True where there is no such node.
 #[inline(always)]
 pub fn flag_at(flags: &Vec<bool>, i: usize) -> bool
     ensures { result ≡ flag flags.now.items i }
@@ -40,9 +40,9 @@ fn inner_halts(flags: &Vec<bool>, kind: Kind) -> bool
     match kind {
         // A leaf has no part by which it could halt.
         Kind::Leaf(_) => false,
-        // Once its left side has halted, its right side starts in its place.
+        // An entered otherwise doesn't halt with its left side: its right side starts in its place.
         Kind::One(Single::Entered(_, _, _), _) => false,
-        // A `>x>` halts with its left side, and a node that means just its part with that.
+        // A `>x>` halts with its left side, and a `Passed` node, which means just its part, with that part.
         Kind::One(_, part) => flag_at(flags, part as usize),
         Kind::Two(_, left, right) => {
             flag_at(flags, left as usize) && flag_at(flags, right as usize)
@@ -50,14 +50,15 @@ fn inner_halts(flags: &Vec<bool>, kind: Kind) -> bool
     }
 }
 
-/// Whether both parts have halted.
+/// Whether both parts of a node have halted, by their flags `left` and `right`.
 pub fn both(left: bool, right: bool) -> bool
     ensures { result ≡ (left && right) }
 {
     left && right
 }
 
-/// The node above, if its flag isn't set yet and it has halted by the flags of its parts. None if nothing above halts by this.
+/// The node above the one at `place`, which has just halted, if its flag isn't set yet and it has halted by the flags of its parts. None otherwise:
+/// then nothing above halts by this.
 fn halts_next(nodes: &Nodes, flags: &Vec<bool>, place: u32) -> Option<u32>
     ensures next { IfSome result (λ p. HaltsNext nodes.now.items flags.now.items place p) }
     ensures last { IfNone result (EndsAt nodes.now.items flags.now.items place) }
@@ -74,7 +75,8 @@ fn halts_next(nodes: &Nodes, flags: &Vec<bool>, place: u32) -> Option<u32>
     }
 }
 
-/// Adds the flag of a new node. If it is set, the node is a candidate: a side that may have halted.
+/// Adds the flag of the new node with the number `place`. If it is set, the node becomes a candidate: a side that may have halted. There is room for
+/// the flag.
 #[inline(always)]
 pub fn push_flag(flags: &mut Vec<bool>, candidates: &mut Candidates, place: u32, flag: bool)
     requires { vec_len flags.old < vec_capacity flags.old }
@@ -89,7 +91,7 @@ pub fn push_flag(flags: &mut Vec<bool>, candidates: &mut Candidates, place: u32,
     }
 }
 
-/// Sets the flag of a node. If the node is a side, it becomes a candidate.
+/// Sets the flag of the node at `place`, which has halted. If it is a side, it becomes a candidate.
 fn set_flag(nodes: &Nodes, flags: &mut Vec<bool>, candidates: &mut Candidates, place: u32)
     ensures items { flags.new.items ≡ slice_set flags.old.items place true }
     ensures capacity { vec_capacity flags.new ≡ vec_capacity flags.old }

@@ -56,7 +56,7 @@ pub fn item(items: &Vec<Slot>, i: usize) -> Node
     }
 }
 
-// Writes a node that is there; at another number nothing changes.
+// Writes node `i`. Where there is no such node nothing changes.
 #[inline(always)]
 fn set_item(items: &mut Vec<Slot>, i: usize, node: Node)
     ensures items { items.new.items ≡ slice_set items.old.items i node }
@@ -75,6 +75,7 @@ fn lets_through(kind: Kind, part: u32) -> bool
 {
     match kind {
         Kind::Leaf(Tip::Gone) => true,
+        // A `Passed` node means just its part, and `Both` is a `|`.
         Kind::One(Single::Passed, _) => true,
         Kind::Two(Double::Both, _, _) => true,
         // What the right side publishes is bound to the cell.
@@ -84,7 +85,7 @@ fn lets_through(kind: Kind, part: u32) -> bool
     }
 }
 
-// Whether a node has a token, which can move now or later.
+// Whether a node has a token, which can move now or later; `Bears` is a token with the answer of a call.
 fn is_restless(kind: Kind) -> bool
     ensures { result ≡ restless kind }
 {
@@ -94,7 +95,7 @@ fn is_restless(kind: Kind) -> bool
     }
 }
 
-// Takes out of a list the nodes that have no token any more.
+// Takes out of a list of node numbers those whose nodes have no token any more. The list loses its order.
 fn keep_restless(items: &Vec<Slot>, list: &mut Vec<u32>)
     ensures { AreListed items.now.items list.old.items → AreListed items.now.items list.new.items }
 {
@@ -111,6 +112,7 @@ fn keep_restless(items: &Vec<Slot>, list: &mut Vec<u32>)
 
 // Makes room for two more in the list of nodes with tokens. A full list first drops the nodes without one, and grows only if half of its room or more
 // stays taken. So it has room for at most four times the tokens that there are at one time, and half of it is filled between two looks at all of it.
+// The error is refused memory.
 fn reserve_listed(items: &Vec<Slot>, list: &mut Vec<u32>) -> Result<(), AllocError>
     ensures listed { AreListed items.now.items list.old.items → AreListed items.now.items list.new.items }
     ensures room { IfOk result (λ _. vec_len list.new + 2 ≤ vec_capacity list.new) }
@@ -128,7 +130,8 @@ fn reserve_listed(items: &Vec<Slot>, list: &mut Vec<u32>) -> Result<(), AllocErr
     list.try_reserve(len.max(2))
 }
 
-// The hint of node `i`; `i` itself where there is no such node.
+// The hint of node `i`: the node itself, or one above it up to which nothing takes or is changed by what the node publishes. `i` where there is no
+// such node.
 fn hint_at(hints: &Vec<u32>, i: usize) -> usize
     ensures { result ≡ slice_index_or hints.now.items i i }
 {
@@ -138,7 +141,7 @@ fn hint_at(hints: &Vec<u32>, i: usize) -> usize
     }
 }
 
-// `hint_at` in the 32 bits in which a hint is stored.
+// The hint of node `i` in the 32 bits in which it is stored; `i` itself where there is no such node.
 fn stored_hint(hints: &Vec<u32>, i: u32) -> u32
     ensures { result ≡ slice_index_or hints.now.items i i }
 {
@@ -342,6 +345,7 @@ impl Nodes {
     {
         let number = self.items.len() as u32;
         let hint = hint_below(&self.items, &self.hints, number, node.parent);
+        // The rank comes first: `add` asks for the nodes without the new one.
         self.ranks.add(&self.items, node);
         push_within(&mut self.items, Slot::new(node));
         push_within(&mut self.hints, hint);
@@ -357,6 +361,7 @@ impl Nodes {
         ensures items { self.new.items ≡ slice_set self.old.items i node }
         ensures room { self.new.room ≡ self.old.room }
     {
+        // No rank changes. `write` notes whether the ranks still fit the parts of the new node.
         self.ranks.write(&self.items, i, node);
         set_item(&mut self.items, i, node);
     }
@@ -369,6 +374,7 @@ impl Nodes {
         requires node { CanWake self.old.items i node }
         ensures { self.new.items ≡ slice_set self.old.items i node }
     {
+        // No rank changes. `write` notes whether the ranks still fit the parts of the new node.
         self.ranks.write(&self.items, i as usize, node);
         set_item(&mut self.items, i as usize, node);
         push_within(&mut self.restless, i);
@@ -383,6 +389,7 @@ impl Nodes {
         ensures room { self.new.room ≡ self.old.room }
     {
         let node = item(&self.items, i as usize);
+        // Node `i` goes below the `|`.
         set_item(
             &mut self.items,
             i as usize,
@@ -391,6 +398,7 @@ impl Nodes {
                 parent: both,
             },
         );
+        // The node that was above node `i` gets the `|` as its part in place of node `i`.
         let above = item(&self.items, node.parent as usize);
         set_item(
             &mut self.items,
@@ -400,6 +408,7 @@ impl Nodes {
                 parent: above.parent,
             },
         );
+        // The `|` may have no rank between those of its parent and node `i`: then the nodes below it get greater ones.
         self.ranks.lift(&self.items, i as usize, both as usize, node.parent as usize);
     }
 }

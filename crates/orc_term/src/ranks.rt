@@ -62,7 +62,7 @@ fn set_rank(numbers: &mut Vec<u32>, i: usize, rank: u32)
     }
 }
 
-// A rank for a new node. None if it would have over 32 bits.
+// A rank for a new node, greater than that of the node above it. None if it would have over 32 bits.
 #[inline(always)]
 fn rank_below(numbers: &Vec<u32>, node: Node) -> Option<u32>
     ensures { IfSome result (λ r. rank numbers.now.items (NodeOf.parent node) < r) }
@@ -85,7 +85,7 @@ fn stands_apart(items: &Vec<Slot>, number: usize, part: usize) -> bool
     }
 }
 
-// Whether `stands_apart` holds of all parts of node `number`.
+// Whether all parts of node `number`, which is added next and has this kind, stand apart: none is that node or names it as its parent yet.
 #[inline(always)]
 fn stand_apart(items: &Vec<Slot>, number: usize, kind: Kind) -> bool
     ensures { result ≡ true → (i : ℕ) → IsPart kind i → StandsApart items.now.items number i }
@@ -100,7 +100,7 @@ fn stand_apart(items: &Vec<Slot>, number: usize, kind: Kind) -> bool
     }
 }
 
-// Whether a part that names node `above` as its parent has a greater rank.
+// Whether `part`, a part of node `above`, has a greater rank than that node. True also if it doesn't name node `above` as its parent.
 #[inline(always)]
 fn is_ranked_below(items: &Vec<Slot>, numbers: &Vec<u32>, above: usize, part: usize) -> bool
     ensures { result ≡ true → IsRankedBelow items.now.items numbers.now.items above part }
@@ -114,7 +114,7 @@ fn is_ranked_below(items: &Vec<Slot>, numbers: &Vec<u32>, above: usize, part: us
     }
 }
 
-// Whether `is_ranked_below` holds of all parts of node `above`.
+// Whether each part of node `above`, which gets this kind, has a greater rank than that node, if it names that node as its parent.
 #[inline(always)]
 fn are_ranked_below(items: &Vec<Slot>, numbers: &Vec<u32>, above: usize, kind: Kind) -> bool
     ensures { result ≡ true → (i : ℕ) → IsPart kind i → IsRankedBelow items.now.items numbers.now.items above i }
@@ -165,8 +165,8 @@ fn step_to(part: usize, gap: Gap) -> u32
     }
 }
 
-// Adds rank 0 for each of `len` nodes, and the nodes to the list `late`, with node 0 once more as the last one, which is settled first. The error is
-// refused memory.
+// Adds rank 0 for each of `len` nodes, and the numbers of all nodes to the list `late` of those whose parts may need greater ranks. Node 0 is added
+// once more as the last one, which is settled first. The error is refused memory.
 fn push_all(numbers: &mut Vec<u32>, late: &mut Vec<usize>, len: usize) -> Result<(), AllocError>
     ensures len { IfOk result (λ _. numbers.old.items ≡ [] → length numbers.new.items ≡ len) }
     ensures none { IfOk result (λ _. numbers.old.items ≡ [] → (i : ℕ) → rank numbers.new.items i ≡ 0) }
@@ -213,6 +213,7 @@ impl Ranks {
         let were_kept = self.are_kept;
         // Set to true once the node has its rank, so that each early return leaves it false.
         self.are_kept = false;
+        // The new node's number is how many nodes there are before it.
         if !were_kept || !stand_apart(items, items.len(), node.kind) {
             return;
         }
@@ -253,6 +254,7 @@ impl Ranks {
         self.are_kept = false;
         let rank = rank_at(&self.numbers, both);
         if rank_at(&self.numbers, parent) < rank {
+            // The rank of `both` is between those of its parent and node `i`: no rank has to grow.
             if rank < rank_at(&self.numbers, i) {
                 self.are_kept = true;
             } else {
@@ -261,8 +263,8 @@ impl Ranks {
         }
     }
 
-    // Gives greater ranks to the nodes below `both` that need them. Above node `i` it leaves as many ranks free as there are `|` above it: the room
-    // doubles each time, so many sends to one `>x>` seldom come here.
+    // Gives greater ranks to the nodes below `both` that need them. If memory or a rank is refused, the ranks aren't kept any longer. Above node `i`
+    // it leaves as many ranks free as there are `|` above it: the room doubles each time, so many sends to one `>x>` seldom come here.
     fn make_room(&mut self, items: &Vec<Slot>, i: usize, both: usize)
         ensures { AreRankedBut items.now.items self.old.numbers.items self.old.most (both ∷ []) → AreKept items.now.items self.new }
     {
@@ -314,7 +316,8 @@ impl Ranks {
         true
     }
 
-    // Makes the ranks of all parts of node `above` greater than its own. False as `settle_part` says.
+    // Makes the ranks of all parts of node `above`, which has this kind, greater than its own. Parts whose ranks grow are put on the list `late`.
+    // False if memory or a rank is refused, or if the node is a part of itself.
     #[inline(always)]
     fn settle_parts(
         &mut self,
@@ -336,7 +339,8 @@ impl Ranks {
         }
     }
 
-    // Calls `settle_parts` for all nodes of the list `late`, the last one first, and for those that it adds. False as `settle_part` says.
+    // Makes the ranks of the parts of all nodes on the list `late` greater than theirs, the last node first, and so for the parts that this adds to
+    // the list. False if memory or a rank is refused, or if the nodes are no tree.
     fn settle(&mut self, items: &Vec<Slot>, late: Vec<usize>, gap: Gap) -> bool
         ensures { result ≡ true → AreRankedBut items.now.items self.old.numbers.items self.old.most late.items → AreRankedBut items.now.items self.new.numbers.items self.new.most [] }
     {

@@ -5,7 +5,7 @@ ghost use Rattle.std.specs.Prelude.{◌≡◌, ◌∷◌, ◌++◌, [], ◌+◌,
 use crate::nodes::Nodes;
 use std::alloc::AllocError;
 
-/// Adds an item for which room is reserved.
+/// Adds an item at the end, for which room is reserved.
 pub fn push_within<T: Drop>(items: &mut Vec<T>, item: T)
     requires { vec_len items.old < vec_capacity items.old }
     ensures items { items.new.items ≡ items.old.items ++ item ∷ [] }
@@ -42,8 +42,8 @@ pub fn fits(number: usize) -> Result<(), AllocError>
     Ok(())
 }
 
-/// Reserves what `reserve` does, for an entry whose new nodes keep `first` and `second`, numbers of nodes of the program. The error is refused
-/// memory, or a number of over 32 bits.
+/// Reserves memory for two more nodes with their flags and two more marks, for an entry whose new nodes keep `first` and `second`, numbers of nodes
+/// of the program. The error is refused memory, or a number of over 32 bits.
 pub fn reserve_numbered(
     nodes: &mut Nodes,
     flags: &mut Vec<bool>,

@@ -8,7 +8,7 @@ use crate::arena::{Kind, Node, Tip};
 use crate::nodes::Nodes;
 use std::alloc::{AllocError, Global};
 
-/// Adds the parts of a node. The error is refused memory.
+/// Adds the numbers of a node's parts to `found`, the left part first. The error is refused memory.
 fn push_parts(found: &mut Vec<u32>, kind: Kind) -> Result<(), AllocError>
     ensures { OnOk result (found.new.items ≡ found.old.items ++ parts_of kind) }
 {
@@ -23,7 +23,7 @@ fn push_parts(found: &mut Vec<u32>, kind: Kind) -> Result<(), AllocError>
     Ok(())
 }
 
-/// The nodes of the part at `root`: itself, and then those below it. The error is refused memory.
+/// The numbers of the nodes of the part at `root`: that node, and then those below it. The error is refused memory.
 pub fn nodes_of(alloc: Global, nodes: &Nodes, root: u32) -> Result<Vec<u32>, AllocError>
     ensures { IfOk result (λ found. AreNodesOf nodes.now.items root found.items) }
 {
@@ -41,7 +41,7 @@ pub fn nodes_of(alloc: Global, nodes: &Nodes, root: u32) -> Result<Vec<u32>, All
     Err(AllocError)
 }
 
-/// Adds the call that pends at a node, if any. The error is refused memory.
+/// Adds to `calls` the number of the call that pends at a node of this kind, if any. The error is refused memory.
 fn push_call(calls: &mut Vec<u64>, kind: Kind) -> Result<(), AllocError>
     ensures { OnOk result (calls.new.items ≡ calls.old.items ++ call_of kind) }
 {
@@ -51,7 +51,7 @@ fn push_call(calls: &mut Vec<u64>, kind: Kind) -> Result<(), AllocError>
     Ok(())
 }
 
-/// The calls that pend at these nodes. The error is refused memory.
+/// The numbers of the calls that pend at the nodes of the list `side`, in its order. The error is refused memory.
 fn pending_at(alloc: Global, nodes: &Nodes, side: &Vec<u32>) -> Result<Vec<u64>, AllocError>
     ensures { IfOk result (λ calls. calls.items ≡ calls_at nodes.now.items side.now.items) }
 {
@@ -63,7 +63,7 @@ fn pending_at(alloc: Global, nodes: &Nodes, side: &Vec<u32>) -> Result<Vec<u64>,
     Ok(calls)
 }
 
-/// The calls that pend at these nodes, the greatest number first. The error is refused memory.
+/// The numbers of the calls that pend at the nodes of the list `side`, the greatest number first. The error is refused memory.
 pub fn falling_calls(alloc: Global, nodes: &Nodes, side: &Vec<u32>) -> Result<Vec<u64>, AllocError>
     ensures { IfOk result (λ calls. AreRising (calls_at nodes.now.items side.now.items) (reverse calls.items)) }
 {

@@ -6,8 +6,9 @@ use crate::arena::{Double, Kind, Node, Single, Tip};
 use orc_rules::value::Value;
 use std::marker::Model;
 
-// A node in one enum, so that no kind takes more than 24 bytes: first the parent, then the fields that `arena` gives the kind, and last the numbers
-// of the parts. `Number`, `Truth` and `Signal` are `Tip::Bears` with such a value.
+// A node in one enum, so that no kind takes more than 24 bytes: first the parent, then the kind's own fields, and last the numbers of the parts.
+// `Token` has a mark, a node of the program and a scope; `Number`, `Truth` and `Signal`, which are `Tip::Bears`, a mark and a value; `Waits` a call;
+// `Feeds` a name, a node of the program and a scope; `Entered` a mark, a node of the program and a scope; `Side` a cell.
 #[derive(Clone, Copy)]
 enum Flat {
     Gone(u32),

@@ -58,6 +58,7 @@ pub fn way_up(nodes: &Nodes, from: usize) -> Option<Taker>
     let mut place = from;
     // Each step goes up at least one node, so a walk that starts in the term has returned before the loop ends.
     for _steps in 0..nodes.len() {
+        // A hint leads to a node up to which nothing takes the publication or is changed by it.
         place = nodes.hint(place);
         if place == 0 {
             return Some(Taker::Whole);
@@ -66,6 +67,7 @@ pub fn way_up(nodes: &Nodes, from: usize) -> Option<Taker>
         let above = nodes.node_at(parent as usize).kind;
         match taker_here(above, place, parent) {
             Some(taker) => return Some(taker),
+            // The node above lets the publication through, or is an otherwise.
             None => place = parent as usize,
         }
     }
