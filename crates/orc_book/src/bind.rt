@@ -49,10 +49,11 @@ fn reserve_all<P: Run, J: Naming>(
 
 impl<P: Run + Naming> Book<P> {
     /// Binds the cell that takes what this token publishes: all records inside the cell's right side go. The token's pass wins the mark that its
-    /// group is killed, and is added to `leave`, with the passes of all records that went. Refused as Gone if the token isn't out or the mark was
-    /// set already, as Wrong if it does something else next, as Full, Limit or Memory if the ledger refuses the entry for that or memory is refused.
-    /// The pass of a refused token has won the mark only if the fault is Memory. `cancelled` is lent: after an Ok it holds the numbers of the calls
-    /// that went, in rising order, and else any numbers.
+    /// group is killed, and is added to `leave`, with the passes that the book held for records that went and holds no more. The word of a group
+    /// that went stands for a killed one until its last pass is left. Refused as Gone if the token isn't out or the mark was set already, as Wrong if
+    /// it does something else next, as Full, Limit or Memory if the ledger refuses the entry for that or memory is refused. The pass of a refused
+    /// token has won the mark only if the fault is Memory. `cancelled` is lent: after an Ok it holds the numbers of the calls that went, in rising
+    /// order, and else any numbers.
     pub fn bind(
         &mut self,
         groups: &Groups<P>,
@@ -94,7 +95,7 @@ impl<P: Run + Naming> Book<P> {
                 back: token,
             });
         }
-        // Taken apart, since the mark changes the pass: it has seen the bit then.
+        // Taken apart, since the mark changes the pass: it has seen the bit then. `mark` gives false if the bit was set before.
         let Token {
             serial,
             slot,

@@ -23,6 +23,7 @@ use std::marker::Model;
 
 /// The records of a run, and of each record that is not out with a worker a pass to its group.
 pub struct Book<P: Run + Naming> {
+    // The records of the run, with its journal.
     pub(crate) ledger: Ledger<P>,
     // Gives the memory of the posts of groups that are opened.
     pub(crate) alloc: Global,
@@ -128,6 +129,7 @@ impl<P: Run + Naming> Book<P> {
             cancelled: Vec::new(alloc),
             cells: Vec::new(alloc),
         };
+        // Token 1 is in slot 0, by the ledger's `begin`.
         let token = book.born(0, pass);
         Ok((book, token))
     }

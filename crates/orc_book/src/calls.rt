@@ -74,7 +74,8 @@ impl<P: Run + Naming> Book<P> {
         stands(&self.ledger);
         match self.ledger.call(inputs, token.slot, found.its, args) {
             Ok(call) => {
-                // The token was out, so `found.out` is 1 at least.
+                // `bring_at` puts the token's pass into the post of its group, for the call, and notes that one token fewer of the group is out. The
+                // token was out, so `found.out` is 1 at least.
                 bring_at(&mut self.posts, found.group, found.out - 1, token.pass);
                 Ok(call.number)
             }
@@ -87,9 +88,9 @@ impl<P: Run + Naming> Book<P> {
 }
 
 impl<P: Run + Naming> Book<P> {
-    /// Answers a pending call, if the table of sites gives this answer and it is due now. If the answer is a value, a token on it is out, with a
-    /// pass of the call's group; if the call halts, that pass comes back, to be left. Refused as Gone if no call pends with the number, as Wrong if
-    /// the answer isn't due now, as Limit if the journal has as many entries as the limit, else as Memory.
+    /// Answers the pending call with this `number`, from 1, if the table of sites gives this answer and it is due now. If the answer is a value, a
+    /// token on it is out, with a pass of the call's group; if the call halts, that pass comes back, to be left. Refused as Gone if no call pends
+    /// with the number, as Wrong if the answer isn't due now, as Limit if the journal has as many entries as the limit, else as Memory.
     pub fn returned(&mut self, number: u64, answer: Answer) -> Result<Answered<P>, BookFault>
         ensures done { IfOk result (λ a. (c : ItsCall) × Pends self.old.ledger number c × IsAnswered self.old c answer a self.new) }
         ensures stands { KeepsWords self.old self.new }
@@ -102,20 +103,21 @@ impl<P: Run + Naming> Book<P> {
         };
         let group = self.ledger.group_of_call(&call);
         let out = out_in(&self.posts, group);
-        // A law, as in `call`.
+        // A law: it shows the prover that the journal leads to a place that the records spell. Nothing runs.
         stands(&self.ledger);
         match self.ledger.returned(number, answer) {
             Ok(Some(slot)) => {
                 // For the prover alone: the number of all tokens, the new one too, is a `usize`, and no more are out. So `out + 1` doesn't overflow.
                 let _tokens = self.ledger.token_count();
-                // The book holds a pass for each pending call.
+                // The book holds a pass for each pending call. `send_at` takes one out for the new token, and notes that one more of the group's
+                // tokens is out.
                 let Some(pass) = send_at(&mut self.posts, group, out + 1) else {
                     unreachable!()
                 };
                 Ok(Answered::Token(self.born(slot, pass)))
             }
             Ok(None) => {
-                // The call pended, so the book holds its pass.
+                // The call pended, so the book holds a pass for it. `take_at` takes that out.
                 let Some(pass) = take_at(&mut self.posts, group) else {
                     unreachable!()
                 };

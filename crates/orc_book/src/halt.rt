@@ -120,6 +120,7 @@ impl<P: Run + Naming> Book<P> {
         stands(&self.ledger);
         match self.ledger.halt(number) {
             Ok(Halted::Lost(cell, parent)) => {
+                // `close` frees the word. That of an open group holds no pass.
                 self.words.close(word);
                 // The group was a member of the one that encloses it, so the book holds a pass to that.
                 let Some(pass) = take_at(&mut self.posts, parent) else {
@@ -130,7 +131,7 @@ impl<P: Run + Naming> Book<P> {
             }
             Ok(Halted::Closed(parent)) => {
                 self.words.close(word);
-                // As above: the group was a member of the one that encloses it.
+                // The group was a member of the one that encloses it, so the book holds a pass to that.
                 let Some(pass) = take_at(&mut self.posts, parent) else {
                     unreachable!()
                 };
@@ -147,7 +148,8 @@ impl<P: Run + Naming> Book<P> {
                 let out = out_in(&self.posts, group);
                 // For the prover alone: the number of all tokens, the new one too, is a `usize`, and no more are out. So `out + 1` doesn't overflow.
                 let _tokens = self.ledger.token_count();
-                // The book held a pass for the group that has ended, a member of the enclosing one. It is the new token's now.
+                // The book held a pass for the group that has ended, a member of the enclosing one. `send_at` takes that pass out for the new token,
+                // and notes that one more of the enclosing group's tokens is out.
                 let Some(pass) = send_at(&mut self.posts, group, out + 1) else {
                     unreachable!()
                 };

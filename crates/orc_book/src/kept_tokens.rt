@@ -122,7 +122,7 @@ impl Keeping {
         ensures there { OnOk result (slot < length self.new) }
         ensures refused { OnErr result (self.new ≡ self.old) }
     {
-        // As of cells: slots have small numbers.
+        // Slots have small numbers; the prover isn't told so.
         let Some(len) = slot.checked_add(1) else {
             return Err(AllocError);
         };
@@ -140,7 +140,7 @@ impl Keeping {
         for cell in cells {
             self.add(*cell, handle)?;
         }
-        // Only this makes the token a kept one. Links that were added before a refusal stay, and do no harm.
+        // The token is kept only once `kept` has its serial, below. Links that were added before a refusal stay, and do no harm.
         self.reach(handle.slot)?;
         // By `reach` the slot is there.
         let Some(kept) = self.kept.get_mut(handle.slot) else {
@@ -170,7 +170,7 @@ impl Keeping {
         if let Some(head) = self.heads.get_mut(cell) {
             *head = link.next;
         }
-        // Its link becomes the first free one. Its index is `place - 1`, as in `put`.
+        // Its link becomes the first free one. Places count from 1, so the link's index is `place - 1`.
         if let Some(there) = self.links.get_mut(place.saturating_sub(1) as usize) {
             there.next = self.free;
         }

@@ -82,8 +82,8 @@ impl<P: Run + Naming> Book<P> {
         })
     }
 
-    /// The passes fit the records, as a law: each token is kept or out, and of each other record of a group the book holds one pass to that group.
-    /// Each group has a word of its own: it stands for that group, and no other word does.
+    /// A law, for the prover alone: the passes fit the records. Each token is kept or out, and of each other record of a group the book holds one
+    /// pass to that group. Each group has a word of its own: it stands for that group, and no other word does.
     pub fn holds(&self)
         ensures passes { AreHeld self.now.posts self.now.ledger }
         ensures words { AreNamed self.now.ledger self.now.posts self.now.stands }
@@ -92,7 +92,7 @@ impl<P: Run + Naming> Book<P> {
         let _posts = &self.posts;
     }
 
-    /// Each pass that the book holds for a group names the group's word, as a law.
+    /// A law, for the prover alone: each pass that the book holds for a group names the group's word.
     pub fn names(&self)
         ensures { (i : ℕ) → All (λ v. group_of v ≡ Some (word_at self.now.posts i)) (passes_at self.now.posts i) }
     {
@@ -102,8 +102,8 @@ impl<P: Run + Naming> Book<P> {
         }
     }
 
-    /// The journal is a timed run of Orc's rules, as a law: it leads from the program's term to a place that the records spell, and nothing is lost
-    /// of how it may go on.
+    /// A law, for the prover alone: the journal is a timed run of Orc's rules. It leads from the program's term to a place that the records spell,
+    /// and nothing is lost of how it may go on.
     pub fn is_run(&self)
         ensures whole { IsWhole P.listing P.sites self.now.ledger }
         ensures spelt { Stands P.listing P.sites self.now.ledger }

@@ -63,8 +63,8 @@ impl<P: Run + Naming> Book<P> {
         ensures refused { IfErr result (λ r. (self.new ≡ self.old) × (r.back ≡ token)) }
         ensures why { IfErr result (λ r. IsRefusedMove P.listing self.old token is_end (IsHindered P.listing self.old.ledger) r.why) }
     {
-        // A law, here and in `fork_found`: it shows the prover that the journal leads to a place that the records spell. Nothing runs. What the
-        // ledger writes into `scopes` and `cancelled` isn't read.
+        // A law: it shows the prover that the journal leads to a place that the records spell. Nothing runs. What `advance` writes into `scopes` and
+        // `cancelled` isn't read.
         stands(&self.ledger);
         match self.ledger.advance(
             inputs,
@@ -159,6 +159,7 @@ impl<P: Run + Naming> Book<P> {
         ensures refused { IfErr result (λ r. (self.new ≡ self.old) × (r.back.0 ≡ token) × (r.back.1 ≡ same)) }
         ensures why { IfErr result (λ r. IsRefusedMove P.listing self.old token is_fork (IsHindered P.listing self.old.ledger) r.why) }
     {
+        // A law: it shows the prover that the journal leads to a place that the records spell. Nothing runs.
         stands(&self.ledger);
         match self.ledger.advance(
             inputs,
@@ -216,7 +217,7 @@ impl<P: Run + Naming> Book<P> {
             &mut self.cancelled,
         ) {
             Ok(_gone) => {
-                // As in `end_found`: the token was out, and is one less.
+                // The token is gone. It was out, so `found.out` is 1 at least.
                 set_out(&mut self.posts, found.group, found.out - 1);
                 Ok(token.pass)
             }

@@ -121,6 +121,7 @@ impl<P: Run + Naming> Book<P> {
                 back,
             });
         }
+        // Memory for the new group's post, and for the pass that the book is to hold for the group.
         if reserve_opening(&mut self.posts, found.group).is_err() {
             let back = (token, same, idle);
             return Err(Refused {
@@ -138,7 +139,8 @@ impl<P: Run + Naming> Book<P> {
                 });
             }
         };
-        // A law, here and in `other_found`: it shows the prover that the journal leads to a place that the records spell. Nothing runs.
+        // A law: it shows the prover that the journal leads to a place that the records spell. Nothing runs. What `advance` writes into `scopes` and
+        // `cancelled` isn't read.
         stands(&self.ledger);
         match self.ledger.advance(
             inputs,
@@ -153,7 +155,9 @@ impl<P: Run + Naming> Book<P> {
                     unreachable!()
                 };
                 let number = self.ledger.group_of_token(&inner);
-                // `reserve_opening` has made the room for the posts and the pass.
+                // `grow_to` adds posts up to the new group's, if there is none yet. The post of the token's group gets the pass `same`, for the new
+                // group. `raise_at` gives the new group's post its word, and notes that one token is out. `reserve_opening` has made the room for
+                // posts and pass.
                 grow_to(self.alloc, &mut self.posts, number);
                 put_at(&mut self.posts, found.group, same);
                 raise_at(&mut self.posts, number, opened.word, found.group);
@@ -165,7 +169,7 @@ impl<P: Run + Naming> Book<P> {
             // A move at `f <x< g` has no other outcome.
             Ok(_) => unreachable!(),
             Err(fault) => {
-                // The word is free in the book still: nothing is to be closed, and `left.last` is dropped.
+                // The word is free in the book still: nothing is to be closed, and `left.last` is dropped. `left.pass` is idle again.
                 let left = groups.leave(opened.pass);
                 Err(Refused {
                     why: fault_of(fault),
@@ -176,7 +180,8 @@ impl<P: Run + Naming> Book<P> {
     }
 
     /// Enters the otherwise at which this token is, `f ; g`: a token on the left side is out in its place, with `idle`, which opens the new group's
-    /// word. For the new group the book holds the token's pass. Refused for the causes for which `prune` is.
+    /// word. For the new group the book holds the token's pass. Refused as Gone if the token isn't out, as Wrong if it does something else next, as
+    /// Full or Limit if the ledger is at such a limit, as Full also if no word is free, as Live if the free word is still named, else as Memory.
     pub fn other(
         &mut self,
         groups: &Groups<P>,
@@ -228,7 +233,7 @@ impl<P: Run + Naming> Book<P> {
         ensures refused { IfErr result (λ r. HasStayed self.old self.new × (r.back.0 ≡ token) × (group_of r.back.1 ≡ None)) }
         ensures why { IfErr result (λ r. IsRefusedOpening P.listing self.old token P.table.words is_other r.why) }
     {
-        // Room in the ledger for an entry and a group, and no token more. This order and its reason are those of `prune_found`.
+        // Room in the ledger for an entry and a group, and no token more. Once the word is opened, only the ledger can refuse the move, for memory.
         if let Err(fault) = self.ledger.within(0, 1, 0) {
             let back = (token, idle);
             return Err(Refused {
@@ -236,6 +241,7 @@ impl<P: Run + Naming> Book<P> {
                 back,
             });
         }
+        // Memory for the new group's post, and for the pass that the book is to hold for the group.
         if reserve_opening(&mut self.posts, found.group).is_err() {
             let back = (token, idle);
             return Err(Refused {
@@ -253,6 +259,8 @@ impl<P: Run + Naming> Book<P> {
                 });
             }
         };
+        // A law: it shows the prover that the journal leads to a place that the records spell. Nothing runs. What `advance` writes into `scopes` and
+        // `cancelled` isn't read.
         stands(&self.ledger);
         match self.ledger.advance(
             inputs,
@@ -267,16 +275,18 @@ impl<P: Run + Naming> Book<P> {
                     unreachable!()
                 };
                 let number = self.ledger.group_of_token(&inner);
+                // Adds posts up to the new group's, if there is none yet; `reserve_opening` has made the room.
                 grow_to(self.alloc, &mut self.posts, number);
                 // In the group around the otherwise one token less is out, and the book holds that token's pass there for the new group.
                 bring_at(&mut self.posts, found.group, found.out - 1, token.pass);
+                // The new group's post gets its word, and notes that one token is out.
                 raise_at(&mut self.posts, number, opened.word, found.group);
                 self.words.open(number);
                 Ok(self.born(token.slot, opened.pass))
             }
             // A move at `f ; g` has no other outcome.
             Ok(_) => unreachable!(),
-            // As in `prune_found`: the word is free in the book still, so `left.last` is dropped.
+            // The word is free in the book still: nothing is to be closed, and `left.last` is dropped. `left.pass` is idle again.
             Err(fault) => {
                 let left = groups.leave(opened.pass);
                 Err(Refused {

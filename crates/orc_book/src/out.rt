@@ -51,8 +51,8 @@ impl<P: Naming> Births<P> {
         }
     }
 
-    // Takes the last pass of `same`, if it names the group of this word. None, and nothing is taken, if there is no pass or the last one names
-    // another group.
+    // Takes the last pass of `same`, if it names this `group`: the number of a group's word, None for no group. None, and nothing is taken, if there
+    // is no pass or the last one names another group.
     pub(crate) fn take_same(&mut self, group: Option<u32>) -> Option<Pass<P>>
         ensures pass { MatchOption result (self.new ≡ self.old) (λ pass. (group_of pass ≡ group) × (self.old.same.items ≡ self.new.same.items ++ pass ∷ [])) }
         ensures room { MatchOption result (self.new ≡ self.old) (λ _. vec_len self.new.same + 1 ≤ vec_capacity self.new.same) }

@@ -76,7 +76,7 @@ impl<J: Naming> Post<J> {
         self.out = 1;
     }
 
-    /// Each pass names the group's word, as a law.
+    /// A law, for the prover alone: each pass names the group's word.
     pub(crate) fn names(&self)
         ensures { All (λ v. group_of v ≡ Some self.now.word) self.now.passes }
     {
@@ -276,7 +276,8 @@ pub(crate) fn take_at<J: Naming>(posts: &mut Vec<Post<J>>, number: u32) -> Optio
     }
 }
 
-/// For a token that was out and becomes a pending call or a group: puts its pass into the post, and sets how many tokens are out.
+/// For a token that was out and becomes a pending call or a group: puts its pass into the post of the group with this `number`, and sets how many of
+/// the group's tokens are out.
 pub(crate) fn bring_at<J: Naming>(posts: &mut Vec<Post<J>>, number: u32, out: usize, pass: Pass<J>)
     requires there { number < length posts.old.items }
     requires room { 1 ≤ room_at posts.old.items number }
@@ -289,7 +290,8 @@ pub(crate) fn bring_at<J: Naming>(posts: &mut Vec<Post<J>>, number: u32, out: us
     }
 }
 
-/// For a token that was out and is kept from here on: puts its pass into the post, and sets how many tokens are out and how many are kept.
+/// For a token that was out and is kept from here on: puts its pass into the post of the group with this `number`, and sets how many of the group's
+/// tokens are out and how many are kept.
 pub(crate) fn keep_at<J: Naming>(
     posts: &mut Vec<Post<J>>,
     number: u32,
@@ -309,8 +311,8 @@ pub(crate) fn keep_at<J: Naming>(
     }
 }
 
-/// For a token that comes in the place of a call or a group: takes the record's pass out, and sets how many tokens are out. None, and nothing
-/// changes, if no pass is held.
+/// For a token that comes in the place of a call or a group: takes the record's pass out of the post of the group with this `number`, and sets how
+/// many of the group's tokens are out. None, and nothing changes, if no pass is held.
 pub(crate) fn send_at<J: Naming>(
     posts: &mut Vec<Post<J>>,
     number: u32,
@@ -328,8 +330,8 @@ pub(crate) fn send_at<J: Naming>(
     }
 }
 
-/// For a token that comes into the group without a pass to it: lets the idle pass enter the group, beside one that the post holds, and sets how many
-/// tokens are out. If the post holds no pass, nothing changes, and the idle one comes back.
+/// For a token that comes into the group with this `number` without a pass to it: lets the idle pass enter the group, beside one that the post holds,
+/// and sets how many of the group's tokens are out. If the post holds no pass, nothing changes, and the idle one comes back.
 pub(crate) fn enter_at<J: Naming>(
     groups: &Groups<J>,
     posts: &mut Vec<Post<J>>,
@@ -352,8 +354,8 @@ pub(crate) fn enter_at<J: Naming>(
     }
 }
 
-/// For a token that was kept and goes out: takes a pass out, and sets how many tokens are out and kept. None, and nothing changes, if no pass is
-/// held.
+/// For a token that was kept and goes out: takes a pass out of the post of the group with this `number`, and sets how many of the group's tokens are
+/// out and kept. None, and nothing changes, if no pass is held.
 pub(crate) fn wake_at<J: Naming>(
     posts: &mut Vec<Post<J>>,
     number: u32,

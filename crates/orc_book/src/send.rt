@@ -36,7 +36,7 @@ pub(crate) struct Fed {
 }
 
 impl<P: Run + Naming> Book<P> {
-    // What a token publishes into a `>x>`.
+    // What the token with the record `its` publishes into a `>x>`: this value, and what the ledger knows of that `>x>`.
     fn fed_by(&self, its: Record, value: Value) -> Fed
         requires held { (slot : ℕ) × IsHeld self.now.ledger.slots slot its }
         requires next { what_of (code P.listing) (definitions P.listing) self.now.ledger its ≡ Action.Send value }
@@ -162,7 +162,7 @@ impl<P: Run + Naming> Book<P> {
             let why = BookFault::Short;
             return Err(Refused { why, back: token });
         };
-        // The law of `send_within`. Nothing runs.
+        // A law: it shows the prover that the journal leads to a place that the records spell. Nothing runs.
         stands(&self.ledger);
         match self.ledger.send(
             token.slot, found.its, fed.value, fed.name, fed.right, fed.scope, fed.outer,
@@ -173,7 +173,8 @@ impl<P: Run + Naming> Book<P> {
                 let _tokens = self.ledger.token_count();
                 set_out(&mut self.posts, found.group, found.out - 1);
                 let out_there = out_in(&self.posts, round);
-                // The book holds a pass to that group: the token's own group is a member of it, or of one right inside it, and so on.
+                // `enter_at` lets the idle pass name that group, beside a pass that the book holds, and notes that one more of its tokens is out. The
+                // book holds such a pass: the token's own group is a member of that group, or of one right inside it, and so on.
                 let Ok(pass) = enter_at(groups, &mut self.posts, round, out_there + 1, idle) else {
                     unreachable!()
                 };

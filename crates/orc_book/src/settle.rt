@@ -57,7 +57,7 @@ fn bury_one<P: Run, J: Naming>(
     let parent = parent_in(posts, number);
     // The number of the enclosing group's word.
     let above = word_in(posts, parent);
-    // The enclosing group has lost a member, so its post has a pass too many.
+    // The enclosing group has lost a member. If its post has a pass too many, `spare_at` takes that out.
     let pass = spare_at(posts, parent, ledger.member_count(parent) as usize);
     words.bury(word, above, pass);
 }
@@ -93,7 +93,7 @@ pub(crate) fn bury_missing<P: Run, J: Naming>(
     ensures there { AreThere ledger.now words.new.stands }
 {
     let count = posts.len() as u32;
-    // From one such number to the next; each round goes on behind the last one, so the loop ends.
+    // From one group without members to the next: each round goes on behind the last one, so the loop ends.
     let mut number = next_empty(ledger, 0, count);
     while number < count {
         bury_one(ledger, posts, words, number);
@@ -121,8 +121,8 @@ fn next_unsettled<P: Run, J: Naming>(
     to
 }
 
-// Fits each post to its group's members. Passes that are too many go to `leave`; of a group without members no token is kept or out. Posts that fit
-// are passed over by `next_unsettled`, as in `bury_missing`.
+// Fits each post to its group's members. Passes that are too many go to `leave`; of a group without members no token is kept or out. `next_unsettled`
+// passes over posts that fit, which is faster.
 pub(crate) fn settle_all<P: Run, J: Naming>(
     ledger: &Ledger<P>,
     posts: &mut Vec<Post<J>>,
@@ -138,7 +138,7 @@ pub(crate) fn settle_all<P: Run, J: Naming>(
     ensures capacity { vec_capacity leave.new ≡ vec_capacity leave.old }
 {
     let count = posts.len() as u32;
-    // From one such number to the next; each round goes on behind the last one, so the loop ends.
+    // From one post that may not fit to the next: each round goes on behind the last one, so the loop ends.
     let mut number = next_unsettled(ledger, posts, 0, count);
     while number < count {
         let members = ledger.member_count(number) as usize;

@@ -128,7 +128,8 @@ impl<P: Run + Naming> Book<P> {
         }
     }
 
-    // The token becomes one on each side, with its pass and the last of `births.same`.
+    // The token becomes one on each side, with its pass and the last of `births.same`. A refused move gives that pass back: there is room, since it
+    // was taken from `births`.
     fn step_fork(
         &mut self,
         inputs: &Inputs<'_, P>,
@@ -171,7 +172,8 @@ impl<P: Run + Naming> Book<P> {
         }
     }
 
-    // A pruning opens: the book keeps the last of `births.same` for the new group, and the last of `births.idle` opens that group's word.
+    // A pruning opens: the book keeps the last of `births.same` for the new group, and the last of `births.idle` opens that group's word. A refused
+    // move gives both passes back: there is room, since they were taken from `births`.
     fn step_prune(
         &mut self,
         groups: &Groups<P>,
@@ -223,7 +225,8 @@ impl<P: Run + Naming> Book<P> {
         }
     }
 
-    // The token enters an otherwise: its own pass is kept for the new group, and the last of `births.idle` opens that group's word.
+    // The token enters an otherwise: its own pass is kept for the new group, and the last of `births.idle` opens that group's word. A refused move
+    // gives the idle pass back: there is room, since it was taken from `births`.
     fn step_other(
         &mut self,
         groups: &Groups<P>,

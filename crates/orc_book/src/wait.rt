@@ -20,8 +20,8 @@ use orc_word::Naming;
 use std::alloc::AllocError;
 
 impl<P: Run + Naming> Book<P> {
-    /// Hands a token that waits to the book, which keeps it and its pass until `wake` is called for one of its cells. Refused as Gone if the token
-    /// isn't out, as Wrong if it does something else next, else as Memory.
+    /// Hands a token that waits to the book, which marks it as kept, and keeps it and its pass until `wake` is called for one of its cells. Refused
+    /// as Gone if the token isn't out, as Wrong if it does something else next, else as Memory; the token isn't marked then.
     pub fn wait(&mut self, inputs: &Inputs<'_, P>, token: Token<P>) -> Result<(), Refused<Token<P>>>
         ensures done { OnOk result ((t : Its) × IsUnkept self.old token.slot token.serial token.pass t × (is_wait (what_of (code P.listing) (definitions P.listing) self.old.ledger t) ≡ true) × Changes self.old.posts (group_at self.old.ledger.steps t.step) self.new.posts KeepsOne) }
         ensures ledger { self.new.ledger ≡ self.old.ledger }
@@ -54,6 +54,7 @@ impl<P: Run + Naming> Book<P> {
             let why = fault_of(fault);
             return Err(Refused { why, back: token });
         }
+        // Room for the token's pass in the post of its group.
         let Ok(()) = reserve_at(&mut self.posts, found.group) else {
             let why = BookFault::Memory;
             return Err(Refused { why, back: token });
@@ -63,6 +64,7 @@ impl<P: Run + Naming> Book<P> {
             let why = BookFault::Memory;
             return Err(Refused { why, back: token });
         };
+        // The post gets the token's pass. One token of the group fewer is out, and one more is kept.
         keep_at(
             &mut self.posts,
             found.group,
@@ -89,6 +91,7 @@ impl<P: Run + Naming> Book<P> {
         let group = self.ledger.group_of_token(&its);
         let kept = kept_in(&self.posts, group).checked_sub(1)?;
         let out = out_in(&self.posts, group).checked_add(1)?;
+        // Takes a pass out of the group's post, which notes that one token more is out and one fewer is kept.
         let pass = wake_at(&mut self.posts, group, out, kept)?;
         Some(self.born(handle.slot, pass))
     }
@@ -103,7 +106,7 @@ impl<P: Run + Naming> Book<P> {
     {
         // No chain is longer than there are links, so each is popped.
         for _link in 0..self.keeping.len() {
-            // Before the token leaves the chain, so that a refusal loses none.
+            // Room for the token is made before it leaves the chain, so that a refusal loses none.
             born.try_reserve(1)?;
             let Some(handle) = self.keeping.pop(cell) else {
                 break;

@@ -118,10 +118,11 @@ impl Tally {
 }
 
 /// Runs a program as [`run_alone`](crate::run_alone) does, on the calling thread, and calls of definitions apart on `workers` threads; the calling
-/// thread is one of them while it has no results to merge. The table answers all calls of sites. The journal is the same on any number of workers.
+/// thread is one of them while it has no results to merge. The table answers all calls of sites. The journal is the same on any number of workers,
+/// and has at most `limit` entries, cancels not counted. The result has the journal if `keeps`, and sometimes if not.
 ///
-/// The fault is Range exactly if there are no workers or over `MOST_WORKERS`, or the limit is 0 or over `MOST_ENTRIES`. Memory is as of `run_alone`.
-/// No other fault comes if the scope check accepts the program.
+/// The fault is Range exactly if there are no workers or over `MOST_WORKERS`, or the limit is 0 or over `MOST_ENTRIES`. It is Memory if memory was
+/// refused before the run began, or for its result. No other fault comes if the scope check accepts the program.
 pub fn run_parallel<R: Threads + Sync>(
     rt: &R,
     alloc: Global,
@@ -146,8 +147,8 @@ pub fn run_parallel<R: Threads + Sync>(
     run_graph(&threads, program, &graph, answers, keeps, limit as usize)
 }
 
-/// Runs a program whose graph is built, as [`run_parallel`] does, with a limit and workers in range. The faults are those of `run_parallel` but
-/// Range.
+/// Runs a program whose graph is built, as [`run_parallel`] does, with a limit and workers in range. The fault is Memory if memory was refused before
+/// the run began, or for its result. No other fault comes if the scope check accepts the program.
 pub(crate) fn run_graph<R: Threads + Sync>(
     threads: &WorkerThreads<'_, R>,
     program: &Program,
@@ -182,7 +183,8 @@ pub(crate) fn run_graph<R: Threads + Sync>(
 }
 
 // Runs a program whose graph is built, and keeps its journal or only counts its entries. None if it keeps no journal, but only a journal can show how
-// the run ended. The type P names the run, whose program and sites the caller picks. Faults are as of `run_graph`.
+// the run ended. The type P names the run, whose program and sites the caller picks. The fault is Memory if memory was refused before the run began,
+// or for its result. No other fault comes if the scope check accepts the program.
 fn run_named<P, R>(
     threads: &WorkerThreads<'_, R>,
     program: &Program,
@@ -223,7 +225,8 @@ where
     scheduler.finish(program, &inputs, stop)
 }
 
-// The threads that run one program (`rt`, `alloc` and `workers` as of `WorkerThreads`), and the inputs of the run.
+// The threads that run one program, and the inputs of the run. `rt` starts the threads, which take memory from `alloc`; `workers` of them run calls of
+// definitions, at least 1.
 #[derive(Drop)]
 struct ParallelRun<'c, P: Run, R> {
     rt: &'c R,
@@ -241,13 +244,15 @@ where
     P: Run + Send + Sync,
     R: Threads + Sync,
 {
-    // Turns until the run stops. Each brings it nearer its end (`IsNearer`), so the loop ends.
+    // Gives the run one turn after another until it stops, and says why it stops. Each turn brings the run nearer its end (`IsNearer`), so the loop
+    // ends.
     fn play(&self, scheduler: &mut Scheduler<P>) -> Stop
         ensures stops { Stops P.listing scheduler.new.ledger result }
     {
         if let Err(stop) = scheduler.begin() {
             return stop;
         }
+        // The first attempt to share work comes after `PATIENCE` entries, and begins with samples.
         let mut plan = Plan {
             entries: PATIENCE,
             mean: 0,
@@ -268,6 +273,7 @@ where
         ensures few { deque_len scheduler.new.ready.handles < 2 ^ 64 }
         ensures stops { IfErr result (λ stop. Stops P.listing scheduler.new.ledger stop) }
     {
+        // `share` makes the attempt, if one is due. `scheduler.go` gives the next token its turn, or does what else comes next.
         let next = self.share(scheduler, plan)?;
         match scheduler.go(self.inputs) {
             Ok(()) => Ok(next),
@@ -300,8 +306,8 @@ where
         Ok(Plan { entries, mean })
     }
 
-    // Spreads tokens until `wanted` of them are runnable, and runs the calls at which they stand side by side. `mean` is as of `run_side_by_side`.
-    // Few if fewer become runnable.
+    // Spreads tokens until `wanted` of them are runnable, and runs the calls at which they stand side by side. `mean` is how many entries the
+    // sub-runs of the last attempt had on average; if it is 0, samples show it first. Few if fewer become runnable.
     fn attempt(
         &self,
         scheduler: &mut Scheduler<P>,
@@ -311,6 +317,7 @@ where
         ensures spread { IfOk result (λ _. HasSpread scheduler.old.ledger (deque_len scheduler.old.ready.handles) scheduler.new.ledger (deque_len scheduler.new.ready.handles)) }
         ensures stops { IfErr result (λ stop. Stops P.listing scheduler.new.ledger stop) }
     {
+        // Moves tokens on to their next calls of definitions, until so many tokens are runnable or a bound of entries is reached.
         scheduler.spread(self.inputs, wanted)?;
         if scheduler.ready() < wanted {
             return Ok(Trial::Few);
@@ -330,20 +337,21 @@ where
             return Ok(Trial::Vain);
         };
         if jobs.len() >= SAMPLES {
+            // All samples are run before their results are looked at.
             return self.run_jobs(scheduler, mean, SAMPLES, &mut jobs);
         }
         let Ok(mut jobs) = scheduler.jobs(self.inputs, true) else {
             return Ok(Trial::Vain);
         };
         if jobs.len() >= SAMPLES {
-            // A mean of 0 has samples show it.
+            // A mean of 0 has samples show it; the first `RACERS` of them are run before the others, since one of them may win.
             return self.run_jobs(scheduler, 0, RACERS, &mut jobs);
         }
         Ok(Trial::Vain)
     }
 
     // Does the jobs, and merges their results. If `mean` is 0 samples come first, and the `first` of these before the other samples. If a sample wins
-    // a race its result is merged, and the run makes the other calls itself.
+    // a race, which makes the jobs behind it vain, its result is merged, and the run makes the other calls itself.
     fn run_jobs(
         &self,
         scheduler: &mut Scheduler<P>,
@@ -375,7 +383,8 @@ where
         }
     }
 
-    // Does the samples: the `first` ones, and the others if none of these has won a race. Counts the results of those that it did.
+    // Does the samples, each with `limit` entries at most: the `first` ones, and the others if none of these has won a race. Counts the results of
+    // those that it did.
     fn run_samples(&self, limit: usize, first: usize, jobs: &mut [SubRunJob<P>]) -> Tally
         requires limit { (1 ≤ limit) × (limit ≤ MOST_ENTRIES) }
     {
@@ -422,8 +431,9 @@ where
         let mut mean = mean;
         let mut trial = Trial::Good(mean);
         for from in (done..jobs.len()).step_by(BATCH) {
+            // How many more entries the run may have.
             let room = scheduler.room();
-            // It is under the length already; the prover isn't told so by `step_by`.
+            // `from` is under the length already; the prover isn't told so by `step_by`.
             let from = from.min(jobs.len());
             // Jobs whose result was merged have none any more, so `before` may have them too.
             let (before, behind) = jobs.split_at_mut(from);
@@ -432,6 +442,7 @@ where
             if count == 0 || room == 0 || room / count < mean {
                 break;
             }
+            // The most entries of each sub-run of this batch.
             let limit = mean
                 .saturating_mul(TIMES_MEAN)
                 .clamp(1, MOST_RUN_ENTRIES)
@@ -453,8 +464,8 @@ where
         Ok(trial)
     }
 
-    // Merges the results of the jobs `before`, while `workers` other threads do those of the batch. With one worker, or if `before` has no more jobs
-    // than the samples, it merges first.
+    // Merges the results of the jobs `before`, while `workers` other threads do those of the batch, each with `limit` entries at most. With one
+    // worker, or if `before` has no more jobs than the samples, it merges first.
     fn run_beside(
         &self,
         scheduler: &mut Scheduler<P>,
@@ -483,10 +494,12 @@ where
         taken
     }
 
-    // Has the threads do the jobs, each job once, but none behind a job that is known to have won. If memory for the queues is refused it does none.
+    // Has the threads do the jobs, each job once and with `limit` entries at most, but none behind a job that is known to have won. If memory for the
+    // queues is refused it does none.
     fn run_all(&self, limit: usize, jobs: &mut [SubRunJob<P>])
         requires limit { (1 ≤ limit) × (limit ≤ MOST_ENTRIES) }
     {
+        // The place of a job that has won, for all threads to see.
         let won = Won::new();
         let count = jobs.len();
         let Ok(mut worker_queues) = deal(self.alloc, jobs, self.workers) else {
@@ -502,6 +515,7 @@ where
         );
         // The queues hold the jobs by reference, so they go first.
         drop(worker_queues);
+        // Which of the jobs behind a winner were done depends on the threads: their results are dropped.
         forget_losers(jobs);
     }
 
@@ -515,6 +529,7 @@ where
                 return;
             };
             let Dealt { place, job } = dealt;
+            // A job before this one has won, so this one is in vain.
             if won.is_before(place) {
                 continue;
             }

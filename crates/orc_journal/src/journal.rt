@@ -92,8 +92,8 @@ impl Journal {
     }
 
     /// Adds an entry at the end. The error is refused memory, and then nothing changes.
-    // Inlined, so that a caller which knows the entry's kind makes one call and builds no `Entry`. A number that the kind doesn't have is 0. The
-    // letters are those of `Entry`.
+    // Inlined, so that a caller which knows the entry's kind makes one call and builds no `Entry`. A number that the kind doesn't have is 0. Of the
+    // letters s, a and b are marks, c is a cell, k a call, v a value, and t a time.
     #[inline(always)]
     pub fn push(&mut self, entry: &Entry) -> Result<(), AllocError>
         ensures added { OnOk result (self.new ≡ record { version = self.old.version; entries = self.old.entries ++ entry.now ∷ [] }) }
@@ -160,7 +160,8 @@ impl Journal {
         Ok(())
     }
 
-    /// Adds a `send` as `push` does, but without an `Entry`, which is large since it has room for a call's arguments.
+    /// Adds a `send` as `push` does: the token with the mark `token` publishes the value, and the new token gets `mark`. It builds no `Entry`, which
+    /// is large since it has room for a call's arguments. The error is refused memory, and then nothing changes.
     pub fn push_send(&mut self, token: u64, mark: u64, value: Value) -> Result<(), AllocError>
         ensures added { OnOk result (self.new ≡ journal_with self.old (Send token mark value ∷ [])) }
         ensures refused { OnErr result (self.new ≡ self.old) }
@@ -168,7 +169,8 @@ impl Journal {
         self.push_given(Kind::Send, token, mark, value)
     }
 
-    /// Adds a `return` with a value as `push` does, without an `Entry`.
+    /// Adds a `return` of this call with a value as `push` does, without an `Entry`. `mark` is that of the new token. The error is refused memory,
+    /// and then nothing changes.
     pub fn push_return(&mut self, call: u64, mark: u64, value: Value) -> Result<(), AllocError>
         ensures added { OnOk result (self.new ≡ journal_with self.old (Return call mark value ∷ [])) }
         ensures refused { OnErr result (self.new ≡ self.old) }
@@ -176,7 +178,8 @@ impl Journal {
         self.push_given(Kind::Return, call, mark, value)
     }
 
-    /// Adds a `publish` as `push` does, without an `Entry`.
+    /// Adds a `publish` as `push` does, without an `Entry`. `token` is the mark of the token that publishes. The error is refused memory, and then
+    /// nothing changes.
     pub fn push_publish(&mut self, token: u64, value: Value) -> Result<(), AllocError>
         ensures added { OnOk result (self.new ≡ journal_with self.old (Publish token value ∷ [])) }
         ensures refused { OnErr result (self.new ≡ self.old) }
@@ -184,7 +187,8 @@ impl Journal {
         self.push_given(Kind::Publish, token, 0, value)
     }
 
-    /// Adds a `call` as `push` does, without an `Entry`: the arguments, `MOST_ARGUMENTS` at most, are copied once.
+    /// Adds a `call` as `push` does, without an `Entry`: by the mark of the token that calls, the call's number, and its site's. The arguments,
+    /// `MOST_ARGUMENTS` at most, are copied once. The error is refused memory, and then nothing changes.
     pub fn push_call(
         &mut self,
         token: u64,
@@ -220,7 +224,8 @@ impl Journal {
         Ok(())
     }
 
-    /// Adds a `bind` and, behind it, the cancels of these calls in their order. The error is refused memory, and then nothing changes.
+    /// Adds a `bind` of this cell by the token with the mark `token` and, behind it, the cancels of these calls in their order. The error is refused
+    /// memory, and then nothing changes.
     pub fn push_bind(
         &mut self,
         token: u64,

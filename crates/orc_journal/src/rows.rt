@@ -38,7 +38,7 @@ pub enum Row {
     Wide(usize),
 }
 
-// The docstring of `Journal` says so.
+// The docstring of `Journal` says that an entry takes 16 bytes.
 const _: () = prove!(size_of::<Row>() == 16);
 
 /// A call's site, by its number in the program's table, the place of its first argument among the values, and how many arguments it has.
@@ -49,7 +49,7 @@ pub struct Called {
     pub count: u8,
 }
 
-// `Journal` says this, too.
+// The docstring of `Journal` says that a call takes 12 bytes more.
 const _: () = prove!(size_of::<Called>() == 12);
 
 /// What the rows of a journal name by its place: values, calls and parts of wide rows.
@@ -155,7 +155,7 @@ impl Tables {
         }
     }
 
-    // A wide row of these parts. The error is refused memory.
+    // Adds these parts to `wides`, and gives a wide row that names their place. The error is refused memory.
     #[cold]
     #[inline(never)]
     fn add_wide(&mut self, parts: Parts) -> Result<Row, AllocError>
@@ -298,7 +298,7 @@ impl Tables {
         self.calls[at as usize]
     }
 
-    /// The arguments of such a call.
+    /// The arguments of a call, by what `called` gives for it.
     #[inline(always)]
     pub(crate) fn args(&self, called: Called) -> &[Value]
         requires { HasArguments self.now.values called }
@@ -327,7 +327,8 @@ impl Tables {
         *entry = Entry::Call(s, k, called.site, args_of(self.args(called)));
     }
 
-    /// Overwrites `entry` with the entry of a row. `Parts` says what its numbers are.
+    /// Overwrites `entry` with the entry of a row. The parts have its numbers in the order of its line; if it has a value, the third one is the
+    /// value's place.
     pub(crate) fn read(&self, row: Row, entry: &mut Entry)
         requires { IsWithin self.now row }
         ensures { entry.new ≡ entry_of self.now row }

@@ -13,8 +13,8 @@ use orc_rules::kind::Kind;
 use orc_subrun::Numbering;
 use std::alloc::AllocError;
 
-/// What is added to a part's own numbers. `token` isn't added: it is the mark of the token that stood where the part is, and replaces the part's
-/// mark 1.
+/// What is added to a part's own numbers; a part is a call of a definition that was run by itself. `token` isn't added: it is the mark of the token
+/// that stood where the part is, and replaces the part's mark 1.
 #[derive(Clone, Copy)]
 pub struct Shift {
     pub token: u32,
@@ -31,7 +31,7 @@ pub struct Shift {
 }
 
 impl Shift {
-    // The mark in the enclosing run for the part's own one. None if it doesn't fit 32 bits.
+    // The mark in the enclosing run for the part's mark `own`: that of the token for mark 1. None if it doesn't fit 32 bits.
     #[inline(always)]
     fn mark(self, own: u32) -> Option<u32>
         ensures { IfSome result (λ mark. mark ≡ mark_by self own) }
@@ -131,7 +131,7 @@ fn move_rows(rows: &mut [Row], shift: Shift) -> Option<()>
     Some(())
 }
 
-// Adds a part's rows and moves them in their new place: whether each could be moved. If not, or if memory is refused, nothing changes.
+// Adds a part's rows and moves them in their new place. Gives whether each could be moved; if not, or if memory is refused, nothing changes.
 fn push_rows(rows: &mut Vec<Row>, part: &[Row], shift: Shift) -> Result<bool, AllocError>
     ensures added { IfOk result (λ fit. fit ≡ true → rows.new.items ≡ rows.old.items ++ map (row_by shift) part.now) }
     ensures movable { IfOk result (λ fit. fit ≡ true → All IsMovable part.now) }
@@ -148,7 +148,7 @@ fn push_rows(rows: &mut Vec<Row>, part: &[Row], shift: Shift) -> Result<bool, Al
     Ok(true)
 }
 
-// Adds a part's calls, moved: whether the places of all their arguments fit 32 bits. If not, nothing changes. There must be room for them.
+// Adds a part's calls, moved, for which there must be room. Gives whether the places of all their arguments fit 32 bits; if not, nothing changes.
 fn push_calls(calls: &mut Vec<Called>, part: &[Called], shift: Shift) -> bool
     requires room { vec_len calls.old + length part.now ≤ vec_capacity calls.old }
     ensures added { result ≡ true → calls.new.items ≡ calls.old.items ++ map (called_by shift) part.now }
@@ -185,8 +185,8 @@ impl Tables {
         })
     }
 
-    // Adds a part's values and calls behind the others: whether the places of all arguments fit 32 bits. The error is refused memory. In each case
-    // the rows so far stand for what they did.
+    // Adds a part's values and calls behind the others. Gives whether the places of all arguments fit 32 bits. The error is refused memory. In each
+    // case the rows so far stand for what they did.
     fn append(&mut self, part: &Tables, shift: Shift) -> Result<bool, AllocError>
         ensures kept { Keeps self.old self.new }
         ensures added { IfOk result (λ fit. fit ≡ true → self.new ≡ grown self.old part.now.values (map (called_by shift) part.now.calls) []) }
@@ -202,8 +202,8 @@ impl Tables {
 }
 
 impl Journal {
-    // Adds a part's entries by moving its rows: whether all of them have narrow rows, in the part and here. If not, or if memory is refused, the
-    // entries stay as they were; values and calls of the part may be left in the tables, which no row names.
+    // Adds a part's entries by moving its rows. Gives whether all of them have narrow rows, in the part and here. If not, or if memory is refused,
+    // the entries stay as they were; values and calls of the part may be left in the tables, which no row names.
     pub(crate) fn push_shifted(
         &mut self,
         part: &Journal,

@@ -14,7 +14,7 @@ use orc_rules::kind::Kind;
 use orc_subrun::Numbering;
 use std::alloc::AllocError;
 
-// The mark for the part's own one. The error is that it doesn't fit 64 bits, which counts as refused memory.
+// The mark in the enclosing run for the part's mark `own`. The error is that it doesn't fit 64 bits, which counts as refused memory.
 #[inline(always)]
 fn mark_of(numbering: Numbering, own: u64) -> Result<u64, AllocError>
     ensures { IfOk result (λ mark. mark ≡ mark_in numbering own) }
@@ -22,7 +22,7 @@ fn mark_of(numbering: Numbering, own: u64) -> Result<u64, AllocError>
     numbering.mark_of(own).ok_or(AllocError)
 }
 
-// The number for the part's own call. The error is that it doesn't fit 64 bits.
+// The number in the enclosing run for the part's call `own`. The error is that it doesn't fit 64 bits, which counts as refused memory.
 #[inline(always)]
 fn call_of(numbering: Numbering, own: u64) -> Result<u64, AllocError>
     ensures { IfOk result (λ call. call ≡ numbering.calls + own) }
@@ -30,7 +30,7 @@ fn call_of(numbering: Numbering, own: u64) -> Result<u64, AllocError>
     numbering.call_of(own).ok_or(AllocError)
 }
 
-// The number for the part's own cell. The error is that it doesn't fit 64 bits.
+// The number in the enclosing run for the part's cell `own`. The error is that it doesn't fit 64 bits, which counts as refused memory.
 #[inline(always)]
 fn cell_of(numbering: Numbering, own: u64) -> Result<u64, AllocError>
     ensures { IfOk result (λ cell. cell ≡ cell_in numbering own) }
@@ -208,6 +208,7 @@ impl Journal {
         if self.push_shifted(part, numbering)? {
             return Ok(());
         }
+        // If an entry can't be added, those before it are dropped again.
         let len = self.len();
         let pushed = self.push_each(part, numbering);
         if pushed.is_err() {

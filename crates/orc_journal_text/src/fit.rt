@@ -27,7 +27,7 @@ fn value_fits(value: Value)
     }
 }
 
-// Each of these values has that, too. It recurses over the arguments of one call, `MOST_ARGUMENTS` at most.
+// The numbers of these values have 64 signed bits. It recurses over the arguments of one call, `MOST_ARGUMENTS` at most.
 fn values_fit(list: &[Value])
     ensures { AreValues list.now }
 {

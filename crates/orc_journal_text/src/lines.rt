@@ -135,6 +135,7 @@ impl<R: Read + Drop> Lines<R> {
         };
         loop {
             if let Some((version, rest)) = read_header(pieces.rest()) {
+                // The header is used: only the bytes behind it are kept.
                 let left = rest.len();
                 pieces.keep_last(left);
                 return Ok(Lines {

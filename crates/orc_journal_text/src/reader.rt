@@ -18,7 +18,7 @@ use orc_rules::kind::Kind;
 use orc_rules::limits::MOST_ARGUMENTS;
 use orc_rules::value::{Args, Value};
 
-/// A number of so many digits fits 64 bits, since a digit takes 4 at most.
+/// A number of so many digits fits 64 bits, since a digit takes 4 bits at most.
 const FEW: usize = 16;
 
 // The bytes after a text that is at the front.
@@ -325,6 +325,7 @@ fn kind_at(bytes: &[u8]) -> Option<(Kind, &[u8])>
 // in its place: it has room for the arguments of a call, and to copy it takes longer than to read a line. One function for all kinds would clear the
 // room of all their fields at each line. Only a call's line has the name of a site: the other contracts hold for any `names`.
 
+// The fields of a `call`: the token's mark, the call's number, and the site's name with the arguments.
 #[inline(never)]
 #[tactic(auto, unfolding(crate::specs::Reading::fields_at, crate::specs::Reading::call_field))]
 fn call_at<'a>(bytes: &'a [u8], answers: &Answers, entry: &mut Entry) -> Option<&'a [u8]>
@@ -342,6 +343,7 @@ fn call_at<'a>(bytes: &'a [u8], answers: &Answers, entry: &mut Entry) -> Option<
     }
 }
 
+// The field of an `end`: the token's mark.
 #[inline(never)]
 #[tactic(auto, unfolding(crate::specs::Reading::fields_at))]
 fn end_at<'a>(bytes: &'a [u8], entry: &mut Entry) -> Option<&'a [u8]>
@@ -352,6 +354,7 @@ fn end_at<'a>(bytes: &'a [u8], entry: &mut Entry) -> Option<&'a [u8]>
     Some(rest)
 }
 
+// The fields of a `fork`: the token's mark, and the marks of the two new tokens.
 #[inline(never)]
 #[tactic(auto, unfolding(crate::specs::Reading::fields_at))]
 fn fork_at<'a>(bytes: &'a [u8], entry: &mut Entry) -> Option<&'a [u8]>
@@ -363,6 +366,7 @@ fn fork_at<'a>(bytes: &'a [u8], entry: &mut Entry) -> Option<&'a [u8]>
     Some(rest)
 }
 
+// The fields of a `seq`: the token's mark, and that of the new token.
 #[inline(never)]
 #[tactic(auto, unfolding(crate::specs::Reading::fields_at))]
 fn seq_at<'a>(bytes: &'a [u8], entry: &mut Entry) -> Option<&'a [u8]>
@@ -373,6 +377,7 @@ fn seq_at<'a>(bytes: &'a [u8], entry: &mut Entry) -> Option<&'a [u8]>
     Some(rest)
 }
 
+// The fields of an `other`: the token's mark, and that of the new token.
 #[inline(never)]
 #[tactic(auto, unfolding(crate::specs::Reading::fields_at))]
 fn other_at<'a>(bytes: &'a [u8], entry: &mut Entry) -> Option<&'a [u8]>
@@ -383,6 +388,7 @@ fn other_at<'a>(bytes: &'a [u8], entry: &mut Entry) -> Option<&'a [u8]>
     Some(rest)
 }
 
+// The fields of a `def`: the token's mark, and that of the new token.
 #[inline(never)]
 #[tactic(auto, unfolding(crate::specs::Reading::fields_at))]
 fn def_at<'a>(bytes: &'a [u8], entry: &mut Entry) -> Option<&'a [u8]>
@@ -393,6 +399,7 @@ fn def_at<'a>(bytes: &'a [u8], entry: &mut Entry) -> Option<&'a [u8]>
     Some(rest)
 }
 
+// The field of a `void`: the token's mark.
 #[inline(never)]
 #[tactic(auto, unfolding(crate::specs::Reading::fields_at))]
 fn void_at<'a>(bytes: &'a [u8], entry: &mut Entry) -> Option<&'a [u8]>
@@ -403,6 +410,7 @@ fn void_at<'a>(bytes: &'a [u8], entry: &mut Entry) -> Option<&'a [u8]>
     Some(rest)
 }
 
+// The fields of an `open`: the token's mark, the cell's number, and the marks of the two new tokens.
 #[inline(never)]
 #[tactic(auto, unfolding(crate::specs::Reading::fields_at))]
 fn open_at<'a>(bytes: &'a [u8], entry: &mut Entry) -> Option<&'a [u8]>
@@ -415,6 +423,7 @@ fn open_at<'a>(bytes: &'a [u8], entry: &mut Entry) -> Option<&'a [u8]>
     Some(rest)
 }
 
+// The fields of a `send`: the token's mark, that of the new token, and the value.
 #[inline(never)]
 #[tactic(auto, unfolding(crate::specs::Reading::fields_at))]
 fn send_at<'a>(bytes: &'a [u8], entry: &mut Entry) -> Option<&'a [u8]>
@@ -426,7 +435,7 @@ fn send_at<'a>(bytes: &'a [u8], entry: &mut Entry) -> Option<&'a [u8]>
     Some(rest)
 }
 
-// Either kind of return: only its fields tell whether it halts.
+// The fields of either kind of `return`: the call's number, and `halt` or the new token's mark and the value. Only they tell whether it halts.
 #[inline(never)]
 #[tactic(auto, unfolding(crate::specs::Reading::fields_at))]
 fn return_at<'a>(bytes: &'a [u8], entry: &mut Entry) -> Option<&'a [u8]>
@@ -446,6 +455,7 @@ fn return_at<'a>(bytes: &'a [u8], entry: &mut Entry) -> Option<&'a [u8]>
     Some(rest)
 }
 
+// The fields of a `bind`: the token's mark, the cell's number, and the value.
 #[inline(never)]
 #[tactic(auto, unfolding(crate::specs::Reading::fields_at))]
 fn bind_at<'a>(bytes: &'a [u8], entry: &mut Entry) -> Option<&'a [u8]>
@@ -457,6 +467,7 @@ fn bind_at<'a>(bytes: &'a [u8], entry: &mut Entry) -> Option<&'a [u8]>
     Some(rest)
 }
 
+// The field of a `lost`: the cell's number.
 #[inline(never)]
 #[tactic(auto, unfolding(crate::specs::Reading::fields_at))]
 fn lost_at<'a>(bytes: &'a [u8], entry: &mut Entry) -> Option<&'a [u8]>
@@ -467,6 +478,7 @@ fn lost_at<'a>(bytes: &'a [u8], entry: &mut Entry) -> Option<&'a [u8]>
     Some(rest)
 }
 
+// The fields of a `right`: the otherwise's mark, and that of the new token.
 #[inline(never)]
 #[tactic(auto, unfolding(crate::specs::Reading::fields_at))]
 fn right_at<'a>(bytes: &'a [u8], entry: &mut Entry) -> Option<&'a [u8]>
@@ -477,6 +489,7 @@ fn right_at<'a>(bytes: &'a [u8], entry: &mut Entry) -> Option<&'a [u8]>
     Some(rest)
 }
 
+// The fields of a `publish`: the token's mark, and the value.
 #[inline(never)]
 #[tactic(auto, unfolding(crate::specs::Reading::fields_at))]
 fn publish_at<'a>(bytes: &'a [u8], entry: &mut Entry) -> Option<&'a [u8]>
@@ -487,6 +500,7 @@ fn publish_at<'a>(bytes: &'a [u8], entry: &mut Entry) -> Option<&'a [u8]>
     Some(rest)
 }
 
+// The field of a `tick`: the new time.
 #[inline(never)]
 #[tactic(auto, unfolding(crate::specs::Reading::fields_at))]
 fn tick_at<'a>(bytes: &'a [u8], entry: &mut Entry) -> Option<&'a [u8]>
@@ -497,6 +511,7 @@ fn tick_at<'a>(bytes: &'a [u8], entry: &mut Entry) -> Option<&'a [u8]>
     Some(rest)
 }
 
+// The field of a `cancel`: the call's number.
 #[inline(never)]
 #[tactic(auto, unfolding(crate::specs::Reading::fields_at))]
 fn cancel_at<'a>(bytes: &'a [u8], entry: &mut Entry) -> Option<&'a [u8]>

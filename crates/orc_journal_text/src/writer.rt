@@ -101,6 +101,7 @@ fn write_call(
     requires { site < length answers.now.names }
     ensures { OnOk result (out.new.items ≡ out.old.items ++ line answers.now.names (entry.Call token number site args.now)) }
 {
+    // The front of the line, from its last field to its first.
     let mut front = Tail::new();
     front.put_number(number);
     front.put_number(token);
@@ -117,6 +118,7 @@ pub fn write_entry(entry: &Entry, answers: &Answers, out: &mut Vec<u8>) -> Resul
     requires { IsNamed answers.now.names entry.now }
     ensures { OnOk result (out.new.items ≡ out.old.items ++ line answers.now.names entry.now) }
 {
+    // The line from its last field to its first. Of the letters s, a and b are marks, c is a cell, k a call, and v a value.
     let mut line = Tail::new();
     line.put(b"\n");
     match entry {

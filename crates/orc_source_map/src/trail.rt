@@ -126,6 +126,7 @@ impl Trail {
 
     /// Follows the next entry of a run, which is to be one that the rules take. The error is refused memory; the trail is of no use then.
     pub fn follow(&mut self, sketch: &Sketch, entry: &Entry) -> Result<(), AllocError> {
+        // In entries `s`, `a` and `b` are marks, `k` is the number of a call and `c` that of a cell.
         match entry {
             Entry::Fork(s, a, b) => self.fork(sketch, *s, *a, *b),
             Entry::Seq(s, a) => self.enter_left(sketch, *s, *a),
@@ -149,7 +150,7 @@ impl Trail {
         }
     }
 
-    // `fork`: both sides of a `|` stay in the token's step.
+    // `fork`: the token `mark` becomes the tokens `first` and `second`, on the sides of its `|`. Both stay in its step.
     fn fork(
         &mut self,
         sketch: &Sketch,
@@ -166,7 +167,7 @@ impl Trail {
         Ok(())
     }
 
-    // `seq`: a token enters the left side of a `>x>`.
+    // `seq`: the token `mark` becomes the token `first`, on the left side of its `>x>`, in a new step.
     fn enter_left(&mut self, sketch: &Sketch, mark: u64, first: u64) -> Result<(), AllocError> {
         let shape = self.shape(sketch, mark);
         let step = self.take(mark);
@@ -177,7 +178,7 @@ impl Trail {
         Ok(())
     }
 
-    // `other`: a token enters the left side of an otherwise, which keeps the token's mark as its own.
+    // `other`: the token `mark` becomes the token `first`, on the left side of an otherwise, in a new step. The otherwise keeps `mark` as its own.
     fn enter_first(&mut self, sketch: &Sketch, mark: u64, first: u64) -> Result<(), AllocError> {
         let shape = self.shape(sketch, mark);
         let outer = self.take(mark);
@@ -189,7 +190,8 @@ impl Trail {
         Ok(())
     }
 
-    // `open`: a token each for the left and the right side of a pruning. Only the right one is in a new step.
+    // `open`: the token `mark` becomes the tokens `first` and `second`, on the left and the right side of a pruning. Only the right one is in a new
+    // step.
     fn open(
         &mut self,
         sketch: &Sketch,
@@ -208,7 +210,7 @@ impl Trail {
         Ok(())
     }
 
-    // `def`: a call of a definition becomes its body.
+    // `def`: the token `mark`, at a call of a definition, becomes the token `first` on the definition's body, in the same step.
     fn define(&mut self, sketch: &Sketch, mark: u64, first: u64) -> Result<(), AllocError> {
         let shape = self.shape(sketch, mark);
         let step = self.take(mark);
@@ -218,7 +220,7 @@ impl Trail {
         Ok(())
     }
 
-    // `send`: a publication goes to the right side of a `>x>`, a copy of which begins.
+    // `send`: a publication of the token `mark` goes to a `>x>`. The token `first` is on a copy of its right side, in the step round the `>x>`.
     fn send(&mut self, mark: u64, first: u64) -> Result<(), AllocError> {
         let step = self.take(mark);
         if let Some((right, outer)) = self.taker(step) {
@@ -227,14 +229,14 @@ impl Trail {
         Ok(())
     }
 
-    // `call`: a token becomes a pending call.
+    // `call`: the token `mark` becomes the pending call with this number, in its step.
     fn call(&mut self, mark: u64, number: u64) -> Result<(), AllocError> {
         let step = self.take(mark);
         self.calls.insert(number, step)?;
         Ok(())
     }
 
-    // `return` with a value: a token stands on it.
+    // `return` with a value: the token `first` stands on it, in the call's step.
     fn answer(&mut self, call: u64, first: u64) -> Result<(), AllocError> {
         if let Some(step) = self.calls.remove(&call) {
             let token = Token {
@@ -247,7 +249,7 @@ impl Trail {
         Ok(())
     }
 
-    // `right`: the left side of an otherwise has halted, and a token stands on the right one.
+    // `right`: the left side of the otherwise `mark` has halted, and the token `first` stands on the right one, in a new step.
     fn resume(&mut self, mark: u64, first: u64) -> Result<(), AllocError> {
         if let Some(entered) = self.others.remove(&mark) {
             let inner = self.add_step(Way::Then(mark), entered.outer)?;
@@ -273,7 +275,7 @@ impl Trail {
         None
     }
 
-    // A token comes to stand at a spot.
+    // The token `mark` comes to stand at a spot, in the step with this number.
     fn put(&mut self, mark: u64, spot: usize, step: usize) -> Result<(), AllocError> {
         let token = Token {
             spot: Some(spot),
@@ -296,6 +298,7 @@ impl Trail {
     fn add_step(&mut self, way: Way, outer: usize) -> Result<usize, AllocError> {
         let number = self.steps.len().saturating_add(1);
         let home = match way {
+            // A `>x>` is no home: the step round it has one, or there is none (0).
             Way::SeqLeft(_) => self.step(outer).map_or(0, |step| step.home),
             // Into a pruning or an otherwise: `Step::home`.
             _ => number,

@@ -146,6 +146,7 @@ impl Allowed {
     // Adds the moves of tokens in the order of their marks. Of those that aren't kept it only counts the tokens that can go on. The error is refused
     // memory.
     fn add_tokens(&mut self, marked: &Marked, program: &Program) -> Result<(), AllocError> {
+        // Marks count from 1, and `new_mark` is the next one: so these are all marks so far.
         for mark in 1..marked.new_mark() {
             if self.first.len() >= KEPT {
                 break;
@@ -166,6 +167,7 @@ impl Allowed {
 
     // Adds `lost` for each cell and then `right` for each otherwise whose side has halted. The error is refused memory.
     fn add_sides(&mut self, marked: &Marked) -> Result<(), AllocError> {
+        // Cells count from 1, and `new_cell` is the next one.
         for cell in 1..marked.new_cell() {
             if let Some(entry) = side_entry(marked, Side::Right(cell)) {
                 self.add(entry)?;
@@ -182,6 +184,7 @@ impl Allowed {
 
     // Adds the return of each call that is due now. The error is refused memory.
     fn add_returns(&mut self, marked: &Marked) -> Result<(), AllocError> {
+        // Calls count from 1, and `new_call` is the next one.
         for call in 1..marked.new_call() {
             match marked.due(call) {
                 Some((answer, time)) if time == marked.now() => {

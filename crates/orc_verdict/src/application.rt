@@ -29,8 +29,7 @@ fn reason_or_memory(
     ensures why { Stops program.now answers.now entry.now marked.old result }
     ensures same { marked.new ≡ marked.old }
 {
-    // A law that the prover is shown, here and in `apply`: an entry leads somewhere exactly if no reason but Deep and Memory refuses it. Nothing
-    // runs.
+    // A law that the prover is shown: an entry leads somewhere exactly if no reason but Deep and Memory refuses it. Nothing runs.
     meets_and_leads();
     match first_reason(marked, program, answers, entry) {
         Some(reason) => reason,
@@ -88,6 +87,7 @@ pub fn apply(
     ensures why { IfErr result (λ why. AreHeights (code program.now) heights.now → Stops program.now answers.now entry.now marked.old why) }
     ensures refused { OnErr result (marked.new ≡ marked.old) }
 {
+    // A law that the prover is shown: an entry leads somewhere exactly if no reason but Deep and Memory refuses it. Nothing runs.
     meets_and_leads();
     if stays_shallow(heights, marked, entry) {
         return match apply_at_any_depth(alloc, marked, program, answers, entry) {

@@ -88,7 +88,7 @@ pub fn depth_of(alloc: Global, heights: &Heights, marked: &Marked) -> Result<usi
 {
     let nodes = marked.nodes();
     let mut deepest = 0;
-    // What is left to look at, each node with the levels above it.
+    // What is left to look at, each node with the levels above it. Node 0 is above the whole term.
     let mut left = Vec::new(alloc);
     left.push((0, 0))?;
     // Each turn looks at one node of the term, and the turn after the last finds nothing left.

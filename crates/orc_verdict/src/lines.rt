@@ -91,6 +91,7 @@ pub fn check_lines<R: Read + Drop>(
         return Err(refused(&mut lines, answers, none));
     };
     let most = heights.most();
+    // The marked term is the program's main term at first.
     let levels = heights.at(program.source());
     let mut taken = Taken { marked, levels };
     // Overwritten with each entry that is read.
@@ -99,6 +100,7 @@ pub fn check_lines<R: Read + Drop>(
         match take(alloc, program, answers, &heights, most, &mut taken, &entry) {
             Ok(()) => {}
             Err(why) => {
+                // The refused entry is the last one that was read.
                 let at = lines.read() as u64;
                 return Err(refused(&mut lines, answers, CheckFault { at, why }));
             }

@@ -13,13 +13,14 @@ use orc_checker::{Marked, Next, Side};
 use orc_rules::entry::Entry;
 use orc_rules::value::Answer;
 
-/// The entry in which a token does what it can do, with the next numbers. None where it waits.
+/// The entry in which the token with the mark `token` does what it can do, `next`, with the next numbers for what the entry makes. None where the
+/// token waits.
 pub fn token_entry(marked: &Marked, token: u64, next: Next) -> Option<Entry>
     ensures fits { IfSome result (λ e. (x : Context) (p : Place) → Offers x p token next → Fits x p e) }
     ensures waits { IfNone result (next ≡ Wait) }
 {
     let mark = marked.new_mark();
-    // It never saturates: no run has 2^64 marks. The contract leaves new numbers open, so no proof has to exclude it.
+    // The mark of a second new token. It never saturates: no run has 2^64 marks. The contract leaves new numbers open, so no proof has to exclude it.
     let second = mark.saturating_add(1);
     match next {
         Next::End => Some(Entry::End(token)),
@@ -57,7 +58,9 @@ pub fn side_entry(marked: &Marked, side: Side) -> Option<Entry>
     }
 }
 
-/// The entry in which a call returns with an answer, with the next mark for a value. Whether the call pends and has this answer isn't asked.
+/// The entry in which a call returns with an answer, with the next mark for a value. The function doesn't ask whether the call pends, has this answer
+/// and is due: the caller does. Where the table gives the call this answer, the entry has the right answer; where the call is due now with it, the
+/// entry is on time.
 pub fn return_entry(marked: &Marked, call: u64, answer: Answer) -> Entry
     ensures answer { (x : Context) (p : Place) → IsAnswer x p call answer → IsAnswered x p result }
     ensures time { (x : Context) (p : Place) → IsDue x.sites p.calls call answer p.now → IsOnTime x p result }

@@ -23,7 +23,7 @@ pub(crate) enum Standing {
     Nothing,
     /// `stop`.
     Stop,
-    /// A value, a cell that has none yet, void, or a name.
+    /// An operand: a value, a cell that has no value yet, void (a cell that will never have one), or the name of a variable.
     On(Param),
     /// A call of this site: whether an argument is void, and whether the arguments are the values that the entry names.
     Site(u32, bool, bool),
@@ -39,7 +39,7 @@ pub(crate) enum Standing {
     Other,
 }
 
-/// Whether the operands are these values in a scope, as many and in this order.
+/// Whether the operands of a call, read in this scope, are the values `args`, as many and in this order.
 fn are_these(marked: &Marked, operands: &[Operand], args: &[Value], scope: usize) -> bool
     ensures { AreOrdered marked.now.scopes → result ≡ these (map (close_param (env_of marked.now.cells marked.now.scopes scope)) (map param_of operands.now)) args.now }
 {
@@ -59,7 +59,7 @@ fn are_these(marked: &Marked, operands: &[Operand], args: &[Value], scope: usize
     }
 }
 
-/// Whether some operand is void in a scope.
+/// Whether some operand is void in a scope: a variable that will never get a value.
 fn some_void(marked: &Marked, operands: &[Operand], scope: usize) -> bool
     ensures { AreOrdered marked.now.scopes → result ≡ has_void (map (close_param (env_of marked.now.cells marked.now.scopes scope)) (map param_of operands.now)) }
 {
@@ -81,7 +81,7 @@ fn is_defined(program: &Program, definition: u32) -> bool
     (definition as usize) < program.definitions().len()
 }
 
-/// What a token on a node of the program stands on; `args` are the arguments that the entry names.
+/// What a token on this `node` of the program stands on, whose variables are read in this `scope`. `args` are the arguments that the entry names.
 fn on_node(
     marked: &Marked,
     program: &Program,
@@ -110,7 +110,7 @@ fn on_node(
     }
 }
 
-/// What the token of a node stands on, Nothing where the node is no token; `args` are the arguments that the entry names.
+/// What a node of the marked term with this `kind` stands on, if it is a token; else Nothing. `args` are the arguments that the entry names.
 pub(crate) fn standing_of(
     marked: &Marked,
     program: &Program,
@@ -132,7 +132,7 @@ pub(crate) fn standing_of(
     }
 }
 
-/// The token that an entry names. None if it names none, as `right`, whose mark is an otherwise's.
+/// The mark of the token that an entry names. None if it names none, as `right`, whose mark is an otherwise's.
 pub fn mark_named(entry: &Entry) -> Option<u64>
     ensures { result ≡ mark_of entry.now }
 {
@@ -167,7 +167,7 @@ pub(crate) fn args_named(entry: &Entry) -> &[Value]
     }
 }
 
-/// Whether a publication goes to a `>x>`.
+/// Whether a publication goes to a `>x>`, by its `taker`.
 fn goes_on(taker: Option<Taker>) -> bool
     ensures { result ≡ is_sent taker }
 {
@@ -177,7 +177,7 @@ fn goes_on(taker: Option<Taker>) -> bool
     }
 }
 
-/// Whether a publication goes to this cell.
+/// Whether a publication goes to this cell, by its `taker`.
 fn goes_to(cell: u64, taker: Option<Taker>) -> bool
     ensures { result ≡ is_bound cell taker }
 {
@@ -187,7 +187,7 @@ fn goes_to(cell: u64, taker: Option<Taker>) -> bool
     }
 }
 
-/// Whether nothing takes a publication.
+/// Whether nothing in the term takes a publication, by its `taker`: the program publishes it.
 fn goes_out(taker: Option<Taker>) -> bool
     ensures { result ≡ is_whole taker }
 {
@@ -218,7 +218,7 @@ fn on_void(standing: Standing) -> bool
     }
 }
 
-/// Whether the standing is a call of that site with the arguments that were asked for.
+/// Whether the token stands on a call of this site with the arguments that the entry names.
 fn on_call(site: u32, standing: Standing) -> bool
     ensures { result ≡ is_call site standing }
 {

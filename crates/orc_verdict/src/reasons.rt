@@ -38,7 +38,7 @@ enum Asked {
     Nothing,
 }
 
-/// What an entry has to find in the term.
+/// What an entry has to find in the term. Of the entry's numbers `s` is a mark, `k` a call and `c` a cell.
 fn asks_for(entry: &Entry) -> Asked
     ensures { result ≡ asked_by entry.now }
 {
@@ -130,7 +130,7 @@ fn are_same(first: Option<u64>, second: Option<u64>) -> bool
     }
 }
 
-/// Whether the entry is the cancel that is due next, or neither is a cancel due nor the entry one.
+/// Whether the entry is the cancel that is due next or, where no cancel is due, no cancel. `program` and `answers` are for the contract alone.
 fn is_in_turn(marked: &Marked, program: &Program, answers: &Answers, entry: &Entry) -> bool
     ensures { Tests program.now answers.now entry.now marked.now reason.Cancel result }
 {
@@ -144,10 +144,11 @@ fn are_both(first: bool, second: bool) -> bool
     first && second
 }
 
-/// Whether what the entry names is there: its token, call, cell or otherwise.
+/// Whether what the entry names is there: its token, call, cell or otherwise. `program` and `answers` are for the contract alone.
 fn is_there(marked: &Marked, program: &Program, answers: &Answers, entry: &Entry) -> bool
     ensures { Tests program.now answers.now entry.now marked.now reason.Mark result }
 {
+    // A law that the prover is shown: a mark, a call or a cell is on at most one node of the term. Nothing runs.
     journal_is_numbered();
     match asks_for(entry) {
         Asked::Token(s) => has_token(marked, s),
@@ -159,10 +160,12 @@ fn is_there(marked: &Marked, program: &Program, answers: &Answers, entry: &Entry
     }
 }
 
-/// Whether the kind of term, the name, the arguments, the value and the taker are the entry's. True of an entry that names no token.
+/// Whether the kind of term on which the entry's token stands, the name, the arguments, the value and the taker are the entry's. True of an entry
+/// that names no token.
 fn fits(marked: &Marked, program: &Program, answers: &Answers, entry: &Entry) -> bool
     ensures { Tests program.now answers.now entry.now marked.now reason.Form result }
 {
+    // A law that the prover is shown: a mark, a call or a cell is on at most one node of the term. Nothing runs.
     journal_is_numbered();
     let Some(s) = mark_named(entry) else {
         return true;
@@ -184,7 +187,7 @@ fn is_after(b: u64, a: u64) -> bool
     b != 0 && b - 1 == a
 }
 
-/// Whether the new numbers of an entry are the next mark, call and cell.
+/// Whether the new numbers of an entry are these: the next mark, call and cell. A second new mark, `b`, has to follow the first one, `a`.
 fn are_next(entry: &Entry, mark: u64, call: u64, cell: u64) -> bool
     ensures { result ≡ counted_as entry.now mark call cell }
 {
@@ -203,7 +206,7 @@ fn are_next(entry: &Entry, mark: u64, call: u64, cell: u64) -> bool
     }
 }
 
-/// Whether the new numbers of the entry are the next ones. True of an entry without new numbers.
+/// Whether the new numbers of the entry are the next ones. True of an entry without new numbers. `program` and `answers` are for the contract alone.
 fn is_counted(marked: &Marked, program: &Program, answers: &Answers, entry: &Entry) -> bool
     ensures { Tests program.now answers.now entry.now marked.now reason.Number result }
 {
@@ -226,10 +229,12 @@ fn answer_named(entry: &Entry) -> Option<(u64, Answer)>
     }
 }
 
-/// Whether a return has the table's answer. True of any other entry.
+/// Whether a return has the table's answer. True of any other entry. `program` and `answers` are for the contract alone: `marked` has the table's
+/// answers to the calls that were made.
 fn is_answered(marked: &Marked, program: &Program, answers: &Answers, entry: &Entry) -> bool
     ensures { Tests program.now answers.now entry.now marked.now reason.Answer result }
 {
+    // A law that the prover is shown: a mark, a call or a cell is on at most one node of the term. Nothing runs.
     journal_is_numbered();
     match answer_named(entry) {
         Some((k, answer)) => is_answer(marked, k, answer),
@@ -252,6 +257,7 @@ fn is_on_time(marked: &mut Marked, program: &Program, answers: &Answers, entry: 
     ensures time { Tests program.now answers.now entry.now marked.old reason.Time result }
     ensures same { marked.new ≡ marked.old }
 {
+    // A law that the prover is shown: a mark, a call or a cell is on at most one node of the term. Nothing runs.
     journal_is_numbered();
     match tick_named(entry) {
         Some(t) => can_tick(marked, program, t),
@@ -302,10 +308,12 @@ fn left_is_over(marked: &Marked, s: u64) -> bool
     }
 }
 
-/// Whether the side that the entry drops, as halted, has halted. True of any entry but `lost` and `right`.
+/// Whether the side that the entry drops, as halted, has halted. True of any entry but `lost` and `right`. `program` and `answers` are for the
+/// contract alone.
 fn is_over(marked: &Marked, program: &Program, answers: &Answers, entry: &Entry) -> bool
     ensures { Tests program.now answers.now entry.now marked.now reason.Halted result }
 {
+    // A law that the prover is shown: a mark, a call or a cell is on at most one node of the term. Nothing runs.
     journal_is_numbered();
     match asks_for(entry) {
         Asked::Cell(c) => right_is_over(marked, c),

@@ -107,6 +107,7 @@ pub(crate) fn take(
     ensures done { IfOk result (λ _. AreHeights (code program.now) heights.now → AreAtMost heights.now most → Takes program.now answers.now entry.now taken.old.marked taken.old.levels taken.new.marked taken.new.levels) }
     ensures refused { IfErr result (λ why. AreHeights (code program.now) heights.now → Stops program.now answers.now entry.now taken.old.marked why) }
 {
+    // A law that the prover is shown: an entry leads somewhere exactly if no reason but Deep and Memory refuses it. Nothing runs.
     meets_and_leads();
     match taken.marked.step(program, answers, entry) {
         Ok(()) => {}
@@ -118,7 +119,8 @@ pub(crate) fn take(
             };
         }
     }
-    // The cheapest bound comes first, then that by the nodes' ranks, and last the exact depth.
+    // Three bounds, the cheapest first: that so far and what the entry may add; that which the marked term knows without a look at all its nodes, or
+    // after one look; and the exact depth.
     match allowed(taken.levels, deepening(most, entry)) {
         Some(levels) => {
             taken.levels = levels;
@@ -150,6 +152,7 @@ pub(crate) fn state_of(program: &Program, marked: &mut Marked) -> State
     ensures state { (x : Context) (p : Place) → x.definitions ≡ definitions program.now → Spells x (code program.now) marked.old p → IsAt x p result }
     ensures same { marked.new ≡ marked.old }
 {
+    // A law that the prover is shown: the tests for halted, quiet and ticks are right. Nothing runs.
     tests_are_right();
     if marked.has_halted() {
         return State::Halted;
@@ -177,7 +180,7 @@ fn entry_at(journal: &Journal, at: usize) -> Entry
 {
     match journal.get(at) {
         Some(entry) => entry,
-        // Proved by `requires`.
+        // By `requires` there is such an entry.
         None => unreachable!(),
     }
 }
