@@ -42,6 +42,7 @@ impl<F: Read> Read for Input<F> {
 /// The files of the system, and standard input or why it can't be read.
 #[derive(Drop)]
 struct SystemFiles<'a, R> {
+    /// The runtime, which opens files and gives memory.
     rt: &'a R,
     stdin: Result<Stdin, ReadFault>,
 }
@@ -98,6 +99,7 @@ impl<R: rt::Files + AllocGlobal> Files for SystemFiles<'_, R> {
         }
     }
 
+    // The file of a path, or standard input for `-`, which the caller then reads. The error is why it can't be opened.
     fn open(&mut self, path: &str) -> Result<Input<R::File>, ReadFault> {
         self.open_input(path)
     }
@@ -141,6 +143,7 @@ fn ask_for_explanations(alloc: Global, words: &mut Vec<String>) -> Result<(), Al
         None => false,
     };
     if takes_it && !words.iter().any(|word| word.as_str() == OPTION) {
+        // The words begin with the program's name and the command.
         words.insert(2, String::from_str(alloc, OPTION)?)?;
     }
     Ok(())
@@ -158,6 +161,7 @@ fn main(rt: HostRuntime) -> ExitCode {
     let Ok(mut words) = args.collect::<Vec<String>>(alloc) else {
         return refused(&rt);
     };
+    // Puts `--explain` among the words where mistakes are to be explained without it.
     if explains(&rt, words.as_slice()) && ask_for_explanations(alloc, &mut words).is_err() {
         return refused(&rt);
     }
@@ -167,5 +171,6 @@ fn main(rt: HostRuntime) -> ExitCode {
     };
     let mut out = rt.stdout();
     let mut err = rt.stderr();
+    // `command` gives the exit status.
     ExitCode::from(command(&rt, alloc, words.as_slice(), &mut files, &mut out, &mut err))
 }

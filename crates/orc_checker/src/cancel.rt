@@ -1,4 +1,7 @@
 //! The entry `cancel`: a call that a bind has dropped is cancelled.
+//!
+//! In contracts `Enters` says that the entry leads from the old state to the new one, and `IsRightlyRefused` that the fault is Memory or names a
+//! condition that the entry breaks.
 
 ghost use Rattle.std.specs.Prelude.{◌≡◌, IfOk, IfErr, OnErr};
 ghost use Rattle.orc_rules.specs.Nodes.{code};
@@ -12,8 +15,8 @@ use orc_rules::entry::RuleFault;
 use orc_rules::program::Program;
 
 impl Marked {
-    /// `cancel K`: the cancel of call `k` is no longer due. The error is Cancel: it isn't the next one that is due. The contract alone needs
-    /// `program`.
+    /// `cancel K`: a bind dropped call `k` while it was pending; its cancel was due, and isn't any longer. The error is Cancel: another call's cancel
+    /// is the next one, or none is due. `program` is there for the contract alone.
     pub(crate) fn cancel(&mut self, program: &Program, k: u64) -> Result<(), RuleFault>
         ensures done { IfOk result (λ _. Enters (code program.now) (entry.Cancel k) self.old self.new) }
         ensures refused { OnErr result (self.new ≡ self.old) }

@@ -9,13 +9,15 @@ use std::alloc::{AllocError, Global};
 use std::collections::BTreeSet;
 use std::marker::Model;
 
-/// Nodes with due times, in units of logical time, the earliest first. A node may stay that waits no more.
+/// Nodes of the marked term that wait for calls, with the calls' due times in units of logical time, the earliest first. A node may stay here that
+/// waits no more.
 #[derive(Drop)]
 pub(crate) struct Due {
     /// The due time first and then the node, so that the set has them by their times.
     nodes: BTreeSet<(u64, u32)>,
 }
 
+// In contracts a `Due` is the list of its times and nodes.
 impl Model for Due {
     ghost Value = { List (ℕ × ℕ) };
 
@@ -40,7 +42,7 @@ impl Due {
         Ok(Due { nodes })
     }
 
-    /// Notes a node with a time; does nothing if there is no time. The error is refused memory; the notes so far stay.
+    /// Notes a node with the time at which its call is due; does nothing if there is no time. The error is refused memory; the notes so far stay.
     #[inline(always)]
     fn put(&mut self, time: Option<u64>, node: u32) -> Result<(), AllocError>
         ensures noted { OnOk result (IfSome time (λ t. IsNoted self.new t node)) }

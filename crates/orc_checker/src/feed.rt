@@ -1,4 +1,7 @@
 //! The entry `send`: a publication that a `>x>` takes.
+//!
+//! In contracts `Enters` says that the entry leads from the old state to the new one, and `IsRightlyRefused` that the fault is Memory or names a
+//! condition that the entry breaks.
 
 ghost use Rattle.std.specs.Prelude.{◌≡◌, ◌+◌, ◌<◌, ◌≤◌, false, length, Some, IfErr, IfOk, OnErr};
 ghost use Rattle.orc_rules.specs.Nodes.{code};
@@ -24,7 +27,8 @@ use orc_term::nodes::Nodes;
 use orc_term::room::{push_within, reserve};
 use orc_term::walk::{Taker, rise, way_up};
 
-/// Puts a new `|` above the node `at`, which becomes its left part and keeps its number; its right part is a new node with this tip.
+/// Puts a new `|` above node `at` of the marked term. That node becomes the left part of the `|` and keeps its number; the right part is a new node
+/// with this tip.
 #[inline(always)]
 fn graft(nodes: &mut Nodes, at: u32, tip: Tip)
     requires there { at < length nodes.old.items }
@@ -37,7 +41,7 @@ fn graft(nodes: &mut Nodes, at: u32, tip: Tip)
 {
     let parent = nodes.node_at(at as usize).parent;
     let both = nodes.next_number();
-    // Its right part is the node that is pushed next.
+    // The right part of the `|` is the node that is pushed next.
     nodes.push_within(Node {
         kind: Kind::Two(Double::Both, at, both + 1),
         parent,
@@ -46,12 +50,14 @@ fn graft(nodes: &mut Nodes, at: u32, tip: Tip)
         kind: Kind::Leaf(tip),
         parent: both,
     });
+    // The `|` takes the place of node `at` in the node above.
     nodes.lift(at, both);
 }
 
 impl Marked {
-    /// `send S A V`: the token ends, and token `a` is on a copy of the right side, in a new scope where x is `v`. The errors are those of `bearer`,
-    /// Form where no `>x>` takes its publication, Number and Memory.
+    /// `send S A V`: token `s`, which stands on the value `v`, ends, and token `a` is on a copy of the right side of the `>x>` that takes `v`, in a
+    /// new scope where x is `v`. The errors: Cancel where a cancel is due, Mark where there is no token `s`, Form where it doesn't stand on `v` or no
+    /// `>x>` takes `v`, Number where `a` isn't the next mark, and Memory.
     pub(crate) fn send(
         &mut self,
         program: &Program,
@@ -71,7 +77,8 @@ impl Marked {
         let Taker::Fed(at) = taker else {
             return Err(RuleFault::Form);
         };
-        // The taker names a `>x>`, so the next two don't refuse.
+        // `at` is the node of the `>x>`, so the next two don't refuse. It keeps x, its right side g, which is a node of the program, and the scope of
+        // g.
         let Kind::One(single, _) = self.nodes.node_at(at as usize).kind else {
             return Err(RuleFault::Form);
         };
@@ -79,8 +86,10 @@ impl Marked {
             return Err(RuleFault::Form);
         };
         self.expect_mark(a)?;
+        // Memory for what is added below comes first, so that nothing fails once the term has changed.
         reserve(&mut self.nodes, &mut self.flags, &mut self.marks).map_err(|_| RuleFault::Memory)?;
         reserve_scope(&mut self.scopes).map_err(|_| RuleFault::Memory)?;
+        // What is left of the token's node is a `stop` without a token.
         self.nodes.write_node(
             bearer.at as usize,
             Node {
@@ -103,9 +112,11 @@ impl Marked {
             at,
             Tip::Token(a, g, scope_count(&self.scopes)),
         );
+        // Token `a` is on the copy of the right side.
         push_within(&mut self.marks, both + 1);
         // The `|` hasn't halted before `settle`, since the token that publishes is below it.
         push_flag(&mut self.flags, &mut self.candidates, both, false);
+        // The copy may have halted from the start, as a `stop` has.
         let halted = self.halts.at(g as usize);
         push_flag(&mut self.flags, &mut self.candidates, both + 1, halted);
         // The token's node has halted, and what is above it may have halted by that.

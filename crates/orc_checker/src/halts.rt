@@ -14,10 +14,12 @@ use std::marker::Model;
 pub struct Halts {
     /// For each node whether its term has halted.
     pub(crate) flags: Vec<bool>,
-    /// A flag for each node, which `stillness` overwrites: so its questions need no memory of their own.
+    /// A flag for each node, scratch memory of `stillness`: asking whether a token can move overwrites these flags, and so needs no memory of its
+    /// own.
     pub(crate) active: Vec<bool>,
 }
 
+// In contracts a `Halts` is the list of its `flags`. The scratch flags `active` are at least as many.
 impl Model for Halts {
     ghost Value = { List Bool };
 
@@ -26,7 +28,7 @@ impl Model for Halts {
     ghost invariant = { λ h. length h.flags.items ≤ length h.active.items };
 }
 
-// Whether a node's term has halted, by the flags of its parts.
+// Whether the term of a node of the program has halted. `flags` has the flags of the nodes before it, and its parts are among these.
 fn flag_of(flags: &Vec<bool>, node: TermNode) -> bool
     ensures { result ≡ node_flag flags.now.items node }
 {

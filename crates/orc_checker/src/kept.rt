@@ -23,7 +23,7 @@ pub struct Kept {
     flat: Flat,
 }
 
-// `inverse` gets what is kept back from its call: only so may a type with a model be `Copy`.
+// For the prover: `inverse` gives back from a call how it is kept. Only with this clause may a type with a model be `Copy`.
 impl Model for Kept {
     ghost use Rattle.orc_checker.specs.Kept.{called_in, flat_of, is_again};
     ghost use Rattle.orc_checker.specs.declared.rest.Called.{Called};

@@ -1,4 +1,6 @@
 //! The labels that entries show: what can be seen of a step from outside.
+//!
+//! In contracts `Spells x code m p` says that the marked term m stands at the place p of a journal.
 
 ghost use Rattle.std.specs.Prelude.{◌≡◌, ◌++◌, List, IfOk, OnOk, OnErr};
 ghost use Rattle.orc_rules.specs.Journal.{Place};
@@ -16,12 +18,14 @@ use orc_term::arena::{Double, Kind};
 use orc_term::nodes::Nodes;
 use std::alloc::{AllocError, Global};
 
-/// Adds the cell of the node above, if that is an opened pruning with the node at `place` as its right side. The error is refused memory.
+/// `above` is the kind of the node above the node at `place`. If it is an opened pruning that has the node at `place` as its right side, adds the
+/// pruning's cell to `cells`. The error is refused memory.
 fn push_cell(cells: &mut Vec<u64>, above: Kind, place: u32) -> Result<(), AllocError>
     ensures { OnOk result (cells.new.items ≡ cells.old.items ++ cell_above above place) }
 {
     if let Kind::Two(double, left, _) = above {
         if let Double::Side(cell) = double {
+            // A pruning has two parts, so one that isn't its left side is its right side.
             if left != place {
                 cells.push(cell)?;
             }
@@ -30,7 +34,7 @@ fn push_cell(cells: &mut Vec<u64>, above: Kind, place: u32) -> Result<(), AllocE
     Ok(())
 }
 
-/// The cells of the prunings that have a node in their right sides, the outermost first. The error is refused memory.
+/// The cells of the prunings that have node `from` of the marked term in their right sides, the outermost first. The error is refused memory.
 fn cells_around(alloc: Global, nodes: &Nodes, from: u32) -> Result<Vec<u64>, AllocError>
     ensures { IfOk result (λ cells. AreAround nodes.now.items from cells.items) }
 {
@@ -38,6 +42,7 @@ fn cells_around(alloc: Global, nodes: &Nodes, from: u32) -> Result<Vec<u64>, All
     let mut place = from;
     // Each step goes to the node above. The bound shows that the loop ends.
     for _steps in 0..nodes.len() {
+        // Node 0 is the top. The cells were found from the innermost pruning outwards.
         if place == 0 {
             cells.reverse();
             return Ok(cells);
@@ -64,7 +69,8 @@ impl Marked {
         }
     }
 
-    /// The label of an entry, whether it is allowed or not: None for a move of marks or a tick. Only a `call` has errors, those of `cells_of`.
+    /// The label of an entry, whether the entry is allowed or not: None for a move of marks (`end`, `fork`, `seq`, `other`) or a tick. Only a `call`
+    /// has errors: Cancel where a cancel is due, Mark where there is no such token, Memory.
     fn label(&self, alloc: Global, entry: &Entry) -> Result<Option<Label>, RuleFault>
         ensures { IfOk result (λ label. (x : Context) (l : Listing) (p : Place) → Spells x (code l) self.now p → IsLabel p entry.now label) }
     {
@@ -86,14 +92,16 @@ impl Marked {
             Entry::Publish(_, v) => Ok(Some(Label::Publish(*v))),
             Entry::Cancel(k) => Ok(Some(Label::Cancel(*k))),
             Entry::Call(s, k, site, args) => {
+                // A call's label has the cells of the prunings that have the call in their right sides: when one of them is bound, the call is
+                // dropped.
                 let cells = self.cells_of(alloc, *s)?;
                 Ok(Some(Label::Call(*k, *site, args.copied(), cells)))
             }
         }
     }
 
-    /// Applies one entry and gives its label, None for a move of marks or a tick. After a RuleFault nothing has changed; it isn't always the first
-    /// reason for which the entry is refused.
+    /// Applies one entry and gives its label, None for a move of marks or a tick. `answers` is the table of what sites answer. After a RuleFault
+    /// nothing has changed. The fault names a condition that the entry breaks, not always the first such one.
     pub fn apply(
         &mut self,
         alloc: Global,
@@ -104,7 +112,7 @@ impl Marked {
         ensures done { IfOk result (λ label. Shows program.now answers.now entry.now self.old self.new label) }
         ensures refused { OnErr result (self.new ≡ self.old) }
     {
-        // First, since the entry uses up the token whose place a call's label needs.
+        // The label comes first, since the entry uses up the token whose place a call's label needs.
         let label = self.label(alloc, entry)?;
         self.step(program, answers, entry)?;
         Ok(label)

@@ -6,14 +6,16 @@ ghost use Rattle.orc_term.specs.Ranks.{AreLevelsAtMost};
 use crate::marked::Marked;
 
 impl Marked {
-    /// At most so many nodes are one below another under node 0. None while that isn't known, after memory for it was refused.
+    /// A bound on the depth of the marked term: at most so many nodes are one below another under node 0. None while that isn't known, after memory
+    /// for it was refused.
     pub fn levels_below(&self) -> Option<usize>
         ensures { IfSome result (AreLevelsAtMost self.now.nodes) }
     {
         self.nodes.levels_below()
     }
 
-    /// Looks at all nodes to make `levels_below` as small as it can be; None if memory for it is refused. Nothing of the term changes.
+    /// Looks at all nodes to make `levels_below` as small as it can be. If memory for that is refused, `levels_below` is None then. Nothing of the
+    /// term changes.
     pub fn renew_levels(&mut self)
         ensures { self.new ≡ self.old }
     {

@@ -8,7 +8,8 @@ ghost use Rattle.orc_checker.specs.Index.{node_by, pruning_with, otherwise_with,
 use orc_term::arena::{Double, Kind, Node, Single, Tip};
 use orc_term::nodes::Nodes;
 
-/// The node that a table of places gives for a number, with its place. None if the table has no such number.
+/// `places` has for each mark, or for each cell's pruning, the node on which it was put. Gives that node for the mark or cell `number`, with the
+/// node's place in the marked term. None if `places` has no such number.
 pub(crate) fn node_by(nodes: &Nodes, places: &Vec<u32>, number: u64) -> Option<(u32, Node)>
     ensures { result ≡ node_by nodes.now.items (slice_get places.now.items number) }
 {
@@ -21,7 +22,7 @@ pub(crate) fn node_by(nodes: &Nodes, places: &Vec<u32>, number: u64) -> Option<(
     }
 }
 
-/// The tip of the node, if token `s` is on it.
+/// The tip of a node of this kind, where token `s` is on it: on a node of the program, or on a value. None where it isn't.
 pub(crate) fn tip_with(kind: Kind, s: u64) -> Option<Tip>
     ensures { result ≡ tip_with kind s }
 {
@@ -34,7 +35,7 @@ pub(crate) fn tip_with(kind: Kind, s: u64) -> Option<Tip>
     }
 }
 
-/// Whether the node waits for call `k`.
+/// Whether a node of this kind waits for call `k`.
 pub(crate) fn waits_with(kind: Kind, k: u64) -> bool
     ensures { result ≡ waits_with kind k }
 {
@@ -44,7 +45,7 @@ pub(crate) fn waits_with(kind: Kind, k: u64) -> bool
     }
 }
 
-/// The left and the right side of the pruning of cell `c`, if the node is it.
+/// The nodes of the left and of the right side, if a node of this kind is the pruning of cell `c`.
 pub(crate) fn pruning_with(kind: Kind, c: u64) -> Option<(u32, u32)>
     ensures { result ≡ pruning_with kind c }
 {
@@ -54,7 +55,8 @@ pub(crate) fn pruning_with(kind: Kind, c: u64) -> Option<(u32, u32)>
     }
 }
 
-/// If this is the node of otherwise `s`: the node of its left side, and its right side, which is a node of the program in a scope.
+/// If a node of this kind is otherwise `s`: the node of its left side in the marked term, its right side's node in the program, and the scope of the
+/// right side.
 pub(crate) fn otherwise_with(kind: Kind, s: u64) -> Option<(u32, u32, u32)>
     ensures { result ≡ otherwise_with kind s }
 {

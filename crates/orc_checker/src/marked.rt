@@ -1,4 +1,7 @@
 //! A marked term and what goes with it; how an entry is applied, and where the token is that it names.
+//!
+//! In contracts `Begins` and `Applies` say that the state is that of the journal's beginning, and that the entry leads from the old state to the new
+//! one; `IsRightlyRefused` that the fault is Memory or names a condition that the entry breaks.
 
 ghost use Rattle.std.specs.Prelude.{◌≡◌, ℕ, suc, [], length, Some, IfOk, IfErr, IfSome, IfNone, OnErr};
 ghost use Rattle.orc_rules.specs.Journal.{begin};
@@ -123,7 +126,7 @@ pub(crate) fn token_node(mark: u64, node: u32, spot: Spot) -> Node
     }
 }
 
-/// Tests the second new mark of an entry: it has to be the one after the first, `a`. The error is Number: `b` is another number.
+/// Tests the second new mark of an entry, `b`: it has to be the one after the first, `a`. The error is Number: `b` is another number.
 pub(crate) fn expect_after(a: u64, b: u64) -> Result<(), RuleFault>
     ensures next { IfOk result (λ _. b ≡ suc a) }
     ensures refused { IfErr result (λ r. (r ≡ reason.Number) × (b ≡ suc a → ⊥)) }
@@ -136,7 +139,8 @@ pub(crate) fn expect_after(a: u64, b: u64) -> Result<(), RuleFault>
     }
 }
 
-/// The value that an operand is in a scope. None if it is void, a cell that isn't bound, or a name that the scope doesn't have.
+/// The value that an operand is in scope `scope`, where `cells` says what has become of each cell. None if it is void, a cell that isn't bound, or a
+/// name that the scope doesn't have.
 #[inline(always)]
 fn value_of(
     scopes: &[StoredScope],
@@ -167,7 +171,7 @@ impl Marked {
         let mut prunings = Vec::with_capacity(alloc, 1)?;
         let halts = Halts::new(alloc, program)?;
         let root = program.source();
-        // A token keeps the program's node in 32 bits.
+        // A token keeps a node of the program in 32 bits, so the root's number has to fit. If it doesn't, that counts as refused memory.
         fits(root)?;
         let halted = halts.at(root);
         // Node 0 is above the term, whose root is node 1, so that every node of the term has a parent.
@@ -229,8 +233,9 @@ impl Marked {
         })
     }
 
-    /// Applies one entry. After a RuleFault nothing has changed; each but Memory names a condition that the entry breaks, not always the first
-    /// such one. Of a `def` this is promised only in a closed program, which each checked program is.
+    /// Applies one entry. `answers` is the table of what sites answer. After a RuleFault nothing has changed; each fault but Memory names a condition
+    /// that the entry breaks, not always the first such one. Of a `def` this is promised only in a closed program, whose names are all bound and
+    /// whose calls fit their definitions, as each checked program is.
     pub fn step(
         &mut self,
         program: &Program,
@@ -269,6 +274,7 @@ impl Marked {
         ensures missing { IfNone result (NoToken self.now.nodes s) }
     {
         let (at, node) = node_by(&self.nodes, &self.marks, s)?;
+        // The node on which mark `s` was put may have become another one since.
         let tip = tip_with(node.kind, s)?;
         Some(Holder {
             at,
@@ -348,7 +354,7 @@ impl Marked {
         }
     }
 
-    /// The error is Number: `a` isn't the next mark.
+    /// Tests that `a`, the mark of a new token, is the next mark. The error is Number: `a` is another number.
     pub(crate) fn expect_mark(&self, a: u64) -> Result<(), RuleFault>
         ensures next { IfOk result (λ _. a ≡ length self.now.marks) }
         ensures refused { IfErr result (λ r. (r ≡ reason.Number) × (a ≡ length self.now.marks → ⊥)) }

@@ -1,5 +1,8 @@
 //! The entries `end`, `fork`, `seq` and `other`, which only move marks: no rule of Orc is used. The term with its marks left out stays the same, so
 //! the flag of the token's node stays right.
+//!
+//! In contracts `Enters` says that the entry leads from the old state to the new one, and `IsRightlyRefused` that the fault is Memory or names a
+//! condition that the entry breaks.
 
 ghost use Rattle.std.specs.Prelude.{◌≡◌, IfOk, IfErr, OnErr};
 ghost use Rattle.orc_rules.specs.Nodes.{code};
@@ -16,7 +19,8 @@ use orc_term::flags::push_flag;
 use orc_term::room::{fits, push_within, reserve_numbered};
 
 impl Marked {
-    /// `end S`: the token on a `stop` is removed. The errors are those of `spot`, and Form where it isn't on one.
+    /// `end S`: token `s` on a `stop` is removed. The errors: Cancel where a cancel is due, Mark where there is no token `s`, and Form where it isn't
+    /// on a `stop`.
     pub(crate) fn end(&mut self, program: &Program, s: u64) -> Result<(), RuleFault>
         ensures done { IfOk result (λ _. Enters (code program.now) (entry.End s) self.old self.new) }
         ensures refused { OnErr result (self.new ≡ self.old) }
@@ -26,6 +30,7 @@ impl Marked {
         let TermNode::Stop = program.node(spot.node as usize) else {
             return Err(RuleFault::Form);
         };
+        // What is left is a `stop` without a token.
         self.nodes.write_node(
             spot.at as usize,
             Node {
@@ -36,8 +41,8 @@ impl Marked {
         Ok(())
     }
 
-    /// `fork S A B`: the token on `f | g` gives way to one on each side. The errors are those of `spot`, Form where it isn't on a `|`, Number and
-    /// Memory.
+    /// `fork S A B`: token `s` on `f | g` gives way to token `a` on f and token `b` on g. The errors: Cancel where a cancel is due, Mark where there
+    /// is no token `s`, Form where it isn't on a `|`, Number where `a` and `b` aren't the next two marks, and Memory.
     pub(crate) fn fork(
         &mut self,
         program: &Program,
@@ -55,6 +60,7 @@ impl Marked {
         };
         self.expect_mark(a)?;
         expect_after(a, b)?;
+        // Reserves memory for two nodes and two marks, and checks that f and g fit the 32 bits in which new nodes keep them.
         reserve_numbered(&mut self.nodes, &mut self.flags, &mut self.marks, f, g).map_err(
             |_| RuleFault::Memory,
         )?;
@@ -69,8 +75,10 @@ impl Marked {
         );
         self.nodes.push_within(token_node(a, f as u32, spot));
         self.nodes.push_within(token_node(b, g as u32, spot));
+        // The nodes on which the marks `a` and `b` are.
         push_within(&mut self.marks, n);
         push_within(&mut self.marks, n + 1);
+        // A side such as `stop` has halted before anything moves in it.
         let left = self.halts.at(f);
         let right = self.halts.at(g);
         push_flag(&mut self.flags, &mut self.candidates, n, left);
@@ -78,7 +86,8 @@ impl Marked {
         Ok(())
     }
 
-    /// `seq S A`: the token on `f >x> g` gives way to one on f. The errors are those of `spot`, Form where it isn't on a `>x>`, Number and Memory.
+    /// `seq S A`: token `s` on `f >x> g` gives way to token `a` on f. The errors: Cancel where a cancel is due, Mark where there is no token `s`,
+    /// Form where it isn't on a `>x>`, Number where `a` isn't the next mark, and Memory.
     pub(crate) fn seq(&mut self, program: &Program, s: u64, a: u64) -> Result<(), RuleFault>
         ensures done { IfOk result (λ _. Enters (code program.now) (entry.Seq s a) self.old self.new) }
         ensures refused { OnErr result (self.new ≡ self.old) }
@@ -89,10 +98,12 @@ impl Marked {
             return Err(RuleFault::Form);
         };
         self.expect_mark(a)?;
+        // Reserves memory for the node and the mark, and checks that f and g fit the 32 bits in which nodes keep them.
         reserve_numbered(&mut self.nodes, &mut self.flags, &mut self.marks, f, g).map_err(
             |_| RuleFault::Memory,
         )?;
-        // The new node is that of the token on f. A copy of g gets a node with each publication of f (`send`).
+        // The token's node becomes the `>x>`, which keeps g and its scope: `send` adds a copy of g at each publication of f. The new node n is that
+        // of the token on f.
         let n = self.nodes.next_number();
         self.nodes.write_node(
             spot.at as usize,
@@ -103,13 +114,14 @@ impl Marked {
         );
         self.nodes.push_within(token_node(a, f as u32, spot));
         push_within(&mut self.marks, n);
+        // An f such as `stop` has halted before anything moves in it.
         let halted = self.halts.at(f);
         push_flag(&mut self.flags, &mut self.candidates, n, halted);
         Ok(())
     }
 
-    /// `other S A`: the token on `f ; g` gives way to one on f, and its mark is the otherwise's number. The errors are those of `spot`, Form where it
-    /// isn't on a `;`, Number and Memory.
+    /// `other S A`: token `s` on `f ; g` gives way to token `a` on f, and `s` is the otherwise's number from now on. The errors: Cancel where a
+    /// cancel is due, Mark where there is no token `s`, Form where it isn't on a `;`, Number where `a` isn't the next mark, and Memory.
     pub(crate) fn other(&mut self, program: &Program, s: u64, a: u64) -> Result<(), RuleFault>
         ensures done { IfOk result (λ _. Enters (code program.now) (entry.Other s a) self.old self.new) }
         ensures refused { OnErr result (self.new ≡ self.old) }
@@ -122,10 +134,12 @@ impl Marked {
         self.expect_mark(a)?;
         // The node keeps the otherwise's number in 32 bits.
         fits(s as usize).map_err(|_| RuleFault::Memory)?;
+        // Reserves memory for the node and the mark, and checks that f and g fit the 32 bits in which nodes keep them.
         reserve_numbered(&mut self.nodes, &mut self.flags, &mut self.marks, f, g).map_err(
             |_| RuleFault::Memory,
         )?;
-        // The new node is that of the token on f. g gets one when the right side starts (`right`).
+        // The token's node becomes the otherwise, which keeps g and its scope: g gets a node when the right side starts (`right`). The new node n is
+        // that of the token on f.
         let n = self.nodes.next_number();
         self.nodes.write_node(
             spot.at as usize,
@@ -136,6 +150,7 @@ impl Marked {
         );
         self.nodes.push_within(token_node(a, f as u32, spot));
         push_within(&mut self.marks, n);
+        // An f such as `stop` has halted before anything moves in it.
         let halted = self.halts.at(f);
         push_flag(&mut self.flags, &mut self.candidates, n, halted);
         Ok(())

@@ -1,4 +1,7 @@
 //! What a token can do next.
+//!
+//! In contracts `Spells x code m p` says that the marked term m stands at the place p of a journal, `Offers` and `Allows` that the token can do this
+//! next, and `AreOrdered` that each scope extends an earlier one.
 
 ghost use Rattle.std.specs.Prelude.{◌≡◌, ◌+◌, ◌≤◌, List, length, IfSome, Some, slice_get};
 ghost use Rattle.orc_rules.specs.Journal.{Place};
@@ -47,12 +50,12 @@ pub enum Next {
     Publish(Value),
     /// It calls the site of this number.
     Call(u32, Args),
-    /// It waits for cells, one for each position at which `awaited` gives one.
+    /// It waits until cells are bound or lost: `awaited` gives the cell for each position of the token's call or variable.
     Wait,
 }
 
-// Adds the values of the operands to `args`, `MOST_ARGUMENTS` at most; it recurses once an operand. False where one of them has no value: the
-// arguments are of no use then.
+// Adds the values that the operands have in `scope` to `args`, which then has `MOST_ARGUMENTS` at most; it recurses once an operand. False where an
+// operand has no value: `args` is of no use then.
 fn push_values(
     scopes: &[StoredScope],
     cells: &[Bound],
@@ -77,7 +80,7 @@ fn push_values(
     }
 }
 
-// What a token can do on a call of a site.
+// What a token can do on a call of `site` with these operands in `scope`: call it, end since an argument is void, or wait for cells.
 fn call_from(
     scopes: &[StoredScope],
     cells: &[Bound],
@@ -99,8 +102,8 @@ fn call_from(
     }
 }
 
-// What a token can do on a node of the program. None on a value, whose publication is `publication`'s matter, and on a call without a definition,
-// which no checked program has.
+// What a token can do on node `node` of the program in `scope`. None on a value, since that depends on what takes the publication (`publication`
+// tells it), and on a call of a definition that isn't there, which no checked program has.
 fn move_from(
     program: &Program,
     scopes: &[StoredScope],
@@ -143,8 +146,8 @@ fn nth_of(operands: &[Operand], i: usize) -> Option<Operand>
     }
 }
 
-// The operand of a node at a position: of a variable or a value at 0, of a call of a site at each, counted from 0. None at any other position and for
-// any other node.
+// The operand of a node of the program at a position, counted from 0: a variable or a value has itself at 0, and a call of a site has its arguments.
+// None at any other position and for any other node.
 fn operand_at(program: &Program, node: usize, position: usize) -> Option<Operand>
     ensures { IfSome result (IsOperandAt (code program.now node) position) }
 {
@@ -164,6 +167,7 @@ impl Marked {
             Ok(holder) => holder,
             Err(_) => return None,
         };
+        // A token on a value publishes it. What takes the publication says with which entry.
         if let Some(value) = self.value_under(program, holder.tip) {
             return self.publication(holder.at as usize, value);
         }
@@ -194,8 +198,8 @@ impl Marked {
         }
     }
 
-    /// The cell for which a token waits at a position of its site call's arguments, counted from 0, or as a variable at position 0.
-    /// None where there is no such token or position, the argument there isn't an unbound cell, or a cancel is due.
+    /// The cell for which a token waits at `position`: that of an argument on a call of a site, counted from 0, and 0 on a variable. None where there
+    /// is no such token or position, the operand there isn't an unbound cell, or a cancel is due.
     pub fn awaited(&self, program: &Program, token: u64, position: usize) -> Option<u64>
         ensures { IfSome result (λ c. (x : Context) (p : Place) → x.definitions ≡ definitions program.now → Spells x (code program.now) self.now p → AwaitsAt p token position c) }
     {

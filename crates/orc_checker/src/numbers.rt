@@ -1,5 +1,7 @@
 //! The numbers that new entries must give out next, and the time. The lists of marks and of cells have an item for number 0, which names nothing, so
 //! their lengths are the next numbers.
+//!
+//! In contracts `Spells x code m p` says that the marked term m stands at the place p of a journal.
 
 ghost use Rattle.std.specs.Prelude.{◌≡◌, ◌+◌, length, slice_get};
 ghost use Rattle.orc_rules.specs.Journal.{Place};
@@ -31,7 +33,7 @@ impl Marked {
         self.rest.calls.len() as u64 + 1
     }
 
-    /// The least call whose cancel is due. None where none is.
+    /// The least number of a call whose cancel is due, which the next entry has to cancel. None where no cancel is due.
     pub fn next_cancel(&self) -> Option<u64>
         ensures { result ≡ slice_get self.now.rest.to_cancel 0 }
     {

@@ -1,4 +1,7 @@
 //! The entry `right`: the right side of an otherwise starts.
+//!
+//! In contracts `Enters` says that the entry leads from the old state to the new one, and `IsRightlyRefused` that the fault is Memory or names a
+//! condition that the entry breaks.
 
 ghost use Rattle.std.specs.Prelude.{◌≡◌, ℕ, [], IfOk, IfErr, IfSome, IfNone, OnErr};
 ghost use Rattle.orc_rules.specs.Term.{Term};
@@ -37,7 +40,7 @@ pub(crate) struct Otherwise {
 }
 
 impl Marked {
-    /// The nodes of the side at node `root`, before it is dropped. The error is Memory.
+    /// The nodes of the side whose topmost node is `root`, for a caller that drops it afterwards. The error is Memory.
     pub(crate) fn side_at(&self, root: u32) -> Result<Vec<u32>, RuleFault>
         ensures nodes { IfOk result (λ side. AreNodesOf self.now.nodes root side.items) }
         ensures refused { IfErr result (λ r. r ≡ reason.Memory) }
@@ -55,6 +58,7 @@ impl Marked {
         ensures missing { IfNone result (NoOtherwise self.now.nodes s) }
     {
         let (at, entered) = node_by(&self.nodes, &self.marks, s)?;
+        // The node on which mark `s` was put is the otherwise only while the otherwise is entered and hasn't published.
         let (left, node, scope) = otherwise_with(entered.kind, s)?;
         Some(Otherwise {
             at,
@@ -78,8 +82,8 @@ impl Marked {
         self.find_otherwise(s).ok_or(RuleFault::Mark)
     }
 
-    /// `right S A`: a token on the right side takes the place of the otherwise, whose left side is dropped. The errors are those of `otherwise`,
-    /// Number, Halted where the left side hasn't halted, and Memory.
+    /// `right S A`: token `a` on the right side takes the place of otherwise `s`, whose left side is dropped. The errors: Cancel where a cancel is
+    /// due, Mark where there is no otherwise `s`, Number where `a` isn't the next mark, Halted where the left side hasn't halted, and Memory.
     pub(crate) fn right(&mut self, s: u64, a: u64) -> Result<(), RuleFault>
         ensures done { IfOk result (λ _. (code : ℕ → Term) → Enters code (entry.Right s a) self.old self.new) }
         ensures refused { OnErr result (self.new ≡ self.old) }
@@ -91,7 +95,9 @@ impl Marked {
             return Err(RuleFault::Halted);
         }
         let side = self.side_at(otherwise.left)?;
+        // Memory for what is added below comes first, so that nothing fails once the term has changed.
         reserve(&mut self.nodes, &mut self.flags, &mut self.marks).map_err(|_| RuleFault::Memory)?;
+        // `wake` writes the node, and lists it among those with tokens, since an otherwise has none.
         self.nodes.wake(
             otherwise.at,
             Node {
@@ -109,6 +115,7 @@ impl Marked {
             otherwise.at,
             halted,
         );
+        // Token `a` is on the otherwise's node.
         push_within(&mut self.marks, otherwise.at);
         Ok(())
     }

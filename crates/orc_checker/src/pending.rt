@@ -11,7 +11,7 @@ use orc_calls::due_time;
 use orc_term::arena::{Kind, Tip};
 use orc_term::nodes::Nodes;
 
-/// When the call of that number is due. None if there is no such call, or it is never due.
+/// When the call of this number, from 1, is due, in units of logical time. None if there is no such call, or it is never due.
 fn due_of(calls: &Vec<Kept>, call: u64) -> Option<u64>
     ensures due { IfSome result (IsDueOf calls.now.items call) }
     ensures never { IfNone result ((t : ℕ) → IsDueOf calls.now.items call t → ⊥) }
@@ -45,7 +45,8 @@ fn waits_until(nodes: &Nodes, calls: &Vec<Kept>, i: usize, time: u64) -> bool
     }
 }
 
-/// The least due time of the calls that pend, None if none is ever due. Notes before it, of calls that pend no more, are dropped.
+/// The least due time of the calls that pend, None if none is ever due. The notes before it are of calls that pend no more: they are taken out of
+/// `due`.
 fn next_due(nodes: &Nodes, calls: &Vec<Kept>, due: &mut Due) -> Option<u64>
     requires { AreNoted nodes.now.items calls.now.items due.old }
     ensures next { IsNext nodes.now.items calls.now.items result }
@@ -55,13 +56,15 @@ fn next_due(nodes: &Nodes, calls: &Vec<Kept>, due: &mut Due) -> Option<u64>
         if waits_until(nodes, calls, node as usize, time) {
             return Some(time);
         }
+        // The node waits no more, or for a call that isn't due at this time.
         due.drop_first();
     }
     None
 }
 
 impl Rest {
-    /// The least due time of the calls for which nodes wait, in units of logical time. None if none is ever due.
+    /// The least due time of the calls for which nodes wait, in units of logical time. None if none is ever due. Earlier notes, of nodes that wait no
+    /// more, are taken out of `due`.
     pub(crate) fn next_due(&self, nodes: &Nodes, due: &mut Due) -> Option<u64>
         requires { AreNoted nodes.now.items self.now.calls due.old }
         ensures next { IsNext nodes.now.items self.now.calls result }

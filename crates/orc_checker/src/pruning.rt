@@ -1,4 +1,7 @@
 //! The entries `open`, `bind` and `lost`: a pruning is opened, and its cell gets a value or never will.
+//!
+//! In contracts `Enters` and `Applies` say that the entry leads from the old state to the new one, and `IsRightlyRefused` that the fault is Memory or
+//! names a condition that the entry breaks.
 
 ghost use Rattle.std.specs.Prelude.{◌≡◌, ◌+◌, ◌<◌, ◌≤◌, ◌^◌, [], length, reverse, slice_get, slice_set, true, false, vec_len, vec_capacity, IfOk, IfErr, IfSome, IfNone, OnErr};
 ghost use Rattle.orc_rules.specs.Nodes.{code};
@@ -50,7 +53,7 @@ pub(crate) fn reserve_scope(scopes: &mut Vec<StoredScope>) -> Result<(), AllocEr
     scopes.try_reserve(1)
 }
 
-/// Reserves memory for one more scope and one more cell with its pruning. The error is that of `reserve_scope`.
+/// Reserves memory for one more scope and one more cell with its pruning. The error is refused memory, or a scope's number of over 32 bits.
 fn reserve_cell(
     scopes: &mut Vec<StoredScope>,
     cells: &mut Vec<Bound>,
@@ -86,12 +89,12 @@ fn bind_cell(cells: &mut Vec<Bound>, c: u64, bound: Bound)
 }
 
 impl Marked {
-    /// The error is Number: `c` isn't the next cell.
+    /// Tests that `c`, the cell of a new pruning, is the next cell. The error is Number: `c` is another number.
     fn expect_cell(&self, c: u64) -> Result<(), RuleFault>
         ensures next { IfOk result (λ _. c ≡ length self.now.cells) }
         ensures refused { IfErr result (λ r. (r ≡ reason.Number) × (c ≡ length self.now.cells → ⊥)) }
     {
-        // `cells` has an item for cell 0 too, which is none, so its length is the next cell.
+        // `cells` has an item for number 0 too, which is no cell, so its length is the next cell.
         if c == self.cells.len() as u64 {
             Ok(())
         } else {
@@ -99,8 +102,9 @@ impl Marked {
         }
     }
 
-    /// `open S C A B`: the token on `f <x< g` gives way to one on each side, and x is cell `c` in a new scope. The errors are those of `spot`, Form,
-    /// Number and Memory.
+    /// `open S C A B`: token `s` on `f <x< g` gives way to token `a` on f and token `b` on g, and x is cell `c` in f, by a new scope. The errors:
+    /// Cancel where a cancel is due, Mark where there is no token `s`, Form where it isn't on a `<x<`, Number where `c`, `a` or `b` isn't the next
+    /// one, and Memory.
     pub(crate) fn open(
         &mut self,
         program: &Program,
@@ -120,6 +124,7 @@ impl Marked {
         self.expect_cell(c)?;
         self.expect_mark(a)?;
         expect_after(a, b)?;
+        // Memory for the scope and the cell, and then for two nodes and two marks. f and g have to fit the 32 bits in which new nodes keep them.
         reserve_cell(&mut self.scopes, &mut self.cells, &mut self.prunings).map_err(
             |_| RuleFault::Memory,
         )?;
@@ -136,6 +141,7 @@ impl Marked {
                 outer: spot.scope,
             }),
         );
+        // Where the token on f stands: in the new scope.
         let inner = Spot {
             scope: scope_count(&self.scopes),
             ..spot
@@ -152,13 +158,15 @@ impl Marked {
         // The left side alone is inside the new scope.
         self.nodes.push_within(token_node(a, f as u32, inner));
         self.nodes.push_within(token_node(b, g as u32, spot));
+        // The nodes on which the marks `a` and `b` are.
         push_within(&mut self.marks, n);
         push_within(&mut self.marks, n + 1);
+        // A side such as `stop` has halted before anything moves in it.
         let left = self.halts.at(f);
         let right = self.halts.at(g);
         push_flag(&mut self.flags, &mut self.candidates, n, left);
         push_flag(&mut self.flags, &mut self.candidates, n + 1, right);
-        // `f <x< g` hadn't halted; opened it has if both sides have.
+        // A `<x<` that isn't opened hasn't halted. Once it is opened, it has halted if both sides have.
         settle(
             &self.nodes,
             &mut self.flags,
@@ -166,24 +174,25 @@ impl Marked {
             spot.at,
             both(left, right),
         );
+        // The pruning of cell `c` is on the token's node.
         push_within(&mut self.prunings, spot.at);
         Ok(())
     }
 
-    /// Tests that cell `c` is neither bound nor lost. The error is Mark: it is, or there is no such cell.
+    /// Tests that cell `c` is open: neither bound nor lost. The error is Mark, which means that there is no such cell, or that it is bound or lost.
     fn unbound(&self, c: u64) -> Result<(), RuleFault>
         ensures open { IfOk result (λ _. slice_get self.now.cells c ≡ Some (IsCell c)) }
         ensures refused { IfErr result (λ r. (r ≡ reason.Mark) × (slice_get self.now.cells c ≡ Some (IsCell c) → ⊥)) }
     {
         match self.cells.get(c as usize) {
-            // `cells` has such a cell's own number. Its item for number 0 is void.
+            // An open cell's item is its own number. The item of number 0 is void, since there is no cell 0.
             Some(Bound::Cell(d)) if *d == c => Ok(()),
             _ => Err(RuleFault::Mark),
         }
     }
 
-    /// The nodes of the right side at node `right`, before it is dropped, and the calls that pend in it, the greatest first; no calls where cancels
-    /// aren't recorded. The error is Memory.
+    /// What leaves the term when the right side at node `right` is dropped: its nodes, and the calls that pend in it, the greatest first. No calls
+    /// where the journal doesn't record cancels. The error is Memory.
     fn leaving(&self, right: u32) -> Result<(Vec<u32>, Vec<u64>), RuleFault>
         ensures nodes { IfOk result (λ r. AreNodesOf self.now.nodes right r.0.items) }
         ensures recorded { IfOk result (λ r. self.now.rest.cancels ≡ true → AreRising (calls_at self.now.nodes r.0.items) (reverse r.1.items)) }
@@ -200,8 +209,9 @@ impl Marked {
         }
     }
 
-    /// `bind S C V`: the cell becomes `v`, the right side is dropped, and the cancels of its calls are due. The errors are those of `bearer`, Mark
-    /// where there is no such unbound cell, Form where anything else takes the publication, and Memory.
+    /// `bind S C V`: token `s` publishes `v` from the right side of cell `c`'s pruning. The cell becomes `v`, the right side is dropped, and the
+    /// cancels of its calls are due. The errors: Cancel where a cancel is due, Mark where there is no token `s` or no open cell `c`, Form where the
+    /// token doesn't stand on `v` or anything else takes its publication, and Memory.
     pub(crate) fn bind(
         &mut self,
         program: &Program,
@@ -222,6 +232,7 @@ impl Marked {
         let Taker::Bound(cell, at) = taker else {
             return Err(RuleFault::Form);
         };
+        // The publication binds another cell.
         if cell != c {
             return Err(RuleFault::Form);
         }
@@ -251,6 +262,7 @@ impl Marked {
             halted,
         );
         bind_cell(&mut self.cells, c, Bound::Is(v));
+        // The cancels of the calls that were dropped are due now, that of the least call first.
         self.rest.set_cancels(calls);
         Ok(())
     }
@@ -261,6 +273,7 @@ impl Marked {
         ensures missing { IfNone result (NoPruning self.now.nodes c) }
     {
         let (at, node) = node_by(&self.nodes, &self.prunings, c)?;
+        // The node on which the pruning was opened may have become another one since.
         let (left, right) = pruning_with(node.kind, c)?;
         Some(Pruning {
             at,
@@ -270,7 +283,7 @@ impl Marked {
         })
     }
 
-    /// Where the pruning of a cell stands. The errors: Cancel where a cancel is due, Mark where there is no such pruning.
+    /// Where the pruning of cell `c` stands. The errors: Cancel where a cancel is due, Mark where there is no such pruning.
     fn pruning(&self, c: u64) -> Result<Pruning, RuleFault>
         ensures free { IfOk result (λ _. self.now.rest.to_cancel ≡ []) }
         ensures there { IfOk result (λ o. at self.now.nodes o.parent o.at (AtTwo (IsSide c) o.left o.right)) }
@@ -283,8 +296,8 @@ impl Marked {
         self.find_pruning(c).ok_or(RuleFault::Mark)
     }
 
-    /// `lost C`: the cell becomes void, and the right side is dropped. The errors are those of `pruning`, Mark where the cell is bound, Halted where
-    /// the right side hasn't halted, and Memory. The contract alone needs `program`.
+    /// `lost C`: cell `c` becomes void, and the right side of its pruning is dropped. The errors: Cancel where a cancel is due, Mark where there is
+    /// no such pruning or the cell is bound, Halted where the right side hasn't halted, and Memory. `program` is there for the contract alone.
     pub(crate) fn lost(&mut self, program: &Program, c: u64) -> Result<(), RuleFault>
         ensures done { IfOk result (λ _. (t : Table) → Applies program.now t (entry.Lost c) self.old self.new) }
         ensures refused { OnErr result (self.new ≡ self.old) }

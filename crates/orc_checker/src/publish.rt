@@ -1,4 +1,7 @@
 //! The entry `publish`: a publication that nothing takes, so that the whole program publishes it.
+//!
+//! In contracts `Enters` says that the entry leads from the old state to the new one, and `IsRightlyRefused` that the fault is Memory or names a
+//! condition that the entry breaks.
 
 ghost use Rattle.std.specs.Prelude.{◌≡◌, IfErr, IfOk, OnErr};
 ghost use Rattle.orc_rules.specs.Nodes.{code};
@@ -16,7 +19,8 @@ use orc_term::flags::settle;
 use orc_term::walk::{Taker, rise, way_up};
 
 impl Marked {
-    /// `publish S V`: the token ends. The errors are those of `bearer`, and Form where a `>x>` or a pruning takes its publication.
+    /// `publish S V`: token `s`, which stands on the value `v`, ends. The errors: Cancel where a cancel is due, Mark where there is no token `s`,
+    /// Form where it doesn't stand on `v`, or a `>x>` or a pruning takes its publication.
     pub(crate) fn publish(&mut self, program: &Program, s: u64, v: Value) -> Result<(), RuleFault>
         ensures done { IfOk result (λ _. Enters (code program.now) (entry.Publish s v) self.old self.new) }
         ensures refused { OnErr result (self.new ≡ self.old) }
@@ -30,6 +34,7 @@ impl Marked {
         let Taker::Whole = taker else {
             return Err(RuleFault::Form);
         };
+        // What is left of the token's node is a `stop` without a token.
         self.nodes.write_node(
             bearer.at as usize,
             Node {

@@ -29,7 +29,7 @@ impl Marked {
         &self.rest.calls
     }
 
-    /// The parameter that an operand is in a scope; a name that isn't bound there is itself.
+    /// What an operand means in a scope: a value, a cell or void. A name that the scope doesn't have means itself.
     pub fn param(&self, operand: Operand, scope: usize) -> Param
         ensures { AreOrdered self.now.scopes → close_param (env_of self.now.cells self.now.scopes scope) (param_of operand) ≡ result }
     {

@@ -2,6 +2,8 @@
 //! since they shorten its indexes.
 //!
 //! `program_is_source` and `tests_are_right` show the prover laws of `orc_rules`; nothing runs.
+//!
+//! In contracts `Spells x code m p` says that the marked term m stands at the place p of a journal.
 
 ghost use Rattle.std.specs.Prelude.{◌≡◌, ◌↔◌, true};
 ghost use Rattle.orc_rules.specs.Idle.{can_move};
@@ -24,6 +26,7 @@ impl Marked {
         ensures next { (x : Context) (l : Listing) (p : Place) → Spells x (code l) self.old p → IsNextDue x (moment p) result }
         ensures same { self.new ≡ self.old }
     {
+        // A law that the prover is shown; nothing runs.
         program_is_source();
         self.rest.next_due(&self.nodes, &mut self.due)
     }
@@ -33,6 +36,7 @@ impl Marked {
         ensures moves { (x : Context) (p : Place) → x.definitions ≡ definitions program.now → Spells x (code program.now) self.old p → result ≡ can_move x.definitions (erase p.marked) }
         ensures same { self.new ≡ self.old }
     {
+        // A side that has halted is dropped by a rule.
         if let Some(_) = ended_side(&self.nodes, &self.flags, &mut self.candidates) {
             return true;
         }
@@ -52,6 +56,7 @@ impl Marked {
         ensures quiet { (x : Context) (p : Place) → x.definitions ≡ definitions program.now → Spells x (code program.now) self.old p → (result ≡ true) ↔ IsQuiet x (moment p) }
         ensures same { self.new ≡ self.old }
     {
+        // Laws that the prover is shown; nothing runs.
         tests_are_right();
         if self.has_halted() {
             return false;

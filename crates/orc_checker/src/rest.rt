@@ -42,13 +42,14 @@ pub struct Rest {
     pub(crate) cancels: bool,
 }
 
+// In contracts a `Rest` is the record of its fields, with the cancels in the order in which they come.
 impl Model for Rest {
     ghost Value = { Aside };
 
     ghost view = { λ r. record { calls = r.calls.items; counts = r.counts; time = r.time; to_cancel = reverse r.to_cancel.items; cancels = r.cancels } };
 }
 
-// Counts a call of a site with these arguments. The error is Memory; no count changes then.
+// Counts a call of `site` with these arguments, if a script answers the site. The error is Memory; no count changes then.
 #[inline(always)]
 fn count(counts: &mut Counts, answers: &Answers, site: u32, args: &Args) -> Result<(), RuleFault>
     ensures added { OnOk result (CountsCall answers.now.sites site args.now counts.old counts.new) }
@@ -91,7 +92,7 @@ impl Rest {
         })
     }
 
-    /// What the table says of the next call of a site with these arguments.
+    /// What the table of sites, `answers`, says of the next call of `site` with these arguments: an answer with a delay, or never.
     #[inline(always)]
     pub(crate) fn found(&self, answers: &Answers, site: u32, args: &Args) -> Found
         ensures { NextFound answers.now.sites self.now.counts site args.now result }
@@ -99,7 +100,7 @@ impl Rest {
         self.counts.next_call(answers, site, args).found
     }
 
-    /// Adds a call of a site with these arguments, and counts it. The error is Memory; nothing changes then.
+    /// Adds `called`, a call of `site` with these arguments, behind the calls made, and counts it. The error is Memory; nothing changes then.
     #[inline(always)]
     pub(crate) fn add(
         &mut self,
@@ -159,14 +160,14 @@ impl Rest {
         self.to_cancel.last().copied()
     }
 
-    /// Makes the cancels of these calls due, of the last one first. It replaces those that were due.
+    /// Makes the cancels of these calls due, that of the list's last call first. They replace those that were due.
     pub(crate) fn set_cancels(&mut self, calls: Vec<u64>)
         ensures { self.new ≡ record self.old { to_cancel = reverse calls.items } }
     {
         self.to_cancel = calls;
     }
 
-    /// Takes the cancel of call `k` off those that are due. The error is Cancel: it isn't the next one; nothing changes then.
+    /// Takes the cancel of call `k` off those that are due. The error is Cancel: another cancel is next, or none is due; nothing changes then.
     pub(crate) fn cancel(&mut self, k: u64) -> Result<(), RuleFault>
         ensures done { OnOk result (self.old ≡ record self.new { to_cancel = k ∷ self.new.to_cancel }) }
         ensures refused { OnErr result (self.new ≡ self.old) }
@@ -182,8 +183,8 @@ impl Rest {
     }
 }
 
-/// Whether a call's answer is this one and is due at this time. The errors: Answer where the table says another one or never, Time where it is due at
-/// another time or past the greatest one.
+/// Checks that a call's answer is `answer` and is due at `time`, in units of logical time. The errors: Answer where the table says another answer or
+/// never, Time where the answer is due at another time or past the greatest time.
 pub(crate) fn is_due_now(called: Called, answer: Answer, time: u64) -> Result<(), RuleFault>
     ensures due { IfOk result (λ _. IsDueNow called answer time) }
     ensures not_due { IfErr result (λ r. IsNotDue called.at called.found answer time r) }

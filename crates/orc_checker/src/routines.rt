@@ -1,4 +1,7 @@
 //! The entry `def`: calls of definitions.
+//!
+//! In contracts `Applies` says that the entry leads from the old state to the new one, and `IsRightlyRefused` that the fault is Memory or names a
+//! condition that the entry breaks.
 
 ghost use Rattle.std.specs.Prelude.{◌≡◌, ◌++◌, ◌∷◌, [], Some, None, slice_get, IfErr, IfOk, IfSome, IfNone, OnErr, OnOk};
 ghost use Rattle.orc_rules.specs.Nodes.{definitions, definition_of, source};
@@ -67,9 +70,9 @@ fn number_of(scope: usize) -> Result<u32, RuleFault>
     outer_number(scope).map_err(|_| RuleFault::Memory)
 }
 
-/// The scopes of a definition's parameters, to be added behind `scopes`: the last parameter first, each the outer of the next; and the number of the
-/// innermost, in which the body is: 0 without parameters. The errors: Form where the arguments are not as many, or one of them isn't bound in
-/// `scope`, and Memory.
+/// The scopes of the parameters `params` of a definition, to be added behind `scopes`, and the number of the last one, in which the body stands: 0
+/// without parameters. The last parameter's scope comes first, and each scope extends the one before. `operands` are the call's arguments, which have
+/// their meaning in `scope`. The errors: Form where they are not as many as the parameters, or one is a name that `scope` doesn't have, and Memory.
 fn parameter_scopes(
     alloc: Global,
     scopes: &[StoredScope],
@@ -107,8 +110,9 @@ fn parameter_scopes(
 }
 
 impl Marked {
-    /// `def S A`: a token on the definition's body takes the place of the one on the call. The errors are those of `spot` and `parameter_scopes`,
-    /// Form where it isn't on such a call, Number and Memory.
+    /// `def S A`: token `a` on the definition's body takes the place of token `s` on the call. The errors: Cancel where a cancel is due, Mark where
+    /// there is no token `s`, Form where it isn't on a call of a definition that is there, or the call's arguments don't fit the parameters, Number
+    /// where `a` isn't the next mark, and Memory.
     pub(crate) fn def(&mut self, program: &Program, s: u64, a: u64) -> Result<(), RuleFault>
         ensures done { IfOk result (λ _. (t : Table) → Applies program.now t (entry.Def s a) self.old self.new) }
         ensures refused { OnErr result (self.new ≡ self.old) }
@@ -131,7 +135,7 @@ impl Marked {
             operands,
             spot.scope as usize,
         )?;
-        // The token keeps the body in 32 bits.
+        // The new token keeps the body's number in 32 bits.
         fits(called.body).map_err(|_| RuleFault::Memory)?;
         self.marks.try_reserve(1).map_err(|_| RuleFault::Memory)?;
         // The last step that can fail: it changes nothing then.
@@ -143,6 +147,7 @@ impl Marked {
                 parent: spot.parent,
             },
         );
+        // Token `a` is on the node of token `s`.
         push_within(&mut self.marks, spot.at);
         // A body such as `stop` has halted before anything moves in it.
         let halted = self.halts.at(called.body);

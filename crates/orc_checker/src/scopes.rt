@@ -6,8 +6,8 @@ use crate::marked::Marked;
 use orc_env::StoredScope;
 
 impl Marked {
-    /// The scopes, scope 1 first. A scope with a cell keeps the cell's number when it is bound. The first scope with a cell is that of its pruning;
-    /// later ones are of parameters to which it was passed on.
+    /// The scopes, scope 1 first. A scope whose name stands for a cell keeps the cell's number when the cell is bound or lost. The first scope with a
+    /// cell is that of the cell's pruning; later ones are of parameters to which the cell was passed on.
     pub fn scopes(&self) -> &[StoredScope]
         ensures { result.now ≡ self.now.scopes }
     {

@@ -1,4 +1,6 @@
 //! Sides that have halted, and when calls are due.
+//!
+//! In contracts `Spells x code m p` says that the marked term m stands at the place p of a journal.
 
 ghost use Rattle.std.specs.Prelude.{◌≡◌, IfSome};
 ghost use Rattle.orc_rules.specs.Journal.{Place};
@@ -72,7 +74,8 @@ impl Marked {
         Some(self.part_has_halted(entered.left as usize))
     }
 
-    /// A side that has halted: of several the first of the candidates. None where none has. The term stays the same.
+    /// A side that has halted, and None where none has. Of several it is the first that became a candidate, or the one whose node has the least
+    /// number where memory for candidates was refused. The term stays the same.
     pub fn halted_side(&mut self) -> Option<Side>
         ensures side { (x : Context) (l : Listing) (p : Place) → Spells x (code l) self.old p → FindsSide p result }
         ensures same { self.new ≡ self.old }
@@ -80,6 +83,7 @@ impl Marked {
         let Some(place) = ended_side(&self.nodes, &self.flags, &mut self.candidates) else {
             return None;
         };
+        // The node above the side is its pruning or otherwise.
         let parent = self.nodes.node_at(place).parent;
         side_of(self.nodes.node_at(parent as usize).kind, place)
     }

@@ -1,4 +1,7 @@
 //! The entries `call` and `return`: calls of sites, and their answers.
+//!
+//! In contracts `EntersBy` says that the entry leads from the old state to the new one, and `IsRightlyRefused` that the fault is Memory or names a
+//! condition that the entry breaks.
 
 ghost use Rattle.std.specs.Prelude.{◌≡◌, ℕ, [], length, suc, IfOk, IfErr, IfSome, IfNone, OnErr};
 ghost use Rattle.orc_rules.specs.Term.{Term};
@@ -38,8 +41,9 @@ pub(crate) struct Pending {
 }
 
 impl Marked {
-    /// `call S K M(args)`: call `k` pends in the token's place. The errors are those of `spot`, Form where the token isn't on this call with these
-    /// values, Number and Memory.
+    /// `call S K M(args)`: token `s` on a call of the site M, whose number is `site`, gives way to call `k`, which pends. The errors: Cancel where a
+    /// cancel is due, Mark where there is no token `s`, Form where it isn't on a call of `site` whose arguments have the values `args`, Number where
+    /// `k` isn't the next call, and Memory.
     pub(crate) fn call(
         &mut self,
         program: &Program,
@@ -70,12 +74,14 @@ impl Marked {
             return Err(RuleFault::Form);
         }
         self.expect_call(k)?;
+        // With the call is stored what the table says of it.
         let called = Called {
             found: self.rest.found(answers, site, args),
             at: self.rest.time(),
             node: spot.at,
         };
-        // If the next line is refused the note stays, and does no harm: `next_due` drops notes of nodes that don't wait.
+        // The time at which the call is due is noted for ticks. If the next line is refused the note stays, and does no harm: `next_due` drops notes
+        // of nodes that don't wait.
         self.due.note(due_time(called.found, called.at), spot.at)?;
         self.rest.add(called, answers, site, args)?;
         // No flag changes: neither the token on the call nor the call that pends has halted.
@@ -89,7 +95,7 @@ impl Marked {
         Ok(())
     }
 
-    /// The error is Number: `k` isn't the next call.
+    /// Tests that `k`, the number of a new call, is the next one. The error is Number: `k` is another number.
     fn expect_call(&self, k: u64) -> Result<(), RuleFault>
         ensures next { IfOk result (λ _. k ≡ suc (length self.now.rest.calls)) }
         ensures refused { IfErr result (λ r. (r ≡ reason.Number) × (k ≡ suc (length self.now.rest.calls) → ⊥)) }
@@ -110,6 +116,7 @@ impl Marked {
     {
         let called = self.rest.call(k)?;
         let node = self.nodes.get(called.node as usize)?;
+        // The node on which the call was put may have become another one since.
         if !waits_with(node.kind, k) {
             return None;
         }
@@ -137,7 +144,9 @@ impl Marked {
     // Both returns ask when the next call is due and ignore the answer: asking drops the notes of calls that pend no more, which would otherwise stay
     // until the next tick. Only their contracts need `answers`: what the table says of a call was stored when it was made.
 
-    /// `return K A V`: token `a` is on the value. The errors are those of `pending`, Number, those of `is_due_now`, and Memory.
+    /// `return K A V`: call `k` returns the value `v`, and token `a` is on it. The errors: Cancel where a cancel is due, Mark where no call `k`
+    /// pends, Number where `a` isn't the next mark, Answer where the table says another answer or never, Time where the answer isn't due now, and
+    /// Memory.
     pub(crate) fn return_value(
         &mut self,
         answers: &Answers,
@@ -152,8 +161,10 @@ impl Marked {
         let pending = self.pending(k)?;
         self.expect_mark(a)?;
         is_due_now(pending.called, Answer::Value(v), self.rest.time())?;
+        // Memory for what is added below comes first, so that nothing fails once the term has changed.
         reserve(&mut self.nodes, &mut self.flags, &mut self.marks).map_err(|_| RuleFault::Memory)?;
-        // No flag changes: neither the call that pends nor a token on a value has halted.
+        // `wake` writes the node, and lists it among those with tokens. No flag changes: neither the call that pends nor a token on a value has
+        // halted.
         self.nodes.wake(
             pending.at,
             Node {
@@ -161,13 +172,15 @@ impl Marked {
                 parent: pending.parent,
             },
         );
+        // Token `a` is on the node of the call.
         push_within(&mut self.marks, pending.at);
         // Drops the notes of calls that pend no more.
         let _due = self.rest.next_due(&self.nodes, &mut self.due);
         Ok(())
     }
 
-    /// `return K halt`: what pends becomes `stop`. The errors are those of `pending` and of `is_due_now`.
+    /// `return K halt`: call `k` halts, and its node becomes a `stop` without a token. The errors: Cancel where a cancel is due, Mark where no call
+    /// `k` pends, Answer where the table says another answer or never, and Time where the answer isn't due now.
     pub(crate) fn return_halt(&mut self, answers: &Answers, k: u64) -> Result<(), RuleFault>
         ensures done { IfOk result (λ _. (c : ℕ → Term) → EntersBy answers.now.sites c (entry.ReturnHalt k) self.old self.new) }
         ensures refused { OnErr result (self.new ≡ self.old) }

@@ -1,4 +1,6 @@
 //! What has halted.
+//!
+//! In contracts `Spells x code m p` says that the marked term m stands at the place p of a journal.
 
 ghost use Rattle.std.specs.Prelude.{◌≡◌};
 ghost use Rattle.orc_rules.specs.Journal.{Place};

@@ -3,6 +3,8 @@
 //! A token may stand on a node of the program in whose parts a rule can be used, though they have no tokens of their own yet: `(1 | f()) >x> g` can
 //! move since `1` can. So a question about a node goes down to its parts. It doesn't recur: a part has a lower number than the node, so a loop from
 //! the node's number down to 0 comes to each node before its parts. `active` flags the parts that the loop has to look at.
+//!
+//! In contracts `AreOrdered` says that each scope extends an earlier one, and `AreHalts` that the flags say which of the program's terms have halted.
 
 ghost use Rattle.std.specs.Prelude.{◌≡◌, ◌≤◌, ◌||◌, ℕ, true, false, List, length, is_some};
 ghost use Rattle.orc_rules.specs.Idle.{is_ready, has_void};
@@ -24,7 +26,8 @@ use orc_term::arena::{Kind, Tip};
 use orc_term::flags::{flag_at, write_flag};
 use orc_term::nodes::Nodes;
 
-/// Whether a token on an operand can move in a scope: the operand is a value or void, not an unbound cell.
+/// Whether a token on an operand can move in scope `scope`, where `cells` says what has become of each cell: the operand is a value or void, not an
+/// unbound cell.
 fn is_ready(scopes: &[StoredScope], cells: &[Bound], operand: Operand, scope: usize) -> bool
     ensures { AreOrdered scopes.now → result ≡ is_ready (close_param (env_of cells.now scopes.now scope) (param_of operand)) }
 {
@@ -36,7 +39,8 @@ fn is_ready(scopes: &[StoredScope], cells: &[Bound], operand: Operand, scope: us
     }
 }
 
-/// Whether all operands are values in a scope. It recurses once an operand, `MOST_ARGUMENTS` times at most.
+/// Whether all operands are values in scope `scope`, where `cells` says what has become of each cell. It recurses once an operand, `MOST_ARGUMENTS`
+/// times at most.
 fn are_values(scopes: &[StoredScope], cells: &[Bound], operands: &[Operand], scope: usize) -> bool
     ensures { AreOrdered scopes.now → result ≡ is_some (values_of (params_in cells.now scopes.now scope operands.now)) }
 {
@@ -49,15 +53,16 @@ fn are_values(scopes: &[StoredScope], cells: &[Bound], operands: &[Operand], sco
     }
 }
 
-/// Whether a token on a call of a site can move in a scope: all operands are values, or one is void.
+/// Whether a token on a call of a site with these operands can move in scope `scope`, where `cells` says what has become of each cell: all operands
+/// are values, or one is void.
 fn is_callable(scopes: &[StoredScope], cells: &[Bound], operands: &[Operand], scope: usize) -> bool
     ensures { AreOrdered scopes.now → result ≡ (is_some (values_of (params_in cells.now scopes.now scope operands.now)) || has_void (params_in cells.now scopes.now scope operands.now)) }
 {
     are_values(scopes, cells, operands, scope) || has_void(scopes, cells, operands, scope)
 }
 
-/// Whether a node of the program can move in a scope by a rule of its own. It flags in `active` the parts by whose moves the node can move too, and
-/// clears no flag.
+/// Whether a node of the program can move in a scope by a rule of its own. `halts` says for each node whether its term has halted. The function flags
+/// in `active` the parts by whose moves the node can move too, and clears no flag.
 fn wakes(
     program: &Program,
     halts: &Vec<bool>,
@@ -149,8 +154,8 @@ fn can_term_move(
     false
 }
 
-/// Whether the token of a node of the marked term can move; false where the node has none. Of `halts` only the scratch
-/// flags change.
+/// Whether the token on a node of this kind of the marked term can move; false where no token is on it. Of `halts` only the scratch flags `active`
+/// change.
 fn can_token_move(
     program: &Program,
     halts: &mut Halts,
@@ -177,7 +182,7 @@ fn can_token_move(
     }
 }
 
-/// Whether some token can move. Only restless nodes are looked at, since all tokens are on these.
+/// Whether some token of the marked term can move. All tokens are on restless nodes, which are listed, so no others are looked at.
 pub(crate) fn can_some_move(
     program: &Program,
     halts: &mut Halts,

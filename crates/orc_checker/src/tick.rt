@@ -1,4 +1,7 @@
 //! The entry `tick`: the time goes on.
+//!
+//! In contracts `Applies` says that the entry leads from the old state to the new one, and `IsRightlyRefused` that the fault is Memory or names a
+//! condition that the entry breaks.
 
 ghost use Rattle.std.specs.Prelude.{◌≡◌, IfOk, IfErr, OnErr};
 ghost use Rattle.orc_rules.specs.Sites.{Table};
@@ -12,8 +15,8 @@ use orc_rules::laws::{program_is_source, tests_are_right};
 use orc_rules::program::Program;
 
 impl Marked {
-    /// `tick T`: the time becomes `t`. The errors: Cancel where a cancel is due, and Time where `t` isn't the least due time, isn't later than now,
-    /// or something else can happen now.
+    /// `tick T`: the time becomes `t`, in units of logical time. The errors: Cancel where a cancel is due, and Time where no pending call is ever
+    /// due, `t` isn't the least due time or isn't later than now, or something else can happen now.
     pub(crate) fn tick(&mut self, program: &Program, t: u64) -> Result<(), RuleFault>
         ensures done { IfOk result (λ _. (sites : Table) → Applies program.now sites (entry.Tick t) self.old self.new) }
         ensures refused { OnErr result (self.new ≡ self.old) }
@@ -32,6 +35,7 @@ impl Marked {
         if due != t || due <= self.rest.time() {
             return Err(RuleFault::Time);
         }
+        // A move of a token, or a side that has halted, comes before the time goes on.
         if self.can_move(program) {
             return Err(RuleFault::Time);
         }

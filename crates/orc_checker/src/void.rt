@@ -1,4 +1,7 @@
 //! The entry `void`: a token ends on void, or on a call of a site with a void argument. Void is what a variable becomes when its cell is lost.
+//!
+//! In contracts `Enters` says that the entry leads from the old state to the new one, and `IsRightlyRefused` that the fault is Memory or names a
+//! condition that the entry breaks.
 
 ghost use Rattle.std.specs.Prelude.{◌≡◌, true, false, IfErr, IfOk, OnErr};
 ghost use Rattle.orc_rules.specs.Idle.{has_halted, has_void};
@@ -21,7 +24,7 @@ use orc_rules::program::{Program, TermNode};
 use orc_term::arena::{Kind, Node, Tip};
 use orc_term::flags::settle;
 
-/// Whether an operand is void in a scope.
+/// Whether an operand is void in scope `scope`, where `cells` says what has become of each cell.
 fn is_void(scopes: &[StoredScope], cells: &[Bound], operand: Operand, scope: usize) -> bool
     ensures void { result ≡ true → AreOrdered scopes.now → IsVoid (param (close_param (env_of cells.now scopes.now scope) (param_of operand))) }
     ensures other { result ≡ false → AreOrdered scopes.now → IsVoid (param (close_param (env_of cells.now scopes.now scope) (param_of operand))) → ⊥ }
@@ -32,7 +35,8 @@ fn is_void(scopes: &[StoredScope], cells: &[Bound], operand: Operand, scope: usi
     }
 }
 
-/// Whether one of the operands is void in a scope. It recurses once an operand, `MOST_ARGUMENTS` times at most.
+/// Whether one of the operands is void in scope `scope`, where `cells` says what has become of each cell. It recurses once an operand,
+/// `MOST_ARGUMENTS` times at most.
 pub(crate) fn has_void(
     scopes: &[StoredScope],
     cells: &[Bound],
@@ -51,7 +55,7 @@ pub(crate) fn has_void(
 }
 
 impl Marked {
-    /// Whether a token stands on void, or on a call of a site with a void argument.
+    /// Whether the token at `spot` stands on void, or on a call of a site with a void argument.
     fn on_void(&self, program: &Program, spot: Spot) -> bool
         ensures void { result ≡ true → AreOrdered self.now.scopes → IsVoid (close (env_of self.now.cells self.now.scopes spot.scope) (code program.now spot.node)) }
         ensures other { result ≡ false → AreOrdered self.now.scopes → IsVoid (close (env_of self.now.cells self.now.scopes spot.scope) (code program.now spot.node)) → ⊥ }
@@ -74,7 +78,8 @@ impl Marked {
         }
     }
 
-    /// `void S`: the token ends. The errors are those of `spot`, and Form where it isn't on void or such a call.
+    /// `void S`: token `s` ends. The errors: Cancel where a cancel is due, Mark where there is no token `s`, and Form where it isn't on void or on a
+    /// call of a site with a void argument.
     pub(crate) fn void(&mut self, program: &Program, s: u64) -> Result<(), RuleFault>
         ensures done { IfOk result (λ _. Enters (code program.now) (entry.Void s) self.old self.new) }
         ensures refused { OnErr result (self.new ≡ self.old) }
@@ -84,6 +89,7 @@ impl Marked {
         if !self.on_void(program, spot) {
             return Err(RuleFault::Form);
         }
+        // What is left of the token's node is a `stop` without a token.
         self.nodes.write_node(
             spot.at as usize,
             Node {

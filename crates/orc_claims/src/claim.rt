@@ -29,7 +29,7 @@ pub enum Wanted {
 /// One thing that may happen.
 #[derive(Drop)]
 pub enum Simple {
-    /// This becomes of a call of the site of this number with such arguments.
+    /// What is wanted becomes of a call of the site of this number, whose arguments fit these slots.
     Call(u32, Vec<Slot>, Wanted),
     /// Such a value is published.
     Published(Slot),

@@ -1,4 +1,6 @@
 //! Claims on how many happenings there are, in all or at once.
+//!
+//! In contracts `first_bad good [] list` is the place, from 0, of the first happening of the list that isn't as `good` asks.
 
 ghost use Rattle.std.specs.Prelude.{◌≡◌, ◌≤◌, ◌<◌, ◌+◌, ◌^◌, [], IfOk};
 ghost use Rattle.orc_claims.specs.Claims.{counts, is_counted, is_uncrowded, number, out_after, up_to};
@@ -36,7 +38,7 @@ impl Event {
         Ok(up_to(by, happening.time))
     }
 
-    /// How many happenings meet the event, at the time `by` at the latest. The error is refused memory.
+    /// How many happenings meet the event, at the time `by` at the latest, where None is no bound. The error is refused memory.
     pub(crate) fn number(
         &self,
         alloc: Global,
@@ -45,6 +47,7 @@ impl Event {
     ) -> Result<u64, AllocError>
         ensures { IfOk result (λ n. n ≡ number self.now by happenings.now) }
     {
+        // Scratch memory for the values that the event's variables get.
         let mut found = Vec::new(alloc);
         let mut number: u64 = 0;
         for at in 0..happenings.len() {
@@ -67,6 +70,7 @@ impl Event {
     ) -> Result<Option<usize>, AllocError>
         ensures { IfOk result (λ place. place ≡ first_bad (is_counted self.now most by) [] happenings.now) }
     {
+        // Scratch memory for the values that the event's variables get.
         let mut found = Vec::new(alloc);
         let mut number: u64 = 0;
         for at in 0..happenings.len() {
@@ -109,7 +113,7 @@ impl Event {
             what: Occurrence::Call(*site, args.copied(), Phase::Called),
         };
         Ok(if self.is_met(&called, found)? {
-            // The journal has the call's beginning too, so it was counted.
+            // The journal has the call's beginning too, so the call was counted, and the subtraction doesn't saturate.
             out.saturating_sub(1)
         } else {
             out
@@ -126,7 +130,9 @@ impl Event {
     ) -> Result<Option<usize>, AllocError>
         ensures { IfOk result (λ place. place ≡ first_bad (is_uncrowded self.now most) [] happenings.now) }
     {
+        // Scratch memory for the values that the event's variables get.
         let mut found = Vec::new(alloc);
+        // How many calls that meet the event are pending after the happenings so far.
         let mut out: u64 = 0;
         for at in 0..happenings.len() {
             out = self.out_after(out, &happenings[at], &mut found)?;

@@ -1,6 +1,9 @@
 //! Which happenings meet an event, and which values the event's variables get by that.
 //!
 //! A match that fails may have given values to some variables already, so `given` is of no use after false.
+//!
+//! In contracts `.. ≡ cond fits (Some given.new.items) None` says that the definition gives what is in `given` where the answer is true, and nothing
+//! where it is false.
 
 ghost use Rattle.std.specs.Prelude.{◌≡◌, cond, Some, None, IfOk, Bool, true, List};
 ghost use Rattle.std.specs.List.{All};
@@ -95,7 +98,8 @@ impl Slot {
     }
 }
 
-// Whether the values can stand in the slots, one in each, and there are as many.
+// Whether the values can stand in the slots, one in each, and there are as many. `given` are the values that variables have; it gets those that they
+// are given by this. The error is refused memory.
 fn fit_all(slots: &[Slot], values: &[Value], given: &mut Vec<Bound>) -> Result<bool, AllocError>
     ensures { IfOk result (λ fits. fit_all slots.now values.now given.old.items ≡ cond fits (Some given.new.items) None) }
 {
@@ -119,7 +123,8 @@ fn fit_all(slots: &[Slot], values: &[Value], given: &mut Vec<Bound>) -> Result<b
 }
 
 impl Wanted {
-    // Whether what became of a call is what is wanted. The value of an answer must also fit its slot.
+    // Whether what became of a call is what is wanted. The value of an answer must also fit its slot, whose variable may get it in `given`. The error
+    // is refused memory.
     fn fit(self, phase: Phase, given: &mut Vec<Bound>) -> Result<bool, AllocError>
         ensures { IfOk result (λ fits. fit_phase self phase given.old.items ≡ cond fits (Some given.new.items) None) }
     {
@@ -135,7 +140,8 @@ impl Wanted {
 }
 
 impl Simple {
-    // Whether what happened is what this describes. If so, `given` has the values that its variables had before, and those that they got by this.
+    // Whether what happened is what this describes. If so, `given` has the values that its variables had before, and those that they got by this. The
+    // error is refused memory.
     fn meets(&self, what: &Occurrence, given: &mut Vec<Bound>) -> Result<bool, AllocError>
         ensures { IfOk result (λ met. meets_one self.now what.now given.old.items ≡ cond met (Some given.new.items) None) }
     {
@@ -172,6 +178,7 @@ impl Event {
             match rest {
                 [] => return Ok(false),
                 [simple, more @ ..] => {
+                    // Each alternative begins with the values `given`: one that isn't met may have added others.
                     found.clear();
                     found.extend_from_slice(given)?;
                     if simple.meets(&happening.what, found)? {

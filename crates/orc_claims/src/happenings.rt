@@ -29,6 +29,7 @@ pub struct Happenings {
     happened: Vec<Happening>,
 }
 
+// In contracts a `Happenings` is the record of its fields.
 impl Model for Happenings {
     ghost Value = { Told };
 
@@ -67,6 +68,7 @@ impl Happenings {
         ensures told { OnOk result (self.new ≡ becomes self.old (made_as call self.old.made) phase) }
         ensures refused { OnErr result (self.new ≡ self.old) }
     {
+        // Call k is at the place k - 1.
         let Some(place) = call.checked_sub(1) else {
             return Ok(());
         };

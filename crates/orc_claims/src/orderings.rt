@@ -1,4 +1,6 @@
 //! Claims on what comes before and behind what: `only after`, `no .. after` and `each .. then`. The order is that of the journal, also at one time.
+//!
+//! In contracts `first_bad good [] list` is the place, from 0, of the first happening of the list that isn't as `good` asks.
 
 ghost use Rattle.std.specs.Prelude.{◌≡◌, [], IfOk, OnOk};
 ghost use Rattle.orc_claims.specs.Claims.{any_forbids, any_meets, is_allowed, is_followed, is_met_with, is_prepared};
@@ -55,13 +57,16 @@ impl Event {
         ensures known { OnOk result (AreMet other.now before.now known.new.items) }
     {
         let mut given = Vec::new(alloc);
+        // `given` gets the values with which the happening meets this event.
         if !self.meets(happening, &[], &mut given)? {
             return Ok(true);
         }
         if is_known(known.as_slice(), given.as_slice()) {
             return Ok(true);
         }
+        // Scratch memory of `any_meets`.
         let mut found = Vec::new(alloc);
+        // An earlier happening may have met the other event at any time: from 0 on, without a bound.
         if !other.any_meets(given.as_slice(), 0, None, before, &mut found)? {
             return Ok(false);
         }
@@ -80,6 +85,7 @@ impl Event {
     ) -> Result<Option<usize>, AllocError>
         ensures { IfOk result (λ place. place ≡ first_bad (is_prepared self.now other.now) [] happenings.now) }
     {
+        // Values with which a happening so far met the other event: `is_prepared` adds those that it finds.
         let mut known = Vec::new(alloc);
         for at in 0..happenings.len() {
             let before = &happenings[..at];
@@ -100,6 +106,7 @@ impl Event {
     ) -> Result<bool, AllocError>
         ensures { IfOk result (λ any. any ≡ any_forbids self.now happening.now other.now before.now) }
     {
+        // The values with which an earlier happening meets the other event; and scratch memory.
         let mut given = Vec::new(alloc);
         let mut found = Vec::new(alloc);
         let mut rest = before;
@@ -151,10 +158,13 @@ impl Event {
         ensures { IfOk result (λ good. good ≡ is_followed self.now other.now within [] happening.now behind.now) }
     {
         let mut given = Vec::new(alloc);
+        // `given` gets the values with which the happening meets this event.
         if !self.meets(happening, &[], &mut given)? {
             return Ok(true);
         }
+        // Scratch memory of `any_meets`.
         let mut found = Vec::new(alloc);
+        // The other event has to be met at most `within` units after the time of this happening.
         other.any_meets(given.as_slice(), happening.time, within, behind, &mut found)
     }
 

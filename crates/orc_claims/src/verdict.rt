@@ -70,8 +70,8 @@ impl Plain {
         }
     }
 
-    // Whether the run as a whole is as the claim asks: enough happenings, its end, all that it published. Other claims ask nothing of the whole. The
-    // error is refused memory.
+    // Whether the run as a whole is as the claim asks: enough happenings, its end, all that it published. Other claims ask nothing of the whole.
+    // `end` is how the run ended, and `now` when. The error is refused memory.
     fn is_kept(
         &self,
         alloc: Global,
@@ -104,7 +104,7 @@ impl Plain {
         }
     }
 
-    // The verdict on a claim whose conditions are met. The error is refused memory.
+    // The verdict on a claim whose conditions are met. `end` is how the run ended, and `now` when. The error is refused memory.
     fn verdict(
         &self,
         alloc: Global,
@@ -175,7 +175,8 @@ fn come_true(
 }
 
 impl Claim {
-    // What the run says of the claim, which holds untested if a condition isn't met. The error is refused memory.
+    // What the run says of the claim, which holds untested if a condition isn't met. `end` is how the run ended, and `now` when. The error is refused
+    // memory.
     fn judge(
         &self,
         alloc: Global,

@@ -34,7 +34,7 @@ fn line_from(text: &[u8], start: usize) -> &[u8] {
     line.trim_ascii_end()
 }
 
-// A blank within a line.
+// Whether a byte is a blank that may stand within a line: a space, a tab or a CR.
 fn is_blank(byte: u8) -> bool {
     matches!(byte, b' ' | b'\t' | b'\r')
 }
@@ -140,6 +140,7 @@ impl Page {
         }
         // Behind its end a line goes on with blanks.
         let blanks = part.start.saturating_sub(line.len()) as u64;
+        // `before` is how many columns of the line stand before the part.
         let before = characters(line.get(..part.start).unwrap_or(line)) as u64;
         let before = before.saturating_add(blanks);
         self.fill(' ', before.saturating_sub(first));
@@ -168,6 +169,7 @@ impl Page {
         self.say("\n");
         let line = line_from(text, place.start);
         let first = left_out(place.column as u64);
+        // `start` and `end` are the span's places in the line, in bytes.
         let start = at.saturating_sub(place.start);
         self.row(place.line as u64, line, first, start);
         let end = span.end.saturating_sub(place.start);

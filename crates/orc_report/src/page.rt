@@ -1,4 +1,4 @@
-//! A text that is written piece by piece. A method whose comment only names something writes that at the end of the text.
+//! A text that is written piece by piece. Each method that writes does so at the end of the text.
 
 ghost use Rattle.std.specs.Prelude.{◌≡◌, true, false};
 
@@ -64,7 +64,7 @@ impl Page {
         }
     }
 
-    /// Words as they stand.
+    /// Writes words as they stand.
     pub fn say(&mut self, text: &str) {
         if !self.is_refused {
             self.is_refused = self.text.push_str(text).is_err();
@@ -95,33 +95,33 @@ impl Page {
         self.is_refused
     }
 
-    /// One character as it stands.
+    /// Writes one character as it stands.
     pub fn sign(&mut self, sign: char) {
         if !self.is_refused {
             self.is_refused = self.text.push(sign).is_err();
         }
     }
 
-    // An item as `Display` writes it.
+    // Writes an item as `Display` does.
     fn print<T: fmt::Display + Drop>(&mut self, item: T) {
         if !self.is_refused {
             self.is_refused = write!(self.text, "{item}").is_err();
         }
     }
 
-    /// A number in decimal.
+    /// Writes a number in decimal.
     pub fn number(&mut self, number: u64) {
         self.print(number);
     }
 
-    /// A number in decimal between words.
+    /// Writes a number in decimal between the words `before` and `behind`.
     pub fn say_number(&mut self, before: &str, number: u64, behind: &str) {
         self.say(before);
         self.number(number);
         self.say(behind);
     }
 
-    /// A number below a million, with a comma behind its thousands.
+    /// Writes a number below a million, with a comma behind its thousands.
     pub fn grouped(&mut self, number: u64) {
         if number < 1_000 {
             return self.number(number);
@@ -134,7 +134,7 @@ impl Page {
         self.number(units % 10);
     }
 
-    /// A value as programs write it.
+    /// Writes a value as programs do.
     pub fn value(&mut self, value: Value) {
         match value {
             Value::Number(number) => self.print(number),
@@ -143,7 +143,7 @@ impl Page {
         }
     }
 
-    /// A call's values in their brackets.
+    /// Writes a call's values in their brackets, with commas between them.
     pub fn values(&mut self, values: &[Value]) {
         self.say("(");
         for (place, value) in values.iter().enumerate() {
@@ -155,21 +155,21 @@ impl Page {
         self.say(")");
     }
 
-    /// The number of a character in hexadecimal with four digits at least, as Unicode writes it behind `U+`.
+    /// Writes the number of a character in hexadecimal with four digits at least, as Unicode does behind `U+`.
     pub fn code(&mut self, code: u32) {
         if !self.is_refused {
             self.is_refused = write!(self.text, "{code:04X}").is_err();
         }
     }
 
-    /// One character, `times` times.
+    /// Writes one character, `times` times.
     pub fn fill(&mut self, sign: char, times: u64) {
         for _time in 0..times {
             self.sign(sign);
         }
     }
 
-    /// A byte of a text: a blank is shown as a blank, and what isn't printable ASCII as `?`.
+    /// Writes a byte of a text: a tab or a CR is shown as a blank, and what isn't printable ASCII as `?`.
     pub fn byte(&mut self, byte: u8) {
         let shown = match byte {
             b'\t' | b'\r' => b' ',
@@ -179,7 +179,7 @@ impl Page {
         self.sign(shown as char);
     }
 
-    /// A word of a text. What is beyond its first 100 bytes is left out, and `..` stands for it.
+    /// Writes a word of a text. What is beyond its first 100 bytes is left out, and `..` stands for it.
     pub fn word(&mut self, word: &[u8]) {
         for byte in word.iter().take(LONGEST_WORD) {
             self.byte(*byte);
@@ -189,14 +189,14 @@ impl Page {
         }
     }
 
-    /// A word of a text between words.
+    /// Writes a word of a text between the words `before` and `behind`.
     pub fn say_word(&mut self, before: &str, word: &[u8], behind: &str) {
         self.say(before);
         self.word(word);
         self.say(behind);
     }
 
-    /// The name of a file; what isn't printable ASCII is a `?`.
+    /// Writes the name of a file; what isn't printable ASCII is a `?`.
     pub fn path(&mut self, path: &str) {
         for sign in path.chars() {
             let is_shown = sign.is_ascii() && !sign.is_ascii_control();
@@ -204,7 +204,7 @@ impl Page {
         }
     }
 
-    /// A number of things, as `1 call` or `2 calls`: the name gets an `s` unless the number is 1.
+    /// Writes a number of things, as `1 call` or `2 calls`: the name gets an `s` unless the number is 1.
     pub fn count(&mut self, number: u64, name: &str) {
         self.number(number);
         self.say(" ");
@@ -214,21 +214,21 @@ impl Page {
         }
     }
 
-    /// The beginning of a line ` = ` below what was shown. The caller ends the line.
+    /// Writes the beginning of a line below what was shown: blanks as wide as the numbers of lines, ` = `, and a text. The caller ends the line.
     pub fn note(&mut self, text: &str) {
         self.inset();
         self.say(" = ");
         self.say(text);
     }
 
-    /// A whole line ` = help: ` that says what to do.
+    /// Writes a whole line ` = help: `, with a text that says what to do.
     pub fn help(&mut self, text: &str) {
         self.note("help: ");
         self.say(text);
         self.say("\n");
     }
 
-    /// A whole line ` = expected: ` that says what may stand there.
+    /// Writes a whole line ` = expected: `, with a text that says what may stand there.
     pub fn expected(&mut self, text: &str) {
         self.note("expected: ");
         self.say(text);

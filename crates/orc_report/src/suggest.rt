@@ -18,7 +18,7 @@ const LONG: usize = 6;
 pub struct Near<'n> {
     alloc: Global,
     name: &'n [u8],
-    // A name is taken only if it is at most so many edits away. Each one that is taken lowers it to one less than its own edits.
+    // A name is taken only if it is at most so many edits away. Each name that is taken lowers this to one less than that name's edits.
     most: usize,
     // Whether any name may still be taken. False for a name that is too long, once one that differs in capitals alone was taken, and after refused
     // memory.

@@ -54,7 +54,8 @@ impl Depth {
         self.half = false;
     }
 
-    /// Begins to count again where a definition has become whole: where more definitions are whole, `defined_now`, than there were, `defined`.
+    /// Begins to count again where a token has made a definition whole: `defined` is how many definitions were whole before that token, and
+    /// `defined_now` how many are after it.
     #[inline(always)]
     pub fn begin_part(&mut self, defined: usize, defined_now: usize)
         ensures { count_of self.new ≡ (if nat_lt defined defined_now then none else count_of self.old) }
@@ -64,7 +65,7 @@ impl Depth {
         }
     }
 
-    // An operator of one sign.
+    // Counts an operator of one token, which has no variable. The error is Deep: it is one too many.
     #[inline(always)]
     fn operate(&mut self) -> Result<(), StepError>
         ensures { (joint : Joint) → Counts result (count_of self.old) (count_of self.new) (tokens.Join joint) }
@@ -76,7 +77,8 @@ impl Depth {
         Ok(())
     }
 
-    // The first or the second sign of an operator with a variable. The first one counts for both.
+    // Counts the first or the second sign of an operator with a variable, as of `>x>`. The first one counts for both. The error is Deep: the operator
+    // is one too many.
     #[inline(always)]
     fn sign(&mut self) -> Result<(), StepError>
         ensures { (side : Side) → Counts result (count_of self.old) (count_of self.new) (tokens.Arrow side) }
@@ -93,7 +95,7 @@ impl Depth {
         Ok(())
     }
 
-    // One more bracket.
+    // Counts an opening bracket. The errors: Deep where it is one too many, and Memory.
     #[inline(always)]
     #[tactic(auto, using(crate::proofs::Views::counts))]
     fn open(&mut self) -> Result<(), StepError>
@@ -107,7 +109,7 @@ impl Depth {
         Ok(())
     }
 
-    // A `val`. What follows it nests in it, up to the end of the enclosing brackets.
+    // Counts a `val`. What follows it nests in it, up to the end of the enclosing brackets. The error is Deep: it is one too many.
     #[inline(always)]
     fn bind(&mut self) -> Result<(), StepError>
         ensures { Counts result (count_of self.old) (count_of self.new) tokens.Val }
@@ -119,7 +121,7 @@ impl Depth {
         Ok(())
     }
 
-    // A bracket closes, and with it the `val`s inside.
+    // Counts a closing bracket: its bracket and the `val`s inside are open no more.
     #[inline(always)]
     #[tactic(auto, using(crate::proofs::Views::counts))]
     fn close(&mut self)
@@ -132,7 +134,7 @@ impl Depth {
         }
     }
 
-    /// Counts one more token, which the reader has taken. `Deep` where it is a bracket, `val` or operator too many; `Memory` where a growth was
+    /// Counts one more token, which the reader has taken. `Deep` where it is a bracket, `val` or operator too many; `Memory` where memory was
     /// refused.
     #[inline(always)]
     pub fn count(&mut self, kind: Kind) -> Result<(), StepError>

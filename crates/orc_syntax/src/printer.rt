@@ -99,7 +99,7 @@ fn levels_of(operator: Operator) -> Levels
     }
 }
 
-// Most functions push the tasks of one form in the order of its text, so that the next task is the rightmost.
+// Most functions push the tasks of one form in the order of its text, so that the next task is the rightmost. Each error is refused memory.
 impl<'a> Printer<'a> {
     // Pushes a text, which is then printed next.
     fn say(&mut self, text: &'a [u8]) -> Result<(), AllocError>
@@ -110,7 +110,7 @@ impl<'a> Printer<'a> {
         Ok(())
     }
 
-    // Pushes an expression, which is then printed next, where this level is wanted.
+    // Pushes an expression, which is then printed next, with brackets where it binds more loosely than `level`.
     fn visit(&mut self, level: usize) -> Result<(), AllocError>
         ensures tasks { OnOk result (waiting self.new.tasks.items ≡ visit level ∷ waiting self.old.tasks.items) }
         ensures pieces { self.new.pieces ≡ self.old.pieces }
@@ -119,7 +119,7 @@ impl<'a> Printer<'a> {
         Ok(())
     }
 
-    // Pushes `count` arguments, which stand behind the first one, each after a comma.
+    // Pushes `count` arguments, which stand behind the first one, each after a comma. Level 0: an argument gets no brackets.
     fn others(&mut self, count: usize) -> Result<(), AllocError>
         ensures tasks { OnOk result (waiting self.new.tasks.items ≡ more count (waiting self.old.tasks.items)) }
         ensures pieces { self.new.pieces ≡ self.old.pieces }
@@ -131,7 +131,7 @@ impl<'a> Printer<'a> {
         Ok(())
     }
 
-    // Pushes `count` arguments with commas between them.
+    // Pushes `count` arguments with commas between them. Level 0: an argument gets no brackets.
     fn arguments(&mut self, count: usize) -> Result<(), AllocError>
         ensures tasks { OnOk result (waiting self.new.tasks.items ≡ given count (waiting self.old.tasks.items)) }
         ensures pieces { self.new.pieces ≡ self.old.pieces }
@@ -173,7 +173,7 @@ impl<'a> Printer<'a> {
         }
     }
 
-    // Pushes an opening bracket if the form stands inside brackets.
+    // Pushes an opening bracket if `inner`, which says that the form stands inside brackets.
     fn opening(&mut self, inner: bool) -> Result<(), AllocError>
         ensures tasks { OnOk result (waiting self.new.tasks.items ≡ opening inner (waiting self.old.tasks.items)) }
         ensures pieces { self.new.pieces ≡ self.old.pieces }
@@ -181,7 +181,7 @@ impl<'a> Printer<'a> {
         if inner { self.say(b"(") } else { Ok(()) }
     }
 
-    // Pushes a closing bracket if the form stands inside brackets.
+    // Pushes a closing bracket if `inner`, which says that the form stands inside brackets.
     fn closing(&mut self, inner: bool) -> Result<(), AllocError>
         ensures tasks { OnOk result (waiting self.new.tasks.items ≡ closing inner (waiting self.old.tasks.items)) }
         ensures pieces { self.new.pieces ≡ self.old.pieces }
@@ -203,8 +203,8 @@ impl<'a> Printer<'a> {
         self.closing(inner)
     }
 
-    // Pushes a `val` with its sides, in brackets unless any expression will do (level 0). Its G always is in brackets of its own: without them a G
-    // that ends in a name and an F that begins with a bracket would be read as a call.
+    // Pushes `val x = (G) F`, where x is `name`, in brackets unless any expression will do (`wanted` is 0). Its G always is in brackets of its own:
+    // without them a G that ends in a name and an F that begins with a bracket would be read as a call.
     fn val(&mut self, name: Name<'a>, wanted: usize) -> Result<(), AllocError>
         ensures tasks { OnOk result (waiting self.new.tasks.items ≡ parts wanted (val (label name.entry)) (waiting self.old.tasks.items)) }
         ensures pieces { self.new.pieces ≡ self.old.pieces }
@@ -220,7 +220,7 @@ impl<'a> Printer<'a> {
         self.closing(inner)
     }
 
-    // Pushes a call with its arguments.
+    // Pushes a call of `name` with `count` arguments.
     fn call(&mut self, name: Name<'a>, count: usize) -> Result<(), AllocError>
         ensures tasks { (n : ℕ) → OnOk result (waiting self.new.tasks.items ≡ parts n (call (label name.entry) count) (waiting self.old.tasks.items)) }
         ensures pieces { self.new.pieces ≡ self.old.pieces }
@@ -278,13 +278,13 @@ impl<'a> Printer<'a> {
             count -= 1;
             self.parts(nodes[count].part, level)?;
         }
-        // What is left stands at the front of the text.
+        // No expression is left. The pieces that are left stand at the front of the text.
         self.next()?;
         Ok(())
     }
 }
 
-// Appends a number in decimal.
+// Appends a number in decimal. The error is refused memory, here and in the functions that follow.
 fn push_number(out: &mut Vec<u8>, number: i64) -> Result<(), AllocError>
     ensures { OnOk result (out.new.items ≡ out.old.items ++ signed_decimal number) }
 {
@@ -315,7 +315,7 @@ fn push_pieces(out: &mut Vec<u8>, pieces: &[Piece]) -> Result<(), AllocError>
     Ok(())
 }
 
-// Appends the text of an expression.
+// Appends the text of an expression, which has these nodes.
 fn print_expression(alloc: Global, nodes: &[Node], out: &mut Vec<u8>) -> Result<(), AllocError>
     ensures { (t : Tree) → IsExpr nodes.now t → OnOk result (out.new.items ≡ out.old.items ++ text 0 t) }
 {
@@ -328,7 +328,7 @@ fn print_expression(alloc: Global, nodes: &[Node], out: &mut Vec<u8>) -> Result<
     push_pieces(out, &printer.pieces)
 }
 
-// Appends names behind the first one, each after a comma.
+// Appends the names that stand behind the first one, each after a comma.
 fn print_other_names(xs: &[Name], out: &mut Vec<u8>) -> Result<(), AllocError>
     ensures { OnOk result (out.new.items ≡ out.old.items ++ other_names (map label xs.now)) }
 {

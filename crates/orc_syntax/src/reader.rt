@@ -203,7 +203,7 @@ pub struct Reader<'a> {
     parameters: Vec<Name<'a>>,
     /// The nodes so far of the body or main expression that is being read.
     nodes: Vec<Node<'a>>,
-    /// The stack of what waits in it, the innermost last. A definition's `Body` can only be the first one.
+    /// The stack of what waits in this body or main expression, the innermost last. A definition's `Body` can only be the first one.
     frames: Vec<Frame<'a>>,
 }
 
@@ -284,6 +284,7 @@ impl<'a> Reader<'a> {
     fn behind(&self) -> What
         ensures { result ≡ machine.behind (stack self.now) }
     {
+        // How many frames are still to be looked at, from the bottom of the stack.
         let mut count = self.frames.len();
         while count > 0 {
             match self.frames[count - 1] {
@@ -335,7 +336,7 @@ impl<'a> Reader<'a> {
         }
     }
 
-    // The token must begin an expression, or a definition where nothing waits.
+    // Takes a token that has to begin an expression, or a definition where nothing waits. The errors: Wanted where it begins neither, and Memory.
     #[inline(always)]
     #[tactic(auto, using(crate::proofs::Views::stacks))]
     fn begin(&mut self, token: Token<'a>) -> Result<Mode<'a>, StepError>
@@ -360,7 +361,7 @@ impl<'a> Reader<'a> {
         }
     }
 
-    // The word `val` at this place.
+    // Takes the word `val`, which begins at `start`. The error is Wanted: here a `val` needs brackets.
     #[inline(always)]
     fn begin_val(&self, start: usize) -> Result<Mode<'a>, StepError>
         ensures { (at : Span) → at.start ≡ start → Leaves result self.now (machine.begin tokens.Val at (context self.now) (nodes self.now) (stack self.now)) }
@@ -372,7 +373,7 @@ impl<'a> Reader<'a> {
         }
     }
 
-    // The word `def`. Definitions stand before the main expression, and nowhere inside another expression.
+    // Takes the word `def`. Definitions stand before the main expression, and nowhere inside another expression: there the error is Wanted.
     #[inline(always)]
     fn begin_definition(&self) -> Result<Mode<'a>, StepError>
         ensures { Leaves result self.now (if machine.takes_def (stack self.now) then Ok (machine.state (machine.Heads machine.DefWord) (context self.now) (nodes self.now) (stack self.now)) else Err expression) }
@@ -383,7 +384,8 @@ impl<'a> Reader<'a> {
         }
     }
 
-    // An operator behind its left side, whose last operand is `left`. First what binds tightly enough to belong to that side is joined.
+    // Takes an operator behind its left side, whose last operand is `left`. First what binds tightly enough to belong to that side is joined. Then
+    // the operator waits for its right side. The error is Memory.
     #[inline(always)]
     #[tactic(auto, using(crate::proofs::Views::stacks))]
     fn push(&mut self, operator: Operator<'a>, left: Operand) -> Result<Mode<'a>, StepError>
@@ -395,7 +397,7 @@ impl<'a> Reader<'a> {
         Ok(Mode::Want)
     }
 
-    // A call is whole: its closing bracket ends at `end`.
+    // Adds the node of a call that is whole: it has so many arguments, and its closing bracket ends at `end`. The error is Memory.
     #[inline(always)]
     #[tactic(auto, using(crate::proofs::Views::stacks))]
     fn called(
@@ -410,7 +412,8 @@ impl<'a> Reader<'a> {
         Ok(Mode::Have(operand))
     }
 
-    // A bracket closes behind a whole expression, all of whose operators are joined. The bracket ends at `end`.
+    // Takes a bracket that closes behind a whole expression, all of whose operators are joined. The bracket ends at `end`. The errors: Wanted where
+    // it closes nothing, and Memory.
     #[inline(always)]
     #[tactic(auto, using(crate::proofs::Views::stacks))]
     fn close(&mut self, end: usize) -> Result<Mode<'a>, StepError>
@@ -435,8 +438,8 @@ impl<'a> Reader<'a> {
         }
     }
 
-    // A comma behind a whole expression, all of whose operators are joined: another argument has to come. Where no call is
-    // open, the error names what could come instead, as in `behind`.
+    // Takes a comma behind a whole expression, all of whose operators are joined: another argument has to come. The errors: Wanted where no call is
+    // open, with what could come instead, and Memory.
     #[inline(always)]
     #[tactic(auto, using(crate::proofs::Views::stacks))]
     fn another(&mut self) -> Result<Mode<'a>, StepError>
@@ -446,7 +449,7 @@ impl<'a> Reader<'a> {
             return Err(StepError::Wanted(What::End));
         };
         match top {
-            // Not reached, as in `close`; nor is the None below.
+            // Not reached: all operators are joined. Nor is the None below: no text has so many arguments.
             Frame::Before(_, _) => Err(StepError::Wanted(What::End)),
             Frame::Bracket(_) => Err(StepError::Wanted(What::Close)),
             Frame::Arguments(name, before) => match before.checked_add(1) {
@@ -460,7 +463,8 @@ impl<'a> Reader<'a> {
         }
     }
 
-    // The body of a definition is whole: it becomes a definition with the parameters and nodes so far, and both lists start again.
+    // The body of the definition `name` is whole: it becomes a definition with the parameters and nodes so far, and both lists start again. The error
+    // is Memory.
     #[tactic(auto, using(crate::proofs::Views::stacks))]
     fn define(&mut self, name: Name<'a>) -> Result<(), StepError>
         ensures defined { IfOk result (λ _. context self.new ≡ machine.defined (label name.entry) (nodes self.old) (context self.old)) }
@@ -478,8 +482,8 @@ impl<'a> Reader<'a> {
         Ok(())
     }
 
-    // A token that begins an expression comes after a complete expression. That is allowed if the complete one is the G of a `val` or the body of a
-    // `def`; otherwise the error says that `wanted` was expected.
+    // Takes a token that begins an expression behind a whole expression. That is allowed if the whole one is the G of a `val` or the body of a `def`;
+    // otherwise the error says that `wanted` was expected. Another error is Memory.
     #[tactic(auto, using(crate::proofs::Views::stacks))]
     fn follow(&mut self, wanted: What, token: Token<'a>) -> Result<Mode<'a>, StepError>
         ensures { Leaves result self.new (machine.follow wanted (sort token.entry.kind) token.entry.span (context self.old) (nodes self.old) (stack self.old)) }
@@ -502,7 +506,7 @@ impl<'a> Reader<'a> {
         }
     }
 
-    // A token behind the operand `last`.
+    // Takes a token behind `last`, the operand that was read last. The errors: Wanted where no program goes on with the token, and Memory.
     #[inline(always)]
     fn go_on(&mut self, last: Operand, token: Token<'a>) -> Result<Mode<'a>, StepError>
         ensures { Leaves result self.new (machine.go_on (operand last) (sort token.entry.kind) token.entry.span (context self.old) (nodes self.old) (stack self.old)) }
@@ -531,7 +535,7 @@ impl<'a> Reader<'a> {
         }
     }
 
-    // Adds the node of a name that is no call.
+    // Adds the node of a name that is no call. The error is Memory.
     #[inline(always)]
     #[tactic(auto, using(crate::proofs::Views::stacks))]
     fn variable(&mut self, name: Name<'a>) -> Result<Operand, StepError>
@@ -543,7 +547,8 @@ impl<'a> Reader<'a> {
         self.node(Part::Variable(name), name.span.start, name.span.end)
     }
 
-    // A token behind a name: a bracket makes it a call, any other token a variable.
+    // Takes a token behind a name: a bracket makes the name a call, any other token makes it a variable. The errors: Wanted where no program goes on
+    // with the token, and Memory.
     #[inline(always)]
     #[tactic(auto, using(crate::proofs::Views::stacks))]
     fn behind_name(&mut self, name: Name<'a>, token: Token<'a>) -> Result<Mode<'a>, StepError>
@@ -561,7 +566,7 @@ impl<'a> Reader<'a> {
         }
     }
 
-    // The call on top of the stack closes without arguments, with a bracket that ends at `end`.
+    // Closes the call on top of the stack, which has no arguments, with a bracket that ends at `end`. The error is Memory.
     #[inline(always)]
     #[tactic(auto, using(crate::proofs::Views::stacks))]
     fn close_first(&mut self, end: usize) -> Result<Mode<'a>, StepError>
@@ -579,7 +584,8 @@ impl<'a> Reader<'a> {
         }
     }
 
-    // A token behind the opening bracket of a call: it closes the call, or begins its first argument.
+    // Takes a token behind the opening bracket of a call: it closes the call, or begins its first argument. The errors: Wanted where it does neither,
+    // and Memory.
     #[inline(always)]
     fn first(&mut self, token: Token<'a>) -> Result<Mode<'a>, StepError>
         ensures { Leaves result self.new (machine.first (sort token.entry.kind) token.entry.span (context self.old) (nodes self.old) (stack self.old)) }
@@ -590,7 +596,8 @@ impl<'a> Reader<'a> {
         }
     }
 
-    // A token behind the first sign of `>x>` or `<x<`: it has to be the variable. `last` is the operand left of that sign.
+    // Takes a token behind the first sign of `>x>` or `<x<`: it has to be the variable, or else the error is Wanted. `last` is the operand left of
+    // that sign.
     #[inline(always)]
     fn bind(&self, side: Side, last: Operand, token: Token<'a>) -> Result<Mode<'a>, StepError>
         ensures { Leaves result self.now (machine.bind side (operand last) (sort token.entry.kind) token.entry.span (context self.now) (nodes self.now) (stack self.now)) }
@@ -608,7 +615,8 @@ impl<'a> Reader<'a> {
         }
     }
 
-    // A token behind the variable of `>x>` or `<x<`: it has to be the first sign again. `last` is the operand left of the operator.
+    // Takes a token behind the variable of `>x>` or `<x<`: it has to be the first sign again. `last` is the operand left of the operator. The errors:
+    // Wanted where it is any other token, and Memory.
     #[inline(always)]
     fn second(
         &mut self,
@@ -631,7 +639,7 @@ impl<'a> Reader<'a> {
         }
     }
 
-    // One more parameter of the definition of that name.
+    // Adds `parameter` to the parameters of the definition that is being read, whose name is `definition`. The error is Memory.
     #[inline(always)]
     #[tactic(auto, using(crate::proofs::Views::stacks))]
     fn parameter(
@@ -645,7 +653,7 @@ impl<'a> Reader<'a> {
         Ok(Mode::Heads(Heading::Parameter(definition)))
     }
 
-    // `val x =` or `def f(a, b) =` is whole, as this frame, and waits for the expression behind its `=`.
+    // Pushes a `val x =` or `def f(a, b) =` that is whole, as this frame: it waits for the expression behind its `=`. The error is Memory.
     #[inline(always)]
     #[tactic(auto, using(crate::proofs::Views::stacks))]
     fn open_frame(&mut self, frame: Frame<'a>) -> Result<Mode<'a>, StepError>
@@ -655,7 +663,8 @@ impl<'a> Reader<'a> {
         Ok(Mode::Want)
     }
 
-    // One more token of a `val x =` or `def f(a, b) =`. Each `_` is a token that doesn't come at this point of the heading.
+    // Takes one more token of a `val x =` or `def f(a, b) =`, of which `head` has come. Each `_` is a token that doesn't come at this point of the
+    // heading: the error is Wanted then.
     #[inline(always)]
     fn head(&mut self, head: Heading<'a>, token: Token<'a>) -> Result<Mode<'a>, StepError>
         ensures { Leaves result self.new (machine.head (heading head.entry) (sort token.entry.kind) token.entry.span (context self.old) (nodes self.old) (stack self.old)) }
@@ -691,7 +700,7 @@ impl<'a> Reader<'a> {
         }
     }
 
-    // A name in a `val x =` or `def f(a, b) =`. It is refused where the heading has its name, its parameter or its `)` already.
+    // Takes a name in a `val x =` or `def f(a, b) =`. It is refused where the heading has its name, its parameter or its `)` already.
     #[inline(always)]
     fn head_name(&mut self, head: Heading<'a>, name: Name<'a>) -> Result<Mode<'a>, StepError>
         ensures { Leaves result self.new (machine.head (heading head.entry) (tokens.Word name.entry.text.now) name.entry.span (context self.old) (nodes self.old) (stack self.old)) }
@@ -739,9 +748,9 @@ impl<'a> Reader<'a> {
         }
     }
 
-    /// The program, where the text ends behind `last`.
+    /// The program, where the text ends. `last` is the mode that `advance` gave for the last token, or `Mode::Want` where there is no token.
     ///
-    /// `Wanted` where that is no whole program, with what had to come; `Memory` where a growth was refused.
+    /// `Wanted` where that is no whole program, with what had to come; `Memory` where memory was refused.
     pub fn finish(mut self, last: Mode<'a>) -> Result<Ast<'a>, StepError>
         ensures { Ends result (machine.finish (machine.state (mode last.entry) (context self.entry) (nodes self.entry) (stack self.entry))) }
     {

@@ -147,6 +147,7 @@ pub fn parse<'a>(alloc: Global, src: &'a [u8]) -> Result<Ast<'a>, SyntaxFault>
         return Err(SyntaxFault::Long);
     }
     let read = read_text(alloc, src);
+    // If the text is UTF-8, the answer is what reading gave: a program, or the first fault.
     let Err(error) = str::from_utf8(src) else {
         return read;
     };

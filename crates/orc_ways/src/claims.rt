@@ -37,7 +37,8 @@ fn time(word: &[u8], tokens: &[Token<'_>]) -> Option<Option<u64>>
     }
 }
 
-// The claim that an event happens `low` times at least and `most` times at most, where None is no bound; `rest` may be `by` and a time.
+// The claim that an event happens `low` times at least and `most` times at most, where None is no bound. `rest`, the tokens behind the event, may be
+// empty, or `by` and a time; None for anything else.
 fn count(event: Event, low: u64, most: Option<u64>, rest: &[Token<'_>]) -> Option<Plain>
     ensures { Gives plain_of result (counted low most (event_of event, tokens_of rest.now)) }
 {
@@ -77,8 +78,8 @@ fn is_at_once_behind(tokens: &[Token<'_>]) -> bool
     }
 }
 
-// The claim that begins with `at most`: on how often the event happens in all, or, with `at once`, on how many such calls are pending at one moment.
-// Only calls can be pending, so with `at once` the event has nothing else.
+// The claim `at most N E` with the tokens `rest` behind it: on how often the event happens in all, or, with `at once`, on how many such calls are
+// pending at one moment. Only calls can be pending, so with `at once` an event that has anything else makes no claim.
 #[tactic(auto, unfolding(crate::specs::Claims::at_most))]
 fn count_at_most(event: Event, most: u64, rest: &[Token<'_>]) -> Option<Plain>
     ensures { Gives plain_of result (at_most most (event_of event, tokens_of rest.now)) }
@@ -92,7 +93,7 @@ fn count_at_most(event: Event, most: u64, rest: &[Token<'_>]) -> Option<Plain>
     count(event, 0, Some(most), rest)
 }
 
-// The end that a token names: (true, false) for `Halted`, (false, true) for `Quiet`.
+// The end of a run that a token names: (true, false) for `Halted`, (false, true) for `Quiet`, None for any other token.
 fn end(token: &Token<'_>) -> Option<(bool, bool)>
     ensures { result ≡ end_in (token_of token.now) }
 {
@@ -116,7 +117,8 @@ fn end_first<'t, 'a>(tokens: &'t [Token<'a>]) -> Option<((bool, bool), &'t [Toke
     }
 }
 
-// The claim that a run ends in one of the ways that are allowed: Halted if `halted`, Quiet if `quiet`. `tokens` may be `by` and a time.
+// The claim that a run ends in one of the ways that are allowed: Halted if `halted`, Quiet if `quiet`. `tokens` may be empty, or `by` and a time;
+// None for anything else.
 fn ends_up_to(halted: bool, quiet: bool, tokens: &[Token<'_>]) -> Option<Plain>
     ensures { Gives plain_of result (ends_by (halted, quiet) (tokens_of tokens.now)) }
 {
@@ -124,7 +126,7 @@ fn ends_up_to(halted: bool, quiet: bool, tokens: &[Token<'_>]) -> Option<Plain>
     Some(Plain::Ends(halted, quiet, by))
 }
 
-// Reads the claim behind `ends`: one end or two, and perhaps `by` and a time.
+// Reads the tokens behind `ends`: one end, or two with `or` between them, and perhaps `by` and a time. None for anything else.
 #[tactic(auto, unfolding(crate::specs::Claims::ends_at))]
 fn ends(tokens: &[Token<'_>]) -> Option<Plain>
     ensures { Gives plain_of result (ends_at (tokens_of tokens.now)) }
@@ -149,7 +151,7 @@ fn ends_values_here(tokens: &[Token<'_>]) -> bool
     }
 }
 
-// Reads a value, or `_` as None; and says whether it is the last one.
+// Reads a value, or `_` as None: gives it, whether it is the last one, and the tokens behind it. None if neither comes first.
 fn next_value<'t, 'a>(tokens: &'t [Token<'a>]) -> Option<(Option<Value>, bool, &'t [Token<'a>])>
     ensures { Gives (λ x. (x.0, x.1, tokens_of x.2.now)) result (value_step (tokens_of tokens.now)) }
 {
@@ -159,7 +161,8 @@ fn next_value<'t, 'a>(tokens: &'t [Token<'a>]) -> Option<(Option<Value>, bool, &
     }
 }
 
-// Reads one or more values or `_`, up to the end of the line or an `in`. The error is refused memory.
+// Reads one or more values or `_`, which is None, up to the end of the line or an `in`: gives them, and the tokens that are left. None for anything
+// else. The error is refused memory.
 fn values<'t, 'a>(
     alloc: Global,
     tokens: &'t [Token<'a>],
@@ -167,6 +170,7 @@ fn values<'t, 'a>(
     ensures { IfOk result (λ o. Gives (λ x. (x.0.items, tokens_of x.1.now)) o (values_at (tokens_of tokens.now))) }
 {
     let mut values = Vec::new(alloc);
+    // `same_tokens` gives the tokens back as they are; the prover alone needs it.
     let mut rest = same_tokens(tokens);
     // Each turn reads a token, so there are enough turns.
     for _ in 0..tokens.len() {
@@ -183,7 +187,7 @@ fn values<'t, 'a>(
     Ok(None)
 }
 
-// Reads a value, which isn't `_`, and says whether it is the last one.
+// Reads a value that isn't `_`: gives it, whether it is the last one, and the tokens behind it. None if no value comes first.
 fn next_literal<'t, 'a>(tokens: &'t [Token<'a>]) -> Option<(Value, bool, &'t [Token<'a>])>
     ensures { Gives (λ x. (x.0, x.1, tokens_of x.2.now)) result (literal_step (tokens_of tokens.now)) }
 {
@@ -197,7 +201,8 @@ fn next_literal<'t, 'a>(tokens: &'t [Token<'a>]) -> Option<(Value, bool, &'t [To
     }
 }
 
-// Reads one or more values, as `values` does, but no `_`. The error is refused memory.
+// Reads one or more values, but no `_`, up to the end of the line or an `in`: gives them, and the tokens that are left. None for anything else. The
+// error is refused memory.
 fn literals<'t, 'a>(
     alloc: Global,
     tokens: &'t [Token<'a>],
@@ -205,6 +210,7 @@ fn literals<'t, 'a>(
     ensures { IfOk result (λ o. Gives (λ x. (x.0.items, tokens_of x.1.now)) o (literals_at (tokens_of tokens.now))) }
 {
     let mut values = Vec::new(alloc);
+    // `same_tokens` gives the tokens back as they are; the prover alone needs it.
     let mut rest = same_tokens(tokens);
     // Each turn reads a token, so there are enough turns.
     for _ in 0..tokens.len() {
@@ -231,7 +237,7 @@ fn is_any_order_behind(tokens: &[Token<'_>]) -> bool
     }
 }
 
-// The claim behind `publishes` that lists values: in this order, or `in any order`. The error is refused memory.
+// Reads the tokens behind `publishes` where they list values: in this order, or `in any order`. None for anything else. The error is refused memory.
 #[tactic(auto, unfolding(crate::specs::Claims::in_order_at))]
 fn values_in_order(alloc: Global, tokens: &[Token<'_>]) -> Result<Option<Plain>, AllocError>
     ensures { IfOk result (λ o. Gives plain_of o (in_order_at (tokens_of tokens.now))) }
@@ -252,7 +258,7 @@ fn values_in_order(alloc: Global, tokens: &[Token<'_>]) -> Result<Option<Plain>,
     Ok(Some(Plain::InAnyOrder(values)))
 }
 
-// The claim behind `publishes one of`. The error is refused memory.
+// Reads the tokens behind `publishes one of`: values, and nothing behind them. None for anything else. The error is refused memory.
 #[tactic(auto, unfolding(crate::specs::Claims::one_of_at))]
 fn one_of(alloc: Global, tokens: &[Token<'_>]) -> Result<Option<Plain>, AllocError>
     ensures { IfOk result (λ o. Gives plain_of o (one_of_at (tokens_of tokens.now))) }
@@ -276,7 +282,7 @@ fn is_nothing_behind(tokens: &[Token<'_>]) -> bool
     }
 }
 
-// Reads the claim behind `publishes`. The error is refused memory.
+// Reads the tokens behind `publishes`: `nothing`, `one of` and values, or a list of values. None for anything else. The error is refused memory.
 #[tactic(auto, unfolding(crate::specs::Claims::publishes_at))]
 fn publishes(alloc: Global, tokens: &[Token<'_>]) -> Result<Option<Plain>, AllocError>
     ensures { IfOk result (λ o. Gives plain_of o (publishes_at (tokens_of tokens.now))) }
@@ -288,6 +294,7 @@ fn publishes(alloc: Global, tokens: &[Token<'_>]) -> Result<Option<Plain>, Alloc
     let Some(more) = behind(b"one", tokens) else {
         return values_in_order(alloc, tokens);
     };
+    // No value is written `one`, so an `of` has to follow.
     match behind(b"of", more) {
         Some(rest) => one_of(alloc, rest),
         None => Ok(None),
@@ -322,7 +329,8 @@ fn rest_of_tokens<'t, 'a>(tokens: &'t [Token<'a>]) -> &'t [Token<'a>]
 }
 
 impl Scope<'_, '_> {
-    // Reads the claim behind `at most`. The error is refused memory, here and below.
+    // Reads the tokens behind `at most`: a number, an event, and perhaps `by` and a time, or `at once`. None for anything else. The error is refused
+    // memory.
     fn at_most(self, alloc: Global, tokens: &[Token<'_>]) -> Result<Option<Plain>, AllocError>
         ensures { IfOk result (λ o. Gives plain_of o (at_most_at (sites_of self.entry.sites.now) (tokens_of self.entry.line.now) (tokens_of tokens.now))) }
     {
@@ -335,7 +343,7 @@ impl Scope<'_, '_> {
         Ok(count_at_most(event, most, rest))
     }
 
-    // Reads the claim behind `at least`.
+    // Reads the tokens behind `at least`: a number, an event, and perhaps `by` and a time. None for anything else. The error is refused memory.
     fn at_least(self, alloc: Global, tokens: &[Token<'_>]) -> Result<Option<Plain>, AllocError>
         ensures { IfOk result (λ o. Gives plain_of o (at_least_at (sites_of self.entry.sites.now) (tokens_of self.entry.line.now) (tokens_of tokens.now))) }
     {
@@ -348,7 +356,7 @@ impl Scope<'_, '_> {
         Ok(count(event, low, None, rest))
     }
 
-    // Reads the claim behind `exactly`.
+    // Reads the tokens behind `exactly`: a number, an event, and perhaps `by` and a time. None for anything else. The error is refused memory.
     fn exactly(self, alloc: Global, tokens: &[Token<'_>]) -> Result<Option<Plain>, AllocError>
         ensures { IfOk result (λ o. Gives plain_of o (exactly_at (sites_of self.entry.sites.now) (tokens_of self.entry.line.now) (tokens_of tokens.now))) }
     {
@@ -361,7 +369,7 @@ impl Scope<'_, '_> {
         Ok(count(event, number, Some(number), rest))
     }
 
-    // Reads the claim behind `at`: `most` or `least` follows.
+    // Reads the tokens behind `at`: a claim that goes on with `most` or `least`. None for anything else. The error is refused memory.
     #[tactic(auto, unfolding(crate::specs::Claims::bounded_at))]
     fn bounded(self, alloc: Global, tokens: &[Token<'_>]) -> Result<Option<Plain>, AllocError>
         ensures { IfOk result (λ o. Gives plain_of o (bounded_at (sites_of self.entry.sites.now) (tokens_of self.entry.line.now) (tokens_of tokens.now))) }
@@ -380,7 +388,8 @@ impl Scope<'_, '_> {
         }
     }
 
-    // Reads the claim behind `no`: of one event, or of one `after` another.
+    // Reads the tokens behind `no`: one event, perhaps with `by` and a time, or one event `after` another. None for anything else. The error is
+    // refused memory.
     #[tactic(auto, unfolding(crate::specs::Claims::none_at))]
     fn none(self, alloc: Global, tokens: &[Token<'_>]) -> Result<Option<Plain>, AllocError>
         ensures { IfOk result (λ o. Gives plain_of o (none_at (sites_of self.entry.sites.now) (tokens_of self.entry.line.now) (tokens_of tokens.now))) }
@@ -389,6 +398,7 @@ impl Scope<'_, '_> {
             return Ok(None);
         };
         let Some(more) = behind(b"after", rest) else {
+            // The event happens 0 times at least and at most.
             return Ok(count(event, 0, Some(0), rest));
         };
         let Some(other) = self.last_event(alloc, more)? else {
@@ -397,7 +407,7 @@ impl Scope<'_, '_> {
         Ok(Some(Plain::NoneAfter(event, other)))
     }
 
-    // Reads the claim behind `each`: an event `then` another, perhaps `within` a time.
+    // Reads the tokens behind `each`: an event `then` another, perhaps `within` a time. None for anything else. The error is refused memory.
     #[tactic(auto, unfolding(crate::specs::Claims::each_at))]
     fn each(self, alloc: Global, tokens: &[Token<'_>]) -> Result<Option<Plain>, AllocError>
         ensures { IfOk result (λ o. Gives plain_of o (each_at (sites_of self.entry.sites.now) (tokens_of self.entry.line.now) (tokens_of tokens.now))) }
@@ -417,7 +427,7 @@ impl Scope<'_, '_> {
         Ok(Some(Plain::EachThen(event, other, within)))
     }
 
-    // Reads the claim `.. only after ..`, which begins with its event and no word of its own.
+    // Reads the claim `E only after F`, which begins with its event E and no word of its own. None for anything else. The error is refused memory.
     #[tactic(auto, unfolding(crate::specs::Claims::only_at))]
     fn only(self, alloc: Global, tokens: &[Token<'_>]) -> Result<Option<Plain>, AllocError>
         ensures { IfOk result (λ o. Gives plain_of o (only_at (sites_of self.entry.sites.now) (tokens_of self.entry.line.now) (tokens_of tokens.now))) }
@@ -437,8 +447,8 @@ impl Scope<'_, '_> {
         Ok(Some(Plain::OnlyAfter(event, other)))
     }
 
-    // Reads a claim without conditions, by its first word. What begins with an event is an `only after`: a site, by the `(` behind it, or
-    // `published`.
+    // Reads a claim without conditions. Its first word says which one it is. A claim that begins with an event is an `only after`: the event begins
+    // with a site, which has a `(` behind it, or with `published`. None for anything else. The error is refused memory.
     #[tactic(auto, unfolding(crate::specs::Claims::plain_at))]
     fn plain(self, alloc: Global, tokens: &[Token<'_>]) -> Result<Option<Plain>, AllocError>
         ensures { IfOk result (λ o. Gives plain_of o (plain_at (sites_of self.entry.sites.now) (tokens_of self.entry.line.now) (tokens_of tokens.now))) }
@@ -473,7 +483,7 @@ impl Scope<'_, '_> {
         Ok(None)
     }
 
-    // Reads the condition behind `if`, up to its `then`.
+    // Reads the condition behind `if`: gives it, and the tokens behind its `then`. None for anything else. The error is refused memory.
     #[tactic(auto, unfolding(crate::specs::Claims::condition_at))]
     fn condition<'t, 'b>(
         self,
@@ -482,6 +492,7 @@ impl Scope<'_, '_> {
     ) -> Result<Option<(Condition, &'t [Token<'b>])>, AllocError>
         ensures { IfOk result (λ o. Gives (λ x. (condition_of x.0, tokens_of x.1.now)) o (condition_at (sites_of self.entry.sites.now) (tokens_of self.entry.line.now) (tokens_of tokens.now))) }
     {
+        // `happens` is false if a `no` stands before the event.
         let (happens, rest) = happens(tokens);
         let Some((event, rest)) = self.event(alloc, rest)? else {
             return Ok(None);
@@ -492,7 +503,8 @@ impl Scope<'_, '_> {
         Ok(Some((Condition { event, happens }, rest)))
     }
 
-    // Reads the conditions with which a claim begins, none or more.
+    // Reads the conditions with which a claim begins, none or more: gives them, and the tokens behind them. None if no condition follows an `if`. The
+    // error is refused memory.
     fn conditions<'t, 'b>(
         self,
         alloc: Global,
@@ -501,12 +513,14 @@ impl Scope<'_, '_> {
         ensures { IfOk result (λ o. Gives (λ x. (conditions_of x.0.items, tokens_of x.1.now)) o (conditions_at (sites_of self.entry.sites.now) (tokens_of self.entry.line.now) (length (tokens_of tokens.now)) (tokens_of tokens.now))) }
     {
         let mut conditions = Vec::new(alloc);
+        // `same_tokens` gives the tokens back as they are; the prover alone needs it.
         let mut rest = same_tokens(tokens);
         // Each turn reads an `if` at least, so there are enough turns.
         for _ in 0..tokens.len() {
             if !begins_with(b"if", rest) {
                 return Ok(Some((conditions, rest)));
             }
+            // The condition stands behind the `if`.
             let Some((condition, behind)) = self.condition(alloc, rest_of_tokens(rest))? else {
                 return Ok(None);
             };
@@ -517,7 +531,7 @@ impl Scope<'_, '_> {
         Ok(Some((conditions, rest)))
     }
 
-    /// The claim that all tokens of the line are; None if they are none. The error is refused memory.
+    /// The claim that all tokens of the line are; None if they are no claim. The error is refused memory.
     #[tactic(auto, unfolding(crate::specs::Claims::claim_at))]
     pub fn claim(self, alloc: Global) -> Result<Option<Claim>, AllocError>
         ensures { IfOk result (λ o. Gives claim_of o (claim_at (sites_of self.entry.sites.now) (tokens_of self.entry.line.now))) }

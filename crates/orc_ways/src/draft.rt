@@ -25,8 +25,11 @@ use std::alloc::{AllocError, Global};
 pub enum Part {
     /// Before any section.
     Nowhere,
+    /// Below `given`, where services stand.
     Given,
+    /// Below `always`, where claims stand.
     Always,
+    /// Below a line `case`, where services and claims stand.
     Case,
 }
 
@@ -44,6 +47,7 @@ pub enum LineEnd {
 /// A test so far.
 #[derive(Drop)]
 pub struct Draft<'a> {
+    /// What the lines so far say.
     pub test: Test<'a>,
     /// The number of the line `given`, from 1, if there was one.
     pub given: Option<usize>,
@@ -124,7 +128,7 @@ impl<'a> Draft<'a> {
         Ok(true)
     }
 
-    // The case to which a service in this section belongs, by its place, or Some(None) below `given`; None where no service is allowed.
+    // The place, from 0, of the case to which a service in this section belongs; Some(None) below `given`, and None where no service is allowed.
     fn case_of_service(&self) -> Option<Option<usize>>
         ensures { result ≡ case_of_service self.now.part (test_of self.now.test) }
     {
@@ -137,20 +141,21 @@ impl<'a> Draft<'a> {
         }
     }
 
-    // The case to which a claim in this section belongs, by its place, or Some(None) below `always`; None where no claim is allowed.
+    // The place, from 0, of the case to which a claim in this section belongs; Some(None) below `always`, and None where no claim is allowed.
     fn case_of_claim(&self) -> Option<Option<usize>>
         ensures { result ≡ case_of_claim self.now.part (test_of self.now.test) }
     {
         match self.part {
             Part::Always => Some(None),
-            // The last case; the subtraction doesn't saturate, as for a service.
+            // The last case: the section `Case` begins with a case, so there is at least one, and the subtraction doesn't saturate.
             Part::Case => Some(Some(self.test.cases.len().saturating_sub(1))),
             // Before any section, or below `given`.
             _ => None,
         }
     }
 
-    // Adds a service to this section; false if it isn't allowed here, and then nothing changes. The error is refused memory.
+    // Adds a service to this section; false if no service is allowed here, there are too many, or its name is that of a built-in site, and then
+    // nothing changes. The error is refused memory.
     fn add_service(&mut self, service: Service<'a>) -> Result<bool, AllocError>
         ensures { IfOk result (λ good. IsPlaced (with_service (draft_of self.old) (service_of service.entry) (case_of_service self.old.part (test_of self.old.test))) (draft_of self.new) good) }
     {
@@ -167,8 +172,8 @@ impl<'a> Draft<'a> {
         Ok(true)
     }
 
-    // Adds a claim to this section, with its line and the line's number; false if it isn't allowed here, and then nothing changes. The error is
-    // refused memory.
+    // Adds a claim to this section: `number` is the number of its line, from 1, and `line` the text of its line. False if no claim is allowed here or
+    // there are too many, and then nothing changes. The error is refused memory.
     fn add_claim(&mut self, number: usize, line: &'a [u8], claim: Claim) -> Result<bool, AllocError>
         ensures { IfOk result (λ good. IsPlaced (with_claim (draft_of self.old) number line.now (claim_of claim) (case_of_claim self.old.part (test_of self.old.test))) (draft_of self.new) good) }
     {
@@ -218,7 +223,7 @@ impl<'a> Draft<'a> {
         let Some(tokens) = cut_line(alloc, line)? else {
             return Ok(LineEnd::NoLine);
         };
-        // Before the line is read: a claim has the places of its sites among these.
+        // The sites that the line names are added before it is read, since a claim has the places of its sites among these.
         add_mentions(&mut self.test.sites, number, tokens.as_slice())?;
         // The one site over the limit is there if the line names one too many.
         if MOST_SITES < self.test.sites.len() {

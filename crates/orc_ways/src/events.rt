@@ -55,7 +55,8 @@ impl Scope<'_, '_> {
         }
     }
 
-    // Reads what stands behind a call; if it is none of these words, `called` is meant and nothing is read.
+    // Reads what stands behind a call: `called`, `answered`, `halted` or `cancelled`. If it is none of these words, `called` is meant and nothing is
+    // read.
     #[tactic(auto, unfolding(crate::specs::Claims::wanted_at))]
     fn wanted<'t, 'b>(self, tokens: &'t [Token<'b>]) -> (Wanted, &'t [Token<'b>])
         ensures { (result.0, tokens_of result.1.now) ≡ wanted_at (tokens_of self.entry.line.now) (tokens_of tokens.now) }
@@ -78,8 +79,8 @@ impl Scope<'_, '_> {
         }
     }
 
-    // Reads what becomes of a call of the site that `token` names, behind which `tokens` stand; None if it is no such thing. The error is refused
-    // memory.
+    // Reads a call of the site that `token` names, and what becomes of it, from the `tokens` behind that name. None if they are no such thing. The
+    // error is refused memory.
     #[tactic(auto, unfolding(crate::specs::Claims::call_at))]
     fn call<'t, 'b>(
         self,
@@ -160,6 +161,7 @@ impl Scope<'_, '_> {
         ensures { IfOk result (λ o. Gives (λ x. (event_of x.0, tokens_of x.1.now)) o (event_at (sites_of self.entry.sites.now) (tokens_of self.entry.line.now) (tokens_of tokens.now))) }
     {
         let mut alternatives = Vec::new(alloc);
+        // `same_tokens` gives the tokens back as they are; the prover alone needs it.
         let mut rest = same_tokens(tokens);
         // Each turn reads a token at least, so there are enough turns.
         for _ in 0..tokens.len() {
@@ -176,7 +178,7 @@ impl Scope<'_, '_> {
         Ok(None)
     }
 
-    /// The event that all these tokens are; None if they are none, or something stands behind it. The error is refused memory.
+    /// The event that all these tokens are; None if they begin with no event, or something stands behind it. The error is refused memory.
     pub fn last_event(
         self,
         alloc: Global,

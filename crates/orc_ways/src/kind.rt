@@ -1,4 +1,7 @@
 //! What a line is: the beginning of a section, a service or a claim.
+//!
+//! In contracts `Gives f result (NAME ..)` says that a function answers what the definition NAME gives for these tokens, and None where that does; f
+//! turns the code's value into that of the definitions.
 
 ghost use Rattle.std.specs.Prelude.{◌≡◌, IfOk, option_map};
 ghost use Rattle.orc_rules.specs.Digits.{Gives};
@@ -18,11 +21,15 @@ use std::alloc::{AllocError, Global};
 pub enum Kind<'a> {
     /// It has no token: blanks, or a comment.
     Blank,
+    /// The line `given`.
     Given,
+    /// The line `always`.
     Always,
     /// `case` and this name.
     Case(&'a [u8]),
+    /// A line that says how a service answers: it has a `=`.
     Service(Service<'a>),
+    /// A line with a claim.
     Claim(Claim),
 }
 
@@ -69,8 +76,8 @@ fn section<'a>(tokens: &[Token<'a>]) -> Option<Kind<'a>>
 }
 
 impl<'a> Scope<'_, 'a> {
-    // What a line without `=` is; None if it is neither a section nor a claim. A claim may begin with a site called `given`, since a section is the
-    // whole line.
+    // What a line without `=` is; None if it is neither the beginning of a section nor a claim. A claim may begin with a site called `given`, since a
+    // section's word is the whole line. The error is refused memory.
     fn section_or_claim(self, alloc: Global) -> Result<Option<Kind<'a>>, AllocError>
         ensures { IfOk result (λ o. Gives kind_of o (other_at (sites_of self.entry.sites.now) (tokens_of self.entry.line.now))) }
     {

@@ -1,5 +1,8 @@
 //! The sites that a line names: each name that stands before brackets with up to `MOST_ARGUMENTS` arguments, whatever the line is.
 //! `same_tokens` gives back what it gets, in a form that the prover knows again.
+//!
+//! In contracts `Gives f result (NAME ..)` says that a function answers what the definition NAME gives for these tokens, and None where that does; f
+//! turns the code's value into that of the definitions.
 
 ghost use Rattle.std.specs.Prelude.{◌≡◌, ◌∷◌, IfOk, OnOk, option_map, Some};
 ghost use Rattle.orc_rules.specs.Digits.{Gives};
@@ -29,7 +32,9 @@ fn argument_step<'t, 'a>(tokens: &'t [Token<'a>]) -> Option<(bool, &'t [Token<'a
 fn some_arguments(tokens: &[Token<'_>]) -> Option<usize>
     ensures { result ≡ arguments_from MOST_ARGUMENTS (tokens_of tokens.now) }
 {
+    // `same_tokens` gives the tokens back as they are; the prover alone needs it.
     let mut rest = same_tokens(tokens);
+    // `before` is how many arguments have been read.
     for before in 0..MOST_ARGUMENTS {
         let Some((is_last, behind)) = argument_step(rest) else {
             return None;
@@ -42,7 +47,8 @@ fn some_arguments(tokens: &[Token<'_>]) -> Option<usize>
     None
 }
 
-// How many arguments stand before the `)`, of the tokens behind the `(`: 0 for `()`. None as of `some_arguments`, or if no token is left.
+// How many arguments stand before the `)`, of the tokens behind the `(`: 0 for `()`. None if a sign is missing, the arguments are over
+// `MOST_ARGUMENTS`, or no token is left.
 fn arguments_to_bracket(tokens: &[Token<'_>]) -> Option<usize>
     ensures { result ≡ arguments_behind (tokens_of tokens.now) }
 {
@@ -82,8 +88,8 @@ fn mention<'a>(token: &Token<'a>, behind: &[Token<'a>]) -> Option<(&'a [u8], usi
     Some((name, arguments(behind)?))
 }
 
-// Pushes a site that isn't among them, with the number of the line that names it. The list may grow to one over the limit, by which the caller sees
-// that they are too many. The error is refused memory.
+// Pushes a site that isn't among `sites`, with `line`, the number of the line that names it. The list may grow to one over the limit, by which the
+// caller sees that there are too many. The error is refused memory.
 fn add_site<'a>(
     sites: &mut Vec<SiteName<'a>>,
     line: usize,
@@ -92,11 +98,11 @@ fn add_site<'a>(
 ) -> Result<(), AllocError>
     ensures { OnOk result (sites_of sites.new.items ≡ with_site (sites_of sites.old.items) line name.now arguments) }
 {
-    // It is among them already.
+    // The site is among them already, so nothing is pushed.
     if number_of_site(sites.as_slice(), name, arguments) < sites.len() {
         return Ok(());
     }
-    // The one over the limit is there already.
+    // The one site over the limit is there already.
     if MOST_SITES < sites.len() {
         return Ok(());
     }
@@ -108,7 +114,7 @@ fn add_site<'a>(
     Ok(())
 }
 
-// Pushes the site that a token and the brackets behind it name, if they name one. The error is refused memory.
+// Pushes the site that a token and the brackets behind it name, if they name one, with the number of its line. The error is refused memory.
 fn add_first<'a>(
     sites: &mut Vec<SiteName<'a>>,
     line: usize,

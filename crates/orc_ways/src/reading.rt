@@ -1,4 +1,6 @@
 //! Reading a test: its lines one after the other, and then the checks of the whole.
+//!
+//! In contracts `Says` says that the text says this test, and `IsDraftFault` and `IsFault` that the fault is one of the text.
 
 ghost use Rattle.std.specs.Prelude.{◌≡◌, ◌≤◌, IfOk, IfErr, length};
 ghost use Rattle.std.specs.List.{list_any};
@@ -27,6 +29,7 @@ fn read_draft<'a>(alloc: Global, text: &'a [u8]) -> Result<Draft<'a>, TestFault>
     let mut rest = text;
     let mut number = 1;
     loop {
+        // `behind` is the text behind the line's LF, and None at the last line.
         let (line, behind) = split_line(rest);
         match draft.read_line(alloc, number, line) {
             Err(_) => return Err(TestFault::Memory),
@@ -74,7 +77,8 @@ fn is_served(site: &SiteName<'_>, lines: &[ServiceLine<'_>]) -> bool
     false
 }
 
-// The line of the first site that no service of the test has, and whose name none of the others has; None if there is no such site.
+// The number of the line that names the first site which no service of the test has, and whose name isn't among `others`, the sites that need no
+// service. None if there is no such site.
 fn unknown(others: &Answers, lines: &[ServiceLine<'_>], sites: &[SiteName<'_>]) -> Option<usize>
     ensures { result ≡ unknown_line others.now (service_lines_of lines.now) (sites_of sites.now) }
 {

@@ -25,7 +25,8 @@ use orc_rules::limits::MOST_ANSWERS;
 use orc_rules::value::Answer;
 use std::alloc::{AllocError, Global};
 
-// Reads the second number of a range, behind its `..`; None if there is none or it is less than the first.
+// Reads the second number of a delay's range, behind its `..`: gives the reply `answer` after `low` to this number, and the tokens behind it. None if
+// no number comes or it is less than `low`.
 fn range_end<'t, 'a>(
     answer: Answer,
     low: u64,
@@ -41,7 +42,8 @@ fn range_end<'t, 'a>(
     }
 }
 
-// Reads what stands behind the first number of a delay: `..` and a second number, or nothing, and then the range is that number alone.
+// Reads what stands behind `low`, the first number of a delay: `..` and a second number, or nothing, and then the range is `low` alone. Gives the
+// reply with `answer`, and the tokens behind it.
 fn range<'t, 'a>(
     answer: Answer,
     low: u64,
@@ -61,7 +63,8 @@ fn range<'t, 'a>(
     }
 }
 
-// Reads the `after` that may stand behind an answer, and its delay; without it the delay is 0.
+// Reads the `after` that may stand behind an answer, and its delay; without it the delay is 0. Gives the reply, and the tokens behind it. None if
+// `after` has no such delay.
 fn delayed<'t, 'a>(answer: Answer, tokens: &'t [Token<'a>]) -> Option<(Reply, &'t [Token<'a>])>
     ensures { Gives (λ x. (x.0, tokens_of x.1.now)) result (delay_or answer (tokens_of tokens.now) (behind_word (codes "after") (tokens_of tokens.now))) }
 {
@@ -107,6 +110,7 @@ fn history<'t, 'a>(
     ensures { IfOk result (λ o. Gives (λ x. (x.0.items, tokens_of x.1.now)) o (history_at (tokens_of tokens.now))) }
 {
     let mut replies = Vec::new(alloc);
+    // `same_tokens` gives the tokens back as they are; the prover alone needs it.
     let mut rest = same_tokens(tokens);
     for _ in 0..MOST_ANSWERS {
         let Some((reply, is_last, behind)) = reply_step(rest) else {
@@ -159,6 +163,7 @@ fn alternatives<'t, 'a>(
     ensures { IfOk result (λ o. Gives (λ x. (histories_of x.0.items, tokens_of x.1.now)) o (alternatives_at (tokens_of tokens.now))) }
 {
     let mut alternatives = Vec::new(alloc);
+    // `same_tokens` gives the tokens back as they are; the prover alone needs it.
     let mut rest = same_tokens(tokens);
     for _ in 0..MOST_ALTERNATIVES {
         let Some((replies, is_last, behind)) = alternative_step(alloc, rest)? else {
@@ -250,7 +255,7 @@ fn behind_equals<'t, 'a>(tokens: &'t [Token<'a>]) -> Option<&'t [Token<'a>]>
     }
 }
 
-/// The service that all tokens of a line are; None if they are none. The error is refused memory.
+/// The service that all tokens of a line are; None if they are no service. The error is refused memory.
 #[tactic(auto, unfolding(crate::specs::Lines::service_at))]
 pub fn service<'a>(alloc: Global, tokens: &[Token<'a>]) -> Result<Option<Service<'a>>, AllocError>
     ensures { IfOk result (λ o. Gives service_of o (service_at (tokens_of tokens.now))) }

@@ -56,7 +56,7 @@ fn is_variable_name(name: &[u8]) -> bool
     begins_small(name) && !follows_value(name)
 }
 
-// The place of the first token of the line that is this word, from 0.
+// The place, from 0, of the first token of the line that is this word; None if no token is.
 fn place_in(line: &[Token<'_>], word: &[u8]) -> Option<usize>
     ensures place { result ≡ place_of word.now (tokens_of line.now) }
     ensures within { IfSome result (λ at. at < length line.now) }
@@ -128,6 +128,7 @@ impl Scope<'_, '_> {
         ensures { IfOk result (λ o. Gives (λ x. (x.0.items, tokens_of x.1.now)) o (many (slot_step (tokens_of self.entry.line.now)) MOST_ARGUMENTS (tokens_of tokens.now))) }
     {
         let mut slots = Vec::new(alloc);
+        // `same_tokens` gives the tokens back as they are; the prover alone needs it.
         let mut rest = same_tokens(tokens);
         for _ in 0..MOST_ARGUMENTS {
             let Some((slot, is_last, behind)) = self.slot_step(rest) else {
@@ -142,7 +143,8 @@ impl Scope<'_, '_> {
         Ok(None)
     }
 
-    // Reads the slots behind a `(`, none or more, as `slots` does.
+    // Reads the slots behind a `(`, none to `MOST_ARGUMENTS`: the slots, and the tokens behind the `)`. None if the tokens don't begin so. The error
+    // is refused memory.
     fn slots_behind<'t, 'b>(
         self,
         alloc: Global,

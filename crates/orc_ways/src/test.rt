@@ -16,6 +16,7 @@ pub enum Reply {
 #[derive(Clone, Copy)]
 pub struct SiteName<'a> {
     pub name: &'a [u8],
+    /// How many arguments it is named with.
     pub arguments: usize,
     /// The number of the line that names it first, from 1.
     pub line: usize,
@@ -66,7 +67,9 @@ pub struct Case<'a> {
 pub struct Test<'a> {
     /// The sites in the order in which they are named first. A call in a claim has the place of its site here, from 0.
     pub sites: Vec<SiteName<'a>>,
+    /// The lines of services, in the order of the text.
     pub services: Vec<ServiceLine<'a>>,
+    /// The claims, in the order of the text.
     pub claims: Vec<Claim>,
     /// One for each claim, in the same order.
     pub claim_lines: Vec<ClaimLine<'a>>,

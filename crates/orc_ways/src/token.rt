@@ -2,6 +2,9 @@
 //!
 //! All readers of this crate work alike: they take tokens and hand back what they read and the tokens behind it, or None if the tokens don't begin
 //! so. A `.._step` reads one item of a list: the item, whether it is the last one, and the tokens behind the sign or word that follows it.
+//!
+//! In contracts `Gives f result (NAME ..)` says that a function answers what the definition NAME gives for these tokens, and None where that does; f
+//! turns the code's value into that of the definitions.
 
 ghost use Rattle.std.specs.Prelude.{◌≡◌, ◌≤◌, Option, option_map, length, IfOk, IfSome, List};
 ghost use Rattle.orc_rules.specs.Digits.{Gives};
@@ -54,6 +57,7 @@ fn first_token(bytes: &[u8]) -> Option<(Token<'_>, &[u8])>
             if *c == b'.' {
                 return dots(rest);
             }
+            // Any other token of a test is one of scripts.
             let (token, behind) = token::first_token(bytes)?;
             Some((Token::Plain(token), behind))
         }
@@ -69,6 +73,7 @@ pub fn cut_line<'a>(alloc: Global, line: &'a [u8]) -> Result<Option<Vec<Token<'a
     let mut rest = skip_blanks(line);
     // Each turn cuts off a byte at least, so there are enough turns; after the last one the line may still be at its end.
     for _ in 0..line.len() {
+        // The line is at its end, or at its comment.
         if is_line_end(rest) {
             return Ok(Some(tokens));
         }
