@@ -30,7 +30,8 @@ const WORKERS: usize = 2;
 /// The most entries of the run's journal: far more than this workflow needs.
 const LIMIT: u64 = 1000;
 
-// Runs the workflow, and then sends the clerk home, whatever has come of the run: else the clerk would wait for calls forever.
+// Runs the workflow on the sites of the office and with `Open`, a gate that holds no call. Then it sends the clerk home, whatever has come of the
+// run: else the clerk would wait for calls forever.
 fn run<R: Threads + Wait + Sync>(
     rt: &R,
     alloc: Global,
@@ -58,7 +59,7 @@ fn run<R: Threads + Wait + Sync>(
 
 fn main(rt: HostRuntime) -> io::Result<()> {
     let alloc = rt.alloc();
-    // The two texts are right, so nothing but memory can be missing.
+    // The two texts are right, so nothing but memory can be missing. What is sent by `jobs` comes out of the clerk's `inbox`.
     let (Ok(loaded), Ok((jobs, inbox))) = (
         load(alloc, WORKFLOW, SERVICES),
         unbounded::<Job, Global>(alloc),
@@ -72,6 +73,7 @@ fn main(rt: HostRuntime) -> io::Result<()> {
         jobs: &jobs,
         cancelled: AtomicU64::new(0),
     };
+    // The workflow and the clerk run side by side, each on a thread of its own.
     let (played, served) = thread::join(
         &rt,
         || run(&rt, alloc, &loaded, &office),
@@ -80,6 +82,7 @@ fn main(rt: HostRuntime) -> io::Result<()> {
     let Ok(played) = played else {
         return println!(&rt; "the engine has failed");
     };
+    // The run publishes one value, the price.
     for value in &played.published {
         if let Value::Number(price) = value {
             println!(&rt; "a bed for {price}")?;

@@ -64,6 +64,7 @@ impl<'a, R: Wait> Sites for Office<'a, R> {
         })
     }
 
+    // The engine reports that a call was cancelled.
     fn cancel(&self, _number: u64) {
         self.cancelled.fetch_add(1, Ordering::SeqCst);
     }

@@ -56,7 +56,8 @@ fn write_headed(
     }
 }
 
-// Appends the lines, each below the first one behind blanks, since that one stands behind the number; or a sentence if there are none.
+// Appends the lines of a failure's way, each but the first behind blanks, since the first stands behind the failure's number; or a sentence if there
+// are none.
 fn write_or_usual(lines: &[u8], text: &mut Vec<u8>) -> Result<(), AllocError>
     ensures { OnOk result (text.new.items ≡ text.old.items ++ lines_or_usual lines.now) }
 {

@@ -113,7 +113,8 @@ impl Course<'_> {
         }
     }
 
-    /// Appends where a claim with this verdict fails: at a happening, or at the end, as also for `Holds`. The error is refused memory.
+    /// Appends where a claim with this verdict fails: at a happening, or at the run's end. For a claim that holds it appends the end, too. The error
+    /// is refused memory.
     pub(crate) fn write_place(
         &self,
         alloc: Global,

@@ -49,7 +49,7 @@ fn is_always(line: &ClaimLine<'_>) -> bool
     }
 }
 
-// Whether the claim holds.
+// Whether a claim with this verdict holds.
 fn says_so(verdict: Verdict) -> bool
     ensures { result ≡ says_so verdict }
 {
@@ -167,7 +167,8 @@ impl Seen<'_> {
         course.write_place(alloc, sites, verdict, text)
     }
 
-    // Appends the line of a claim, and below one that fails the line that says where, which begins below the claim's text.
+    // Appends the line of a claim, and below one that fails the line that says where, which begins below the claim's text. `line` has the claim's
+    // text, and `judged` says what the claim says of the run.
     fn write_row(
         &self,
         alloc: Global,
@@ -191,7 +192,7 @@ impl Seen<'_> {
         Ok(())
     }
 
-    // Appends the lines of each claim below `always`.
+    // Appends the lines of each claim below `always`. The line and the verdict of each claim of the test are handed in, in the same order.
     fn write_rows(
         &self,
         alloc: Global,

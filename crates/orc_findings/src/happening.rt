@@ -72,7 +72,8 @@ fn write_name(sites: &[SiteName<'_>], site: u32, text: &mut Vec<u8>) -> Result<(
     }
 }
 
-/// Appends what happens, as `Pay(7, 100) answered 2001` or `published 3`. A site's number is its place among these. The error is refused memory.
+/// Appends what happens, as `Pay(7, 100) answered 2001` or `published 3`. The number of a call's site is the site's place in `sites`, from 0. The
+/// error is refused memory.
 pub fn write_occurrence(
     sites: &[SiteName<'_>],
     what: &Occurrence,

@@ -72,7 +72,8 @@ pub fn publish_action(steps: &Steps, from: usize, value: Value) -> Action
     }
 }
 
-/// Whether each operand of a call has a value in a scope. The contract promises it of `true` alone.
+/// Whether each operand of a call has a value in the scope with the number `scope`; `cells` says what each cell has become. The contract promises it
+/// of `true` alone.
 pub fn are_values(
     scopes: &[StoredScope],
     cells: &[Bound],
@@ -94,9 +95,9 @@ pub fn are_values(
     }
 }
 
-/// What a token at a call of a site does: `Call` where all operands have values, `Void` where one is void, else `Wait`. `operands` are those that are
-/// still to be looked at: `waits` says that one before them has no value yet, and `first` is the first unbound cell before them. A caller begins with
-/// all operands, false and None.
+/// What a token at a call of a site does, in the scope with the number `scope`: `Call` where all operands have values, `Void` where one is void, else
+/// `Wait`. `operands` are those that are still to be looked at: `waits` says that one before them has no value yet, and `first` is the first unbound
+/// cell before them. A caller begins with all operands, false and None.
 pub fn site_call_action(
     scopes: &[StoredScope],
     cells: &[Bound],
@@ -130,7 +131,8 @@ pub fn site_call_action(
     }
 }
 
-// What a token does whose term is a variable or a value, by what stands for it.
+// What a token does whose term is a variable or a value, by what stands for it in the scope with the number `scope`. `from` is the token's innermost
+// step, 0 if it has none.
 fn variable_action(
     scopes: &[StoredScope],
     cells: &[Bound],
@@ -152,7 +154,8 @@ fn variable_action(
     }
 }
 
-/// What a token does at this node of the program in this scope, where `from` is its innermost step, 0 if it has none.
+/// What a token does at the node with this number of the program, in the scope with the number `scope`. `from` is the token's innermost step, 0 if it
+/// has none.
 pub fn action_at(
     graph: &Graph,
     scopes: &[StoredScope],
@@ -170,6 +173,7 @@ pub fn action_at(
         Node::Stop => Action::Halt,
         Node::Name(name) => variable_action(scopes, cells, steps, Operand::Name(name), scope, from),
         Node::Is(value) => publish_action(steps, from, value),
+        // All operands are still to be looked at, so none is known to wait.
         Node::Site(_, list) => site_call_action(
             scopes,
             cells,

@@ -15,8 +15,8 @@ use orc_env::{Bound, StoredScope, meaning};
 use orc_rules::param::Operand;
 use orc_rules::value::Args;
 
-/// Writes the values of a call's operands over `args`, in their order, and says whether each has one. Where one has none (it is unbound or void),
-/// `args` has the values before it.
+/// Writes the values that a call's operands have in the scope with the number `scope` over `args`, in their order, and says whether each has one.
+/// Where one has none (it is unbound or void), `args` has the values before it.
 #[inline(always)]
 pub fn take_values(
     scopes: &[StoredScope],

@@ -18,8 +18,8 @@ fn is_number(entered: Frame, number: u64) -> bool
     }
 }
 
-/// Whether the otherwise with this number has published: true keeps its right side from ever running. `step` is a guess: None if it isn't the step
-/// into its left side, and then nothing is known.
+/// Whether the otherwise with this number, which is the mark of the token that entered it, has published: true keeps its right side from ever
+/// running. `step` is a guess: None if it isn't the step into its left side, and then nothing is known.
 pub fn left_at(steps: &Steps, step: usize, number: u64) -> Option<bool>
     requires { weight (tries number) steps.now.items ≤ 1 }
     ensures left { IfSome result (λ left. left ≡ has_left steps.now.items number) }

@@ -122,7 +122,8 @@ pub fn orc_into<R: Threads + Wait + Sync, W: Write>(
     Ok((status, text_of(err)?))
 }
 
-/// Does one command line over the files of a folder.
+/// Does one command line over the files of a folder. `words` begin with the program's name. The error is that a text that the program wrote isn't
+/// UTF-8.
 pub fn orc<R: Threads + Wait + Sync>(
     rt: &R,
     alloc: Global,

@@ -101,6 +101,7 @@ impl<R: Threads + Wait + Sync> Trial<'_, R> {
         if !self.row.has("marks") && !self.row.has("explains") {
             return Ok(());
         }
+        // `--explain` stands behind the words for this one run.
         words.push("--explain")?;
         let done = self.run(words.as_slice())?;
         words.pop();
@@ -172,6 +173,7 @@ impl<R: Threads + Wait + Sync> Trial<'_, R> {
         if is_halted && !plain.out.is_empty() || told.entries > MOST_EXPLAINED {
             return Ok(());
         }
+        // `--explain` stands behind the words for this one run.
         words.push("--explain")?;
         let done = self.run(words.as_slice())?;
         words.pop();
@@ -217,6 +219,7 @@ impl<R: Threads + Wait + Sync> Trial<'_, R> {
     // Runs the program again with `--journal`, and notes in what its journal differs from the row or from `plain`, the run without it. By `refuses` a
     // row says what a check has to say that reads another script.
     fn try_run_journal(&mut self, words: &mut Vec<&str>, plain: &Done) -> io::Result<()> {
+        // `--journal` stands behind the words for this one run.
         words.push("--journal")?;
         let done = self.run(words.as_slice())?;
         words.pop();

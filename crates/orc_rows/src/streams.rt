@@ -39,6 +39,7 @@ const OUTCOMES: &[&str] = &[
     "orc", "outcomes", "a.orc", "--script", "a.script", "--orders", "3",
 ];
 
+// It searches all schedules, and makes a run in one order.
 const SEARCH: &[&str] = &[
     "orc", "outcomes", "a.orc", "--script", "a.script", "--orders", "1", "--all",
 ];
@@ -52,6 +53,7 @@ const VERSION: &[&str] = &["orc", "--version"];
 // Command lines, and what each writes to standard output; the text of `HELP` isn't given here, so it is empty.
 const WHOLE: [(&[&str], &str); 7] = [
     (RUN, "6\n5\n"),
+    // In each order 6 is published at time 0, and 5 at time 2.
     (OUTCOMES, "order 0 (3 of 3) Halted: 6 5\n"),
     // There is a state before 6 is published, one behind it, one behind the wait for the left call, and one once 5 is published.
     (
@@ -67,7 +69,7 @@ const WHOLE: [(&[&str], &str); 7] = [
 // The line on standard error if standard output didn't take all.
 const UNWRITTEN: &str = "orc: write\n";
 
-// The status then.
+// The status of a command whose standard output didn't take all.
 const UNWRITTEN_STATUS: u8 = 6;
 
 // Tries command lines over files in memory, and reports on them. The errors of its functions are refused memory, or a text that isn't UTF-8.
@@ -128,6 +130,7 @@ impl<R: Threads + Wait + Sync> Streams<'_, R> {
     // the text, and the command says that the text wasn't written, except the last time.
     fn fails_at_each_call_of_a_writer(&mut self) -> io::Result<()> {
         for (words, text) in WHOLE.iter() {
+            // What the command writes, and its status, if nothing fails.
             let whole = orc(self.rt, self.alloc, words, &self.folder)?;
             if !text.is_empty() {
                 self.expect("another text is written", text, whole.out.as_str())?;

@@ -84,6 +84,7 @@ impl<P: Run> Scheduler<P> {
     }
 
     // Answers the call with this number by the table, and puts the token on its answer into the run queue. False if the call is gone or isn't due.
+    // The error is why the run stops.
     fn answer_drawn(&mut self, number: u64) -> Result<bool, Stop>
         ensures advances { IfOk result (λ answered. answered ≡ true → Advances self.old.ledger self.new.ledger) }
         ensures none { IfOk result (λ answered. answered ≡ false → (self.new.ledger ≡ self.old.ledger) × (self.new.ready ≡ self.old.ready)) }
@@ -96,6 +97,7 @@ impl<P: Run> Scheduler<P> {
         let Found::After(answer, _) = call.found else {
             return Ok(false);
         };
+        // The slot is that of the token on the answer. None comes of a halt: then the call's group ends if nothing is left in it.
         match self.ledger.returned(number, answer) {
             Ok(Some(slot)) => self.join_held(slot)?,
             Ok(None) => {
@@ -110,7 +112,8 @@ impl<P: Run> Scheduler<P> {
         Ok(true)
     }
 
-    /// Makes a call of a site in a run with an order. Its answer has a turn of its own, even if it is due at once.
+    /// Makes a call of a site that a script answers, in a run with an order. The token in this slot is at that call. The call's answer has a turn of
+    /// its own, even if it is due at once. The error is why the run stops.
     #[cold]
     #[inline(never)]
     pub(crate) fn call_apart(
@@ -124,6 +127,7 @@ impl<P: Run> Scheduler<P> {
         ensures moved { IfOk result (λ step. Advances self.old.ledger self.new.ledger × (step ≡ Step.Waits → ⊥)) }
         ensures stops { IfErr result (λ stop. Stops P.listing self.new.ledger stop) }
     {
+        // The ledger writes the call's arguments into `self.args`, which is lent for that. Nothing reads them afterwards.
         match self.ledger.call(inputs, slot, token, &mut self.args) {
             // The call pends in the token's place.
             Ok(call) => {
@@ -138,19 +142,20 @@ impl<P: Run> Scheduler<P> {
         }
     }
 
-    // Notes a call that was made: if it is due at once its answer has a turn.
+    // Notes a call that was made: if it is due at once its answer has a turn. The error is refused memory.
     fn note_made(&mut self, call: &Call) -> Result<(), Stop>
         ensures same { self.new.ledger ≡ self.old.ledger }
         ensures memory { IfErr result (λ stop. stop ≡ Stop.Refused LedgerFault.Memory) }
     {
         match call.found {
+            // The delay is 0, so the call is due at once.
             Found::After(_, 0) => self.note_call(call.number),
             // `note_due` notes it once time has come to it; one that is never answered has no turn.
             _ => Ok(()),
         }
     }
 
-    // Puts the call with this number among those that the order draws.
+    // Puts the call with this number among those that the order draws. The error is refused memory.
     fn note_call(&mut self, number: u64) -> Result<(), Stop>
         ensures same { self.new.ledger ≡ self.old.ledger }
         ensures memory { IfErr result (λ stop. stop ≡ Stop.Refused LedgerFault.Memory) }
@@ -161,7 +166,7 @@ impl<P: Run> Scheduler<P> {
         }
     }
 
-    /// Time has passed: the calls that are due now have turns, where there is an order.
+    /// Notes that time has passed: where there is an order, the calls that are due now get turns. The error is refused memory.
     pub(crate) fn note_due(&mut self) -> Result<(), Stop>
         ensures same { self.new.ledger ≡ self.old.ledger }
         ensures memory { IfErr result (λ stop. stop ≡ Stop.Refused LedgerFault.Memory) }

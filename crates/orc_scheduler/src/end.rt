@@ -20,8 +20,8 @@ use orc_rules::program::Program;
 impl<P: Run> Scheduler<P> {
     /// The result of a run that stops for this reason. None if only a journal can show how the run ended, and it keeps none.
     ///
-    /// The fault is Memory if memory was refused for the result, Broken if the records contradict the reason, and Site if the reason is Site. If `go`
-    /// gave the reason, and the scope check accepted the program, no fault but Memory comes.
+    /// The fault is Memory if memory was refused for the result, Broken if the reason is Broken or the records contradict it, and Site if the reason
+    /// is Site. If `go` gave the reason, and the scope check accepted the program, no fault but Memory comes.
     pub fn finish(
         mut self,
         program: &Program,
@@ -45,7 +45,8 @@ impl<P: Run> Scheduler<P> {
         }
     }
 
-    // How a run has ended that stops for this reason; None, Broken and Site as of `finish`.
+    // How a run has ended that stops for this reason. None if only a journal can show it, and the run keeps none. The fault is Broken if the reason
+    // is Broken or the records contradict it, and Site if the reason is Site.
     fn end(
         &mut self,
         program: &Program,

@@ -7,7 +7,7 @@ pub(crate) struct Holding {
     is_on: bool,
     // The slot of the token that is held back on a value.
     last: Option<usize>,
-    // Whether the run can't be used any more.
+    // Whether the sub-run can't replace its call any more.
     is_unusable: bool,
 }
 

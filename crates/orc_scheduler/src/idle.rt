@@ -53,7 +53,7 @@ impl<P: Run> Scheduler<P> {
         }
     }
 
-    // A token that doesn't wait moves, and its turn comes again.
+    // The token in this slot, which doesn't wait, moves, and its turn comes again. The error is why the run stops.
     fn set_going(&mut self, inputs: &Inputs<'_, P>, slot: usize, token: Token) -> Result<(), Stop>
         requires held { IsHeld self.old.ledger.slots slot token }
         requires moves { is_wait (what_of (code P.listing) (definitions P.listing) self.old.ledger token) ≡ false }
@@ -68,7 +68,7 @@ impl<P: Run> Scheduler<P> {
         }
     }
 
-    /// Answers the due call with the least number, by the table. False if no call is due.
+    /// Answers the due call with the least number, by the table. False if no call is due. The error is why the run stops.
     pub(crate) fn answer_due(&mut self) -> Result<bool, Stop>
         ensures advances { IfOk result (λ answered. answered ≡ true → Advances self.old.ledger self.new.ledger) }
         ensures none { IfOk result (λ answered. answered ≡ false → (self.new.ledger ≡ self.old.ledger) × NoneIsDue self.old.ledger) }
@@ -82,7 +82,7 @@ impl<P: Run> Scheduler<P> {
         Ok(true)
     }
 
-    // A call is answered, and the turn of the token on its answer comes.
+    // Gives this call its answer, and puts the token on the answer into the run queue. The error is why the run stops.
     fn answer_pending(&mut self, call: Call, answer: Answer) -> Result<(), Stop>
         ensures advances { IfOk result (λ _. Advances self.old.ledger self.new.ledger) }
         ensures stops { IfErr result (λ stop. Pends self.old.ledger call.number call → IsDueNow P.listing P.sites self.old.ledger call.number answer → Stops P.listing self.new.ledger stop) }
@@ -93,7 +93,8 @@ impl<P: Run> Scheduler<P> {
         Ok(())
     }
 
-    // A call is answered. Gives the slot of the token on its answer; None if the call halts, and its group ends if it has no members any more.
+    // Gives this call its answer, and gives the slot of the token on it; None if the call halts, and its group ends if it has no members any more.
+    // The error is why the run stops.
     fn answer(&mut self, call: Call, answer: Answer) -> Result<Option<usize>, Stop>
         ensures advances { IfOk result (λ _. Advances self.old.ledger self.new.ledger) }
         ensures stops { IfErr result (λ stop. Pends self.old.ledger call.number call → IsDueNow P.listing P.sites self.old.ledger call.number answer → Stops P.listing self.new.ledger stop) }

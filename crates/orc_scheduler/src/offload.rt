@@ -202,6 +202,7 @@ impl<P: Run> Scheduler<P> {
         }
         // If memory is refused the token isn't in the run queue, but the ledger has it, and `recover` finds it there.
         let _joined = self.join_after(handle.slot, handle.moves);
+        // The group of the call's token ends if nothing is left in it.
         self.close(group)?;
         Ok(true)
     }

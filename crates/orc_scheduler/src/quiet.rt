@@ -12,8 +12,8 @@ use orc_rules::answers::Answers;
 use orc_rules::program::Program;
 use std::alloc::Global;
 
-/// Whether a run with this journal is quiet, by the rules alone: it applies each entry to the marked term. None if memory is refused, or if the
-/// marked term refuses an entry, as it does in no journal of a ledger.
+/// Whether a run with this journal is quiet, by the rules alone: it applies each entry to the checker's marked term, the program's term with marks
+/// for its tokens. None if memory is refused, or if the marked term refuses an entry, as it does in no journal of a ledger.
 pub(crate) fn is_quiet_at(
     alloc: Global,
     program: &Program,
@@ -22,7 +22,7 @@ pub(crate) fn is_quiet_at(
 ) -> Option<bool>
     ensures { IfSome result (λ quiet. (p : Place) → Leads (context program.now answers.now) (begin (source program.now)) journal.now.entries p → (quiet ≡ true) ↔ IsQuiet (context program.now answers.now) (moment p)) }
 {
-    // The journal records the cancels of each bind.
+    // `true` says that the journal records the cancels of each bind.
     let Ok(mut marked) = Marked::new(alloc, program, true) else {
         return None;
     };

@@ -173,7 +173,7 @@ impl Ready {
         }
     }
 
-    /// A call came due, and has a turn if there is an order. The error is refused memory.
+    /// Notes that the call with this number came due: it has a turn if there is an order. The error is refused memory.
     pub(crate) fn note_call(&mut self, number: u64) -> Result<(), AllocError>
         ensures { self.new.handles ≡ self.old.handles }
     {
@@ -205,12 +205,14 @@ impl Ready {
         };
         let count = self.handles.len();
         if order.settled < count {
+            // The token takes the first place behind the settled ones, and the one that was there goes to the end.
             self.handles.swap(order.settled, count - 1);
             order.settled += 1;
         }
     }
 
-    /// Whose turn the order draws: that of a token or of a call, which is taken. None where there is no order, or nobody to draw.
+    /// Whose turn the order draws: that of a token, which is taken out of the queue, or of a call, which is taken out of those that came due. None
+    /// where there is no order, or nobody to draw.
     pub(crate) fn draw<P: Run>(&mut self, ledger: &Ledger<P>) -> Option<Drawn>
         ensures { HasDrawn result (deque_len self.old.handles) (deque_len self.new.handles) }
     {
@@ -228,6 +230,7 @@ impl Ready {
         // Places count tokens first, then the calls that are due.
         let count = tokens.saturating_add(order.calls.len());
         let mut at = order.draw(count);
+        // In an odd order the one with the highest rank of eight candidates has the turn. In an even one the first candidate has it.
         for _ in 0..order.rivals() {
             let rival = order.draw(count);
             let handles = &self.handles;

@@ -199,7 +199,8 @@ impl<P: Run> Scheduler<P> {
         self.join(0, 1)
     }
 
-    // The turn of the token with this serial comes. The error is refused memory.
+    // Puts the token with this serial, which is in this slot, into the run queue as the newest. `self.moves` moves have led to it. The error is
+    // refused memory.
     fn join(&mut self, slot: usize, serial: u64) -> Result<(), Stop>
         ensures same { self.new.ledger ≡ self.old.ledger }
         ensures memory { IfErr result (λ stop. stop ≡ Stop.Refused LedgerFault.Memory) }
@@ -244,14 +245,14 @@ impl<P: Run> Scheduler<P> {
             Ok(Turn::Rests) => Ok(false),
             Err(stop) => Err(stop),
         };
-        // As in `go`: the clauses *within* and *few*.
+        // Both show the prover a clause, *within* and *few*, which hold of any scheduler. Nothing comes of them.
         self.ledger.is_whole();
         let _ready = self.ready.len();
         went
     }
 
     /// Gives a token its turn: it moves until it is gone, waits, or has made its moves. Between two rounds of 64 turns it answers a call that is due
-    /// instead, which tokens that move on and on would starve otherwise.
+    /// instead, which tokens that move on and on would starve otherwise. The error is why the run stops.
     pub(crate) fn turn(&mut self, inputs: &Inputs<'_, P>) -> Result<Turn, Stop>
         ensures turned { IfOk result (λ turn. HasTurned self.old.ledger (deque_len self.old.ready.handles) self.new.ledger (deque_len self.new.ready.handles) turn) }
         ensures stops { IfErr result (λ stop. Stops P.listing self.new.ledger stop) }
@@ -260,6 +261,7 @@ impl<P: Run> Scheduler<P> {
             return self.drawn_turn(inputs);
         }
         if self.ready.is_round_over() {
+            // Handles of tokens that are gone leave the front of the queue.
             self.sweep();
             if self.answer_due()? {
                 return Ok(Turn::Went);
@@ -273,7 +275,7 @@ impl<P: Run> Scheduler<P> {
     }
 
     /// Moves the token of a handle that was taken from the run queue, until it is gone, waits, is held back, or its turn is over. In the last case it
-    /// goes back into the queue.
+    /// goes back into the queue. The error is why the run stops.
     pub(crate) fn move_on(&mut self, inputs: &Inputs<'_, P>, handle: Handle) -> Result<(), Stop>
         ensures nearer { IfOk result (λ _. IsNearer self.old.ledger (deque_len self.old.ready.handles + 1) self.new.ledger (deque_len self.new.ready.handles)) }
         ensures stops { IfErr result (λ stop. Stops P.listing self.new.ledger stop) }
@@ -284,6 +286,7 @@ impl<P: Run> Scheduler<P> {
         };
         let mut slot = handle.slot;
         for moved in 0..MOVES {
+            // So many moves have led to the token by now. The handles that are made in its move get this number.
             self.moves = handle.moves.saturating_add(moved);
             // A turn has one move at least, even of a token that stands where turns end.
             if moved > 0 && self.is_turn_over(inputs, &token) {
@@ -308,6 +311,7 @@ impl<P: Run> Scheduler<P> {
                 None => return Ok(()),
             }
         }
+        // The turn is over, and the token goes back into the queue.
         self.join(slot, token.serial)
     }
 
@@ -373,7 +377,8 @@ impl<P: Run> Scheduler<P> {
         }
     }
 
-    /// Puts the token in a slot into the run queue, as `join_held` does, as one to which `moves` moves have led.
+    /// Puts the token in a slot into the run queue, as one to which `moves` moves have led; nothing happens if the slot is free. The error is refused
+    /// memory.
     pub(crate) fn join_after(&mut self, slot: usize, moves: u32) -> Result<(), Stop>
         ensures same { self.new.ledger ≡ self.old.ledger }
     {
@@ -409,7 +414,8 @@ impl<P: Run> Scheduler<P> {
         self.pass_on(inputs, slot, token)
     }
 
-    // One move of a token, of any kind, and what follows from it, as of `step`.
+    // One move of the token in this slot, of any kind, and all that follows from it: tokens that it wakes or adds are put into the run queue, groups
+    // that it leaves without members end. The answer says how the token goes on, the error why the run stops.
     #[inline(always)]
     fn pass_on(&mut self, inputs: &Inputs<'_, P>, slot: usize, token: Token) -> Result<Step, Stop>
         requires held { IsHeld self.old.ledger.slots slot token }
@@ -421,7 +427,9 @@ impl<P: Run> Scheduler<P> {
         calls_fit(&self.ledger);
         match self.pass(inputs, slot, token) {
             Ok(Moved::On) => Ok(Step::On(slot)),
+            // The token has become two, and `right` is the slot of the second one.
             Ok(Moved::Forked(right)) => self.part(slot, right),
+            // In this arm and the two below, the group may have no member any more, and ends then.
             Ok(Moved::Sent(group)) => {
                 self.close(group)?;
                 Ok(Step::On(slot))
@@ -436,6 +444,7 @@ impl<P: Run> Scheduler<P> {
                 Ok(Step::Done)
             }
             Ok(Moved::Calls) => self.call(inputs, slot, token),
+            // The token stays in its slot, and is entered for each cell that it needs.
             Ok(Moved::Waits) => {
                 self.wait(inputs, slot)?;
                 Ok(Step::Waits)
@@ -450,7 +459,8 @@ impl<P: Run> Scheduler<P> {
 
     // One move of a token at the commonest nodes: a call, `f | g`, `stop`, and `f >x> g`, which it enters and goes through in one move. It is a
     // faster form of `pass_on`, which serves moves of any kind. None, with nothing changed, if the token stands elsewhere or can't move, and in an
-    // order at a call of a site or at `f >x> g`.
+    // order at a call of a site or at `f >x> g`. The token in this slot stands at `node`, in the scope with the number `scope`; `list` is the number
+    // of a call's list of operands.
     #[inline(always)]
     fn step_at(
         &mut self,
@@ -468,6 +478,7 @@ impl<P: Run> Scheduler<P> {
     {
         match node {
             Node::Site(site, list) if self.goes_through => {
+                // `self.args` is lent: the ledger writes the call's arguments there, and nothing reads them afterwards.
                 let args = &mut self.args;
                 match self
                     .ledger
@@ -477,20 +488,25 @@ impl<P: Run> Scheduler<P> {
                         Ok(step) => Ok(Some(step)),
                         Err(stop) => Err(stop),
                     },
+                    // An argument has no value. Nothing has changed, and `pass_on` goes on.
                     Ok(None) => Ok(None),
                     Err(fault) => {
+                        // A law, in each arm below too: where the ledger was full its journal shows that it can have been, as `Stops` asks. Nothing
+                        // runs.
                         self.ledger.full_is_crowded();
                         Err(Stop::Refused(fault))
                     }
                 }
             }
             Node::Call(definition, list) => {
+                // `self.scopes` is lent: the ledger writes the scopes of the definition's parameters there.
                 let scopes = &mut self.scopes;
                 match self
                     .ledger
                     .def(inputs, slot, token, scope, definition, list, scopes)
                 {
                     Ok(true) => Ok(Some(Step::On(slot))),
+                    // The call doesn't fit the definition. Nothing has changed; no checked program has such a call.
                     Ok(false) => Ok(None),
                     Err(fault) => {
                         self.ledger.full_is_crowded();
@@ -501,7 +517,7 @@ impl<P: Run> Scheduler<P> {
             Node::Par(left, right) => {
                 match self.ledger.fork(slot, token, scope, left, right) {
                     Ok(other) => {
-                        // The right side's token has the last mark.
+                        // `other` is the slot of the right side's token. Its serial is its mark, the last one that was given.
                         let mark = self.ledger.next_mark().saturating_sub(1);
                         match self.join(other, mark) {
                             Ok(()) => Ok(Some(Step::On(slot))),
@@ -515,17 +531,19 @@ impl<P: Run> Scheduler<P> {
                 }
             }
             Node::Seq(left, name, right) if self.goes_through => {
+                // `self.args` is lent for the arguments, in case that f is a call of a site.
                 let args = &mut self.args;
                 match self
                     .ledger
                     .feed_through(inputs, slot, token, scope, left, name, right, args)
                 {
                     Ok(passed) => match passed {
+                        // The call in f halted at once. Its group ends if nothing is left in it.
                         Passed::Halted(group) => {
                             self.close(group)?;
                             Ok(Some(Step::Done))
                         }
-                        // The result of a sub-run in which a call pends can't be merged.
+                        // The call pends, and the token is gone. The result of a sub-run in which a call pends can't be merged.
                         Passed::Pends(_) => {
                             self.holding.give_up();
                             Ok(Some(Step::Done))
@@ -561,7 +579,8 @@ impl<P: Run> Scheduler<P> {
         }
     }
 
-    // Lets the ledger move a token once. The caller does the rest: it fills the run queue, wakes tokens and closes groups.
+    // Lets the ledger move a token once. The caller does the rest: it fills the run queue, wakes tokens and closes groups. `self.scopes` and
+    // `self.cancelled` are lent to the ledger, which writes there the scopes of a definition's parameters and the calls that a bind cancels.
     #[inline(always)]
     fn pass(
         &mut self,
@@ -575,7 +594,7 @@ impl<P: Run> Scheduler<P> {
         ensures why { IfErr result (λ fault. IsHindered P.listing self.old.ledger token fault) }
         ensures ready { self.new.ready ≡ self.old.ready }
     {
-        // What `advance` would do too; this asks for no node.
+        // `advance` would do the same. A token on a value is at no node, so this call is the shorter way.
         if let Standing::On(value) = token.standing {
             return self
                 .ledger
@@ -586,7 +605,7 @@ impl<P: Run> Scheduler<P> {
     }
 
     // The tokens of a pruning's two sides stand in these slots. The right one goes on, so that its group may be gone before the left side opens more;
-    // the left one goes into the run queue.
+    // the left one goes into the run queue. The error is refused memory.
     #[inline(always)]
     fn part(&mut self, left: usize, right: usize) -> Result<Step, Stop>
         ensures same { self.new.ledger ≡ self.old.ledger }
@@ -597,7 +616,8 @@ impl<P: Run> Scheduler<P> {
         Ok(Step::On(right))
     }
 
-    // A call of a site. Where the table answers it at once, the token on its answer goes on; but in an order a script's answer has a turn of its own.
+    // Makes the call of a site at which the token in this slot is. Where the table answers it at once, the token on its answer goes on; but in an
+    // order a script's answer has a turn of its own. The error is why the run stops.
     #[inline(always)]
     fn call(&mut self, inputs: &Inputs<'_, P>, slot: usize, token: Token) -> Result<Step, Stop>
         requires held { IsHeld self.old.ledger.slots slot token }
@@ -608,19 +628,21 @@ impl<P: Run> Scheduler<P> {
         if self.ready.is_ordered() && is_at_script(inputs.graph, inputs.answers, &token) {
             return self.call_apart(inputs, slot, token);
         }
+        // `call_through` makes the call and, if the table answers it at once, records the answer, too. `self.args` is lent for the arguments.
         match self
             .ledger
             .call_through(inputs, slot, token, &mut self.args)
         {
             Ok(called) => self.after_call(slot, called),
             Err(fault) => {
+                // A law: where the ledger was full its journal shows that it can have been, as `Stops` asks. Nothing runs.
                 self.ledger.full_is_crowded();
                 Err(Stop::Refused(fault))
             }
         }
     }
 
-    // How the token in a slot goes on after its call of a site.
+    // How the token in a slot goes on after its call of a site. The error is why the run stops.
     #[inline(always)]
     fn after_call(&mut self, slot: usize, called: Called) -> Result<Step, Stop>
         ensures goes { IfOk result (λ step. Goes self.old.ledger self.new.ledger × (step ≡ Step.Waits → ⊥)) }
@@ -628,11 +650,12 @@ impl<P: Run> Scheduler<P> {
     {
         match called {
             Called::Answered(_) => Ok(Step::On(slot)),
+            // The call halted at once, and the token is gone. Its group ends if nothing is left in it.
             Called::Halted(group) => {
                 self.close(group)?;
                 Ok(Step::Done)
             }
-            // The result of a sub-run in which a call pends can't be merged.
+            // The call pends, and the token is gone. The result of a sub-run in which a call pends can't be merged.
             Called::Pends(_) => {
                 self.holding.give_up();
                 Ok(Step::Done)
@@ -650,6 +673,7 @@ impl<P: Run> Scheduler<P> {
         let Some(token) = self.ledger.held(slot) else {
             return Ok(());
         };
+        // `park` lists in `self.cells` the cells for which the token waits.
         if self
             .ledger
             .park(inputs, slot, token, &mut self.cells)
@@ -681,7 +705,8 @@ impl<P: Run> Scheduler<P> {
         }
     }
 
-    /// A group that has no members any more ends, and so do those that enclose it. The program's own, group 0, is left to the run's end.
+    /// The group with this number ends if it has no members any more, and then so does each that encloses it, if it has none either. The program's
+    /// own, group 0, is left to the run's end. The error is why the run stops.
     #[inline(always)]
     pub(crate) fn close(&mut self, group: u32) -> Result<(), Stop>
         ensures goes { IfOk result (λ _. Goes self.old.ledger self.new.ledger) }
@@ -693,7 +718,8 @@ impl<P: Run> Scheduler<P> {
         self.close_from(group)
     }
 
-    /// The group ends if it is open and has no members, and then so do those that enclose it.
+    /// The group with this number ends if it is open and has no members, and then so does each that encloses it, if it has none either. The error is
+    /// why the run stops.
     #[inline(never)]
     pub(crate) fn close_from(&mut self, group: u32) -> Result<(), Stop>
         ensures goes { IfOk result (λ _. Goes self.old.ledger self.new.ledger) }
@@ -709,6 +735,7 @@ impl<P: Run> Scheduler<P> {
             let halted = match self.ledger.halt(number) {
                 Ok(halted) => halted,
                 Err(HaltFault::Refused(fault)) => {
+                    // A law: where the ledger was full its journal shows that it can have been, as `Stops` asks. Nothing runs.
                     self.ledger.full_is_crowded();
                     return Err(Stop::Refused(fault));
                 }
@@ -718,11 +745,14 @@ impl<P: Run> Scheduler<P> {
                 Err(HaltFault::Live) => unreachable!(),
             };
             match halted {
+                // The right side of a `<x<` has ended without a value: the tokens that wait for its cell are woken.
                 Halted::Lost(cell, parent) => {
                     self.wake(cell)?;
                     number = parent;
                 }
+                // The left side of a `;` has halted and published nothing: a token in this slot starts the right side.
                 Halted::Resumed(slot) => return self.join_held(slot),
+                // The left side of a `;` has halted and had published: the right side never runs.
                 Halted::Closed(parent) => number = parent,
             }
         }

@@ -86,7 +86,8 @@ impl<P: Run> SubRunJob<P> {
     }
 }
 
-// Makes the sub-run of a task: its program is the call alone, with the definitions of the run's program. Nothing if memory is refused, too.
+// Makes the sub-run of a task: its program is the call alone, with the definitions of the run's program. It has at most `limit` entries, and `keeps`
+// says whether its journal is kept. Nothing if memory is refused, too.
 fn came_of<P: Run>(
     alloc: Global,
     inputs: &Inputs<'_, P>,

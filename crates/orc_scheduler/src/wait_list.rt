@@ -69,7 +69,8 @@ impl Waiting {
         Ok(place as u32)
     }
 
-    /// A token waits for a cell: it comes first in the cell's chain. The error is refused memory, or that of `put`.
+    /// A token waits for a cell: it comes first in the cell's chain. The error is refused memory, or that the place of its link needs more than 32
+    /// bits.
     pub(crate) fn add(&mut self, cell: u64, handle: Handle) -> Result<(), AllocError> {
         let cell = cell as usize;
         for _ in self.heads.len()..cell.saturating_add(1) {
@@ -100,6 +101,7 @@ impl Waiting {
                 break;
             };
             ready.push(link.handle)?;
+            // The link becomes the first of the free ones. Its index is its place less 1.
             if let Some(there) = self.links.get_mut(place.saturating_sub(1) as usize) {
                 there.next = self.free;
             }

@@ -137,7 +137,8 @@ fn is_same(section: Option<usize>, other: Option<usize>) -> bool
     }
 }
 
-// What is reported of a claim over a case; None if it isn't held against the runs of the case, or nothing is reported of it.
+// What is reported of a claim over a case; None if it isn't held against the runs of the case, or nothing is reported of it. `section` is the
+// claim's: its case, or None for `always`.
 pub(crate) fn told_here(
     section: Option<usize>,
     claim: usize,
@@ -173,7 +174,7 @@ fn is_tested(told: Option<Told>) -> bool
     }
 }
 
-// The first failure of a claim, in the first case that has one; None if no trial shows one.
+// The first failure of a claim, in the first case that has one; None if no trial shows one. `section` is the claim's: its case, or None for `always`.
 fn shown_in(section: Option<usize>, claim: usize, cases: &[CaseReport]) -> Option<Shown>
     ensures { result ≡ shown_in section claim 0 cases.now }
 {
@@ -193,7 +194,7 @@ fn shown_in(section: Option<usize>, claim: usize, cases: &[CaseReport]) -> Optio
     }
 }
 
-// Whether a claim was put to the test in some case.
+// Whether a claim was put to the test in some case. `section` is the claim's: its case, or None for `always`.
 fn tested_in(section: Option<usize>, claim: usize, cases: &[CaseReport]) -> bool
     ensures { result ≡ tested_in section claim 0 cases.now }
 {
@@ -220,7 +221,7 @@ fn is_full(report: &CaseReport) -> bool
     report.tried == report.ways && report.cut == 0
 }
 
-// Whether all ways were tried and no run was cut, in each case against which a claim of this section is held.
+// Whether all ways were tried and no run was cut, in each case against which a claim of this section (a case, or None for `always`) is held.
 fn are_full(section: Option<usize>, cases: &[CaseReport]) -> bool
     ensures { result ≡ are_full section 0 cases.now }
 {
@@ -241,14 +242,14 @@ fn are_full(section: Option<usize>, cases: &[CaseReport]) -> bool
 }
 
 /// Whether a search through all schedules may still say more of a claim: it failed in no trial, all ways of the cases against which it is held were
-/// tried, and no run was cut. `section` and `claim` are the claim's.
+/// tried, and no run was cut. `section` is the claim's case, or None for `always`, and `claim` its place in the test, from 0.
 pub fn is_open(cases: &[CaseReport], section: Option<usize>, claim: usize) -> bool
     ensures { result ≡ is_open cases.now section claim }
 {
     shown_in(section, claim, cases).is_none() && are_full(section, cases)
 }
 
-// What came of the search for a claim, `No` if none was made.
+// What came of the search for the claim at this place; `No` if none was made.
 fn found_of(searched: &[Searched], claim: usize) -> Searched
     ensures { result ≡ found_of (slice_get searched.now claim) }
 {
@@ -277,7 +278,7 @@ fn unshown(claim: usize, tested: bool, searched: Searched) -> Row
     }
 }
 
-// The row of a claim of this section. A trial in which it fails is shown before a schedule that breaks it.
+// The row of a claim of this section (a case, or None for `always`). A trial in which it fails is shown before a schedule that breaks it.
 fn row_of(cases: &[CaseReport], searched: &[Searched], section: Option<usize>, claim: usize) -> Row
     ensures { result ≡ row_of cases.now searched.now section claim }
 {
@@ -291,7 +292,7 @@ fn row_of(cases: &[CaseReport], searched: &[Searched], section: Option<usize>, c
     }
 }
 
-// Pushes the rows of those of these claims that are in the section. The error is refused memory.
+// Pushes the rows of those of these claims that are in the section: in this case, or below `always` if it is None. The error is refused memory.
 fn add_claims(
     cases: &[CaseReport],
     searched: &[Searched],

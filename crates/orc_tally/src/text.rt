@@ -57,7 +57,7 @@ pub fn claim_text<'a>(line: &ClaimLine<'a>) -> &'a [u8]
 }
 
 impl Report<'_, '_> {
-    // The name of the case at this place; nothing if there is none.
+    // Appends the name of the case at this place; nothing if there is none.
     fn write_name(&self, case: usize, text: &mut Vec<u8>) -> Result<(), AllocError>
         ensures { OnOk result (text.new.items ≡ text.old.items ++ name_at (slice_get self.now.test.now.cases.items case)) }
     {
@@ -67,7 +67,7 @@ impl Report<'_, '_> {
         }
     }
 
-    // The text of a claim; the one without a line is `ends Halted or Quiet`.
+    // Appends the text of the claim at this place; the one without a line is `ends Halted or Quiet`.
     fn write_claim(&self, claim: usize, text: &mut Vec<u8>) -> Result<(), AllocError>
         ensures { OnOk result (text.new.items ≡ text.old.items ++ claim_at (slice_get self.now.test.now.claim_lines.items claim)) }
     {
@@ -77,7 +77,7 @@ impl Report<'_, '_> {
         }
     }
 
-    // How many ways a case has, and how many of them were tried if not all; nothing if nothing is reported of the case.
+    // Appends how many ways a case has, and how many of them were tried if not all; nothing if nothing is reported of the case.
     fn write_ways(&self, alloc: Global, case: usize, text: &mut Vec<u8>) -> Result<(), AllocError>
         ensures { OnOk result (text.new.items ≡ text.old.items ++ case_ways (slice_get self.now.cases.now case)) }
     {
@@ -131,7 +131,8 @@ impl Report<'_, '_> {
         self.write_name(case, text)
     }
 
-    // In how many ways a claim fails, for each case in which it does: `27 of 378 ways of slow, 5 of 48 ways of anything`
+    // Appends in how many ways a claim fails, for each case in which it does: `27 of 378 ways of slow, 5 of 48 ways of anything`. `section` is the
+    // claim's: its case, or None for `always`.
     fn write_shares(
         &self,
         alloc: Global,
@@ -171,7 +172,7 @@ impl Report<'_, '_> {
         Ok(())
     }
 
-    // Where a claim fails: in how many ways of which cases, or in a schedule.
+    // Appends where a claim fails: in how many ways of which cases, or in a schedule.
     fn write_share(
         &self,
         alloc: Global,
@@ -238,7 +239,7 @@ impl Report<'_, '_> {
         text.extend_from_slice(note.as_bytes())
     }
 
-    // The line of a row.
+    // Appends the line of a row.
     fn write_row(&self, alloc: Global, row: Row, text: &mut Vec<u8>) -> Result<(), AllocError>
         ensures { OnOk result (text.new.items ≡ text.old.items ++ row_text self.now row) }
     {
@@ -254,7 +255,8 @@ impl Report<'_, '_> {
         }
     }
 
-    // The lines of rows, each failure with its details below it. `details` has those of the first failure first; a failure behind its end has none.
+    // Appends the lines of rows, each failure with its details below it. `details` has those of the first failure first; a failure behind its end has
+    // none.
     fn write_rows(
         &self,
         alloc: Global,
@@ -392,7 +394,7 @@ fn write_many(alloc: Global, orders: u64, text: &mut Vec<u8>) -> Result<(), Allo
     Ok(())
 }
 
-// In how many orders each way was run.
+// Appends in how many orders each way was run: `, 1 order`, or `, 20 orders each`.
 fn write_orders(alloc: Global, orders: u64, text: &mut Vec<u8>) -> Result<(), AllocError>
     ensures { OnOk result (text.new.items ≡ text.old.items ++ orders_text orders) }
 {
@@ -402,7 +404,7 @@ fn write_orders(alloc: Global, orders: u64, text: &mut Vec<u8>) -> Result<(), Al
     write_many(alloc, orders, text)
 }
 
-// How many ways there are, and how many were tried if not all: `: 2 of 1,728 ways`
+// Appends how many ways there are, and how many were tried if not all: `: 2 of 1,728 ways`
 fn write_ways(alloc: Global, ways: u64, tried: u64, text: &mut Vec<u8>) -> Result<(), AllocError>
     ensures { OnOk result (text.new.items ≡ text.old.items ++ ways_text ways tried) }
 {

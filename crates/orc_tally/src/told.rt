@@ -142,7 +142,7 @@ pub fn joined(alloc: Global, told: &[Told], others: &[Told]) -> Result<Vec<Told>
                 [] => return Ok(all),
                 [other, behind @ ..] => {
                     let Some(sum) = one.joined(*other) else {
-                        // No machine makes 2^64 runs.
+                        // Not reached: no machine makes 2^64 runs.
                         return Err(AllocError);
                     };
                     all.push(sum)?;

@@ -54,6 +54,7 @@ impl Turnstile {
 }
 
 impl Gate for Turnstile {
+    // The call with this `number`, from 1, comes to the gate: it is counted, and held if its number is one of `first` to `last`.
     fn pass(&self, number: u64) {
         self.entered.fetch_add(1, Ordering::SeqCst);
         if number < self.first || number > self.last {
@@ -67,6 +68,7 @@ impl Gate for Turnstile {
         self.ran_out.fetch_add(1, Ordering::SeqCst);
     }
 
+    // False: then `run_pool` passes the gate with each call.
     fn is_open(&self) -> bool {
         false
     }
@@ -110,6 +112,7 @@ impl<'a> Sites for Twisted<'a> {
     type Call = SiteCall<'a>;
 
     fn call(&self, request: &Request) -> Result<SiteCall<'a>, AllocError> {
+        // The request that the table answers in the place of this one; a twist may change it.
         let mut other = request.copied();
         match self.twist {
             Twist::Held(gate) => gate.pass(request.number),
@@ -127,11 +130,12 @@ impl<'a> Sites for Twisted<'a> {
 
     fn cancel(&self, _number: u64) {}
 
-    // With `Refused` no call waits; sites may say so all the same.
+    // With `Refused` no call waits for another thread; sites may say so all the same.
     fn may_wait(&self) -> bool {
         matches!(self.twist, Twist::Held(_) | Twist::Refused(_))
     }
 
+    // False: then the engine makes each call by these sites, and doesn't go by the table.
     fn goes_by_table(&self) -> bool {
         false
     }
@@ -156,6 +160,7 @@ pub(crate) struct OddCall<'a> {
     waker: Option<Waker>,
 }
 
+// The lines that begin with `ghost` are for the prover: the call answers only when it is due (`gives`).
 impl Future for OddCall<'_> {
     ghost use Rattle.std.specs.Prelude.{◌≡◌, true};
     ghost use Rattle.orc_site.specs.Call.{due_of};
@@ -167,6 +172,7 @@ impl Future for OddCall<'_> {
 
     fn poll(&mut self, cx: &mut Context<'_>) -> Poll<Answer> {
         match self.manner {
+            // The call stays pending: nothing wakes the waker that is registered here.
             Manner::Nothing => cx.register(&self.source, &mut self.waker),
             // It is ready when the table's answer is, and answers 0 in its place.
             Manner::Zero => match self.call.poll(cx) {
@@ -177,6 +183,8 @@ impl Future for OddCall<'_> {
     }
 }
 
+// For the prover: which time was handed in last (`moment`), when the call is due (`when`), that it may be polled at any time (`always`), and that it
+// answers only when it is due (`early`).
 impl SiteFuture for OddCall<'_> {
     ghost use Rattle.orc_site.specs.Call.{due_of};
 
@@ -188,6 +196,7 @@ impl SiteFuture for OddCall<'_> {
 
     ghost early = { λ odd answer is. is };
 
+    // The engine hands in the logical time.
     fn at(&mut self, now: u64) {
         self.call.at(now);
     }
@@ -218,6 +227,7 @@ impl<'a> Sites for Odd<'a> {
 
     fn cancel(&self, _number: u64) {}
 
+    // False: then the engine makes each call by these sites, and doesn't go by the table.
     fn goes_by_table(&self) -> bool {
         false
     }
@@ -332,6 +342,7 @@ pub(crate) struct Noting<'a> {
 }
 
 impl Gate for Noting<'_> {
+    // Notes that the call with this `number`, from 1, passes. Call 1 waits here for its cancel if the hold is `Gate`.
     fn pass(&self, number: u64) {
         if let Some(note) = self.board.note(number) {
             note.passed.fetch_add(1, Ordering::SeqCst);
@@ -341,6 +352,7 @@ impl Gate for Noting<'_> {
         }
     }
 
+    // False: then `run_pool` passes the gate with each call.
     fn is_open(&self) -> bool {
         false
     }
@@ -349,6 +361,7 @@ impl Gate for Noting<'_> {
 impl<'a> Sites for Noting<'a> {
     type Call = NotedCall<'a>;
 
+    // Notes that the call is made. Call 1 waits here for its cancel if the hold is `Call`.
     fn call(&self, request: &Request) -> Result<NotedCall<'a>, AllocError> {
         if let Some(note) = self.board.note(request.number) {
             note.made.fetch_add(1, Ordering::SeqCst);
@@ -374,6 +387,7 @@ impl<'a> Sites for Noting<'a> {
         }
     }
 
+    // False: then the engine makes each call by these sites, and doesn't go by the table.
     fn goes_by_table(&self) -> bool {
         false
     }
@@ -406,6 +420,7 @@ impl NotedCall<'_> {
     }
 }
 
+// The lines that begin with `ghost` are for the prover: the call answers what the table says, and only when it is due (`gives`).
 impl Future for NotedCall<'_> {
     ghost use Rattle.orc_site.specs.Call.{IsReply};
 
@@ -418,6 +433,7 @@ impl Future for NotedCall<'_> {
         if self.holds && self.is_due() {
             self.board.hold(self.number);
         }
+        // A cancelled call that doesn't answer late stays pending: nothing wakes the waker that is registered here.
         if !self.answers_late && self.board.is_gone(self.number) {
             return cx.register(&self.source, &mut self.waker);
         }
@@ -425,6 +441,8 @@ impl Future for NotedCall<'_> {
     }
 }
 
+// For the prover: which time was handed in last (`moment`), when the call is due (`when`), that it may be polled at any time (`always`), and that it
+// answers only when it is due (`early`).
 impl SiteFuture for NotedCall<'_> {
     ghost use Rattle.orc_site.specs.Call.{due_of};
 
@@ -436,6 +454,7 @@ impl SiteFuture for NotedCall<'_> {
 
     ghost early = { λ noted answer is. is.0 };
 
+    // The engine hands in the logical time. An earlier one than the latest so far is ignored.
     fn at(&mut self, now: u64) {
         self.now = self.now.max(now);
         self.call.at(now);

@@ -79,8 +79,8 @@ fn by_odd<R: Threads + Wait + Sync>(
     Some(run_pool(rt, alloc, program, answers, &sites, &Open, options))
 }
 
-// Programs, and what their calls answer in place of the table's answers: 2 at once, or a signal after 1 or 7 units. In the last two the other call is
-// never due.
+// Programs, and how the sites answer their calls. By the table `Add(1, 1)` answers 2 at once, and `Rwait` a signal after 1 or 7 units: the sites
+// answer 0 or nothing in its place. In the last two rows the call of `Never` is never due.
 const SILENT: [(&[u8], Manner); 6] = [
     (b"Add(1, 1)", Manner::Zero),
     (b"Add(1, 1)", Manner::Nothing),
@@ -196,11 +196,13 @@ fn is_told<R: Threads + Wait + Sync>(
 
 // Programs that halt, with calls of which some may be cancelled.
 const TOLD: [&[u8]; 6] = [
+    // In each of these three x gets the first value, and the other calls are cancelled. In the third all are due at the same time.
     b"x <x< (Rwait(2) >> 20 | Rwait(1) >> 10)",
     b"x <x< (Rwait(5) | Rwait(9) | Rwait(7))",
     b"x <x< (Rwait(5) | Rwait(5) | (Rwait(5) | Rwait(5)))",
     // Calls of prunings inside the dropped side.
     b"x <x< (Rwait(1) >> 1 | (y <y< (Never() | Rwait(3))) | (Never() ; 2))",
+    // Races one after another, nine in the first loop and five in the second. In each of them up to two calls are cancelled.
     b"def loop(n) = Lt(n, 9) >b> (Iff(b) >> n | Ift(b) >> (x <x< (n | Never() | Rwait(5))) >> Add(n, 1) >m> loop(m))\nloop(0) | loop(4)",
     b"(x <x< (Add(1, 1) | Add(2, 2) | Add(3, 3))) | (y <y< (Add(4, 4) | Add(5, 5)))",
 ];
@@ -246,7 +248,8 @@ fn counts_no_more<R: Threads + Wait + Sync>(
 
 // Programs that publish 4 alone if call 1 is held until it is cancelled: call 1 is in the branch that would publish another value.
 const CANCELLED: [&[u8]; 3] = [
-    // The call is polled at once; in the second program it is polled again when both are due.
+    // Call 1 is polled at once; in the second program it is polled again when both waits are due. In the third the 4 comes of a race inside the other
+    // one.
     b"x <x< (Add(1, 1) | Add(2, 2))",
     b"x <x< (Rwait(1) >> 1 | Rwait(1) >> 4)",
     b"x <x< (Add(1, 1) | Rwait(0) >> (y <y< (Add(2, 2) | Rwait(1))))",
@@ -287,8 +290,9 @@ const RACES: i64 = 3_200;
 // at least, and, since 3,200 races have 12,800 calls at least, before the run ends.
 const OPENS_AT: u64 = 12_600;
 
-// Call 1 is in a side that is dropped at once. It is held while more groups are dropped than there are words of groups, 2,048: their words must
-// become free all the same. A race has at most 25 entries, so the limit of 100,000 isn't reached.
+// Whether a run halts and publishes `RACES` alone in which call 1 is in a side that is dropped at once. The call is held while more groups are
+// dropped than there are words of groups, 2,048: their words must become free all the same. A race has at most 25 entries, so the limit of 100,000
+// isn't reached.
 fn takes_no_group<R: Threads + Wait + Sync>(rt: &R, alloc: Global, workers: usize) -> bool {
     let source =
         b"def loop(n) = Lt(n, 3200) >b> (Iff(b) >> n | Ift(b) >> (x <x< (n | Never() | Rwait(5))) >> Add(n, 1) >m> loop(m))

@@ -23,7 +23,8 @@ use std::thread::Threads;
 // How many tasks go through the queues.
 const TASKS: u64 = 10_000;
 
-// Whether each of five calls of `take` gave a pass. The first pass is given back before the fourth.
+// Whether each of five calls of `take` gave a pass, which is idle or names a group. The first pass is given back before the fourth call. `J` is a
+// name of the table of groups, for the prover; so it is below.
 fn takes<J: Naming>(made: Unnamed) -> [bool; 5]
     requires { made.table.shared.table_id ≡ J.table }
 {
@@ -40,7 +41,7 @@ fn takes<J: Naming>(made: Unnamed) -> [bool; 5]
     [took[0], took[1], took[2], fourth.is_some(), fifth.is_some()]
 }
 
-// The third call finds none; the fourth gets the one that came back, and the fifth finds none.
+// The table has one group and two passes. The third call finds none; the fourth gets the one that came back, and the fifth finds none.
 #[test]
 fn a_supply_of_two_gives_two(rt: HostRuntime) -> Result<(), Fail> {
     let made = Unnamed::new(rt.alloc(), 1, 2)?;
@@ -88,7 +89,7 @@ fn live<J: Naming>(made: Unnamed) -> Option<[bool; 8]>
     ])
 }
 
-// There are two words and eight passes; the group is opened as 1.
+// There are two groups, 0 and 1, each with a word, and eight passes. `live` opens group 1.
 #[test]
 fn a_group_is_opened_anew_once_all_have_left(rt: HostRuntime) -> Result<(), Fail> {
     let made = Unnamed::new(rt.alloc(), 2, 8)?;
@@ -122,8 +123,8 @@ where
     one.0 != two.0 && one.1 != two.1
 }
 
-// In how many of a hundred rounds just one of two threads won the mark, and just one was the last. The supply needs two passes for each round, since
-// none is given back.
+// In how many of a hundred rounds just one of two threads won the mark, and just one was the last. Each round opens group 0 anew. The supply needs
+// two passes for each round, since none is given back.
 fn rounds<J, R>(rt: &R, made: Unnamed) -> Option<u32>
 where
     J: Naming + Send + Sync,
@@ -142,6 +143,7 @@ where
     Some(right)
 }
 
+// There are 200 passes, two for each of the hundred rounds. In each of the rounds one thread wins, and one is last.
 #[test]
 fn one_of_two_threads_wins_and_one_is_last(rt: HostRuntime) -> Result<(), Fail> {
     let made = Unnamed::new(rt.alloc(), 1, 200)?;
@@ -342,7 +344,7 @@ fn grow_on_four<R: Threads + Sync>(
     Ok(())
 }
 
-// The tasks are 0, 1, 2 and so on, and 1, 2, 3 and so on afterwards.
+// Before, the tasks are 0, 1, 2 and so on. Each grows by one once, so they are 1, 2, 3 and so on afterwards.
 #[test]
 fn each_task_is_done_once_by_four_workers(rt: HostRuntime) -> Result<(), Fail> {
     let mut tasks = Vec::new(rt.alloc());
@@ -358,7 +360,8 @@ fn each_task_is_done_once_by_four_workers(rt: HostRuntime) -> Result<(), Fail> {
     Ok(())
 }
 
-// A cell has two names. The second bind, by the other name, gives its box back, and both names read what the first one has put there.
+// A cell has two names, `cell` and `shared`, and a note remembers what was read by it. The second bind, by the other name, gives its box back, and
+// both names read what the first one has put there.
 #[test]
 fn a_cell_is_bound_once(rt: HostRuntime) -> Result<(), Fail> {
     let alloc = rt.alloc();
@@ -381,7 +384,8 @@ fn a_cell_is_bound_once(rt: HostRuntime) -> Result<(), Fail> {
     Ok(())
 }
 
-// A thread that binds a cell has read it, and so has one that comes too late to bind it.
+// A thread that binds a cell has read it, and so has one that comes too late to bind it: the note that each hands in has the first value. A reader is
+// a cell with a note of it.
 #[test]
 fn a_bind_reads(rt: HostRuntime) -> Result<(), Fail> {
     let alloc = rt.alloc();
@@ -404,7 +408,8 @@ fn a_bind_reads(rt: HostRuntime) -> Result<(), Fail> {
     Ok(())
 }
 
-// A call of `Rwait` with this delay that is made at this time. None doesn't come: the site is built in.
+// A call of `Rwait` with this delay that is made at this time, as call 1 and the first one with this argument (`nth`). None doesn't come: the site is
+// built in. The error is refused memory.
 fn rwait<'a>(
     answers: &'a Answers,
     delay: i64,
@@ -440,7 +445,7 @@ fn poll(solo: &Solo, call: &mut SiteCall<'_>) -> Option<Answer> {
 // far is ignored, so the call keeps its answer at 3.
 const MOMENTS: [(u64, bool); 5] = [(7, false), (6, false), (8, true), (3, true), (9, true)];
 
-// The call is made at 5 with a delay of 3.
+// The call is made at 5 with a delay of 3, so it is due at 8. Before that a poll finds it pending, and from then on it gives the signal.
 #[test]
 fn a_call_is_ready_from_its_due_time_on(rt: HostRuntime) -> Result<(), Fail> {
     let answers = Answers::builtin(rt.alloc())?;

@@ -162,6 +162,7 @@ const AT_ONCE: Worked = Worked {
 
 // Programs that need no time, for each operator, definitions and the range of numbers. A row that gives `entries` has the same number in each order.
 const TERMS: [Worked; 20] = [
+    // The one entry here is the publication, and in the next row the end of the token on `stop`.
     Worked {
         source: b"1",
         published: Published::Are(&[1]),
@@ -179,6 +180,7 @@ const TERMS: [Worked; 20] = [
         published: Published::Are(&[11]),
         ..AT_ONCE
     },
+    // The ten entries: the `>x>` is entered, and the `|` forks; then each side sends, calls, returns and publishes.
     Worked {
         source: b"(1 | 2) >x> Add(x, 10)",
         published: Published::InAnyOrder(&[11, 12]),
@@ -195,6 +197,7 @@ const TERMS: [Worked; 20] = [
         published: Published::OneOf(&[1, 2]),
         ..AT_ONCE
     },
+    // Both arguments are the same x, so the sum isn't 3.
     Worked {
         source: b"val x = 1 | 2\nAdd(x, x)",
         published: Published::OneOf(&[2, 4]),
@@ -220,12 +223,14 @@ const TERMS: [Worked; 20] = [
         published: Published::Are(&[2]),
         ..AT_ONCE
     },
+    // x is lost, so the call ends, and the right side of `;` starts. The seven entries are other, open, end, lost, void, right and publish.
     Worked {
         source: b"(Add(x, 1) <x< stop) ; 7",
         published: Published::Are(&[7]),
         entries: Some(7),
         ..AT_ONCE
     },
+    // The call of `Ift` halts, so x is lost here, too.
     Worked {
         source: b"(Add(x, 1) <x< Ift(false)) ; 3",
         published: Published::Are(&[3]),
@@ -247,7 +252,7 @@ const TERMS: [Worked; 20] = [
         published: Published::Are(&[1]),
         ..AT_ONCE
     },
-    // The argument is the outer x, and the body adds its own one to it.
+    // The argument is the outer x, and the body adds its own one to it. The eight entries are open, bind, def, open, bind, call, return and publish.
     Worked {
         source: b"def g(a) = Add(a, x) <x< 1\ng(x) <x< 10",
         published: Published::Are(&[11]),
@@ -259,6 +264,7 @@ const TERMS: [Worked; 20] = [
         published: Published::Are(&[10]),
         ..AT_ONCE
     },
+    // f publishes the numbers from n down to 1. At 0 `Ift(b)` halts.
     Worked {
         source: b"def f(n) = Ift(b) >> Add(n, -1) >m> (f(m) | n) <b< Lt(0, n)\nf(5)",
         published: Published::InAnyOrder(&[1, 2, 3, 4, 5]),
@@ -309,6 +315,7 @@ const TIMES: [Worked; 9] = [
         now: Some(5),
         ..AT_ONCE
     },
+    // The ten entries are other, seq, call, tick, return, send, the call of `Ift` and its halt, right and publish.
     Worked {
         source: b"(Rwait(3) >> Ift(false)) ; 9",
         published: Published::Are(&[9]),
@@ -323,6 +330,7 @@ const TIMES: [Worked; 9] = [
         now: Some(u64::MAX),
         ..AT_ONCE
     },
+    // The last wait would be over at 2^64, so the run is quiet at 2^64 - 2. It makes no call of the script's site.
     Worked {
         source: b"Rwait(9223372036854775807) >> Rwait(9223372036854775807) >> Rwait(2) >> 1",
         script: b"Never() = never\n",
@@ -331,12 +339,14 @@ const TIMES: [Worked; 9] = [
         now: Some(u64::MAX - 1),
         ..AT_ONCE
     },
+    // The wait stands in an argument: the sum is made once both arguments have values.
     Worked {
         source: b"Add(Add(1, 2), Rwait(1) >> 4)",
         published: Published::Are(&[7]),
         now: Some(1),
         ..AT_ONCE
     },
+    // After the wait y is 2, and x gets it, since `Iff(false)` gives a signal.
     Worked {
         source: b"Add(1, x) <x< Rwait(1) >> 2 >y> Iff(false) >> y",
         published: Published::Are(&[3]),
@@ -352,6 +362,7 @@ const TIMES: [Worked; 9] = [
     },
 ];
 
+// Each row allows each of its runs, so no row is at fault.
 #[test]
 fn works_in_time(rt: HostRuntime) -> Result<(), Fail> {
     assert_eq!(rt; first_fault(&rt, rt.alloc(), &TIMES)?, None);
@@ -391,6 +402,7 @@ const SCRIPTS: [Worked; 7] = [
         now: Some(2),
         ..AT_ONCE
     },
+    // The third call answers 5, so the 0 behind the last `;` isn't published.
     Worked {
         source: b"Try() ; Try() ; Try() ; 0",
         script: b"Try() = halt then halt then 5",
@@ -414,6 +426,7 @@ const SCRIPTS: [Worked; 7] = [
     },
 ];
 
+// Each row allows each of its runs, so no row is at fault.
 #[test]
 fn works_by_scripts(rt: HostRuntime) -> Result<(), Fail> {
     assert_eq!(rt; first_fault(&rt, rt.alloc(), &SCRIPTS)?, None);
@@ -438,6 +451,7 @@ const LIMITS: [Worked; 9] = [
         entries: Some(9),
         ..AT_ONCE
     },
+    // The one entry enters the `>x>`, so nothing is published.
     Worked {
         source: b"(1 | 2) >x> Add(x, 10)",
         limit: 1,
@@ -461,6 +475,7 @@ const LIMITS: [Worked; 9] = [
         entries: Some(2_047),
         ..AT_ONCE
     },
+    // A loop whose calls are the entries ends at the limit; so does the next one, in which time passes.
     Worked {
         source: b"def f() = f()\nf()",
         limit: 500,
@@ -497,6 +512,7 @@ const LIMITS: [Worked; 9] = [
     },
 ];
 
+// Each row allows each of its runs, so no row is at fault.
 #[test]
 fn works_to_its_limits(rt: HostRuntime) -> Result<(), Fail> {
     assert_eq!(rt; first_fault(&rt, rt.alloc(), &LIMITS)?, None);
@@ -527,6 +543,7 @@ const LOOPS: [Worked; 3] = [
     },
 ];
 
+// Each row allows each of its runs, so no row is at fault.
 #[test]
 fn starves_nothing_on_any_number_of_workers(rt: HostRuntime) -> Result<(), Fail> {
     assert_eq!(rt; first_fault(&rt, rt.alloc(), &LOOPS)?, None);
@@ -544,6 +561,7 @@ const KILLS: [Worked; 1] = [Worked {
     ..AT_ONCE
 }];
 
+// Each row allows each of its runs, so no row is at fault.
 #[test]
 fn works_a_storm_of_kills(rt: HostRuntime) -> Result<(), Fail> {
     assert_eq!(rt; first_fault(&rt, rt.alloc(), &KILLS)?, None);
@@ -560,6 +578,7 @@ const STANDING: [Worked; 1] = [Worked {
     ..AT_ONCE
 }];
 
+// Each row allows each of its runs, so no row is at fault.
 #[test]
 fn works_beside_groups_that_stand(rt: HostRuntime) -> Result<(), Fail> {
     assert_eq!(rt; first_fault(&rt, rt.alloc(), &STANDING)?, None);

@@ -30,7 +30,8 @@ pub(crate) fn keeping(workers: usize, limit: u64) -> RunOptions {
     }
 }
 
-/// A run with sites that answer as the table says, which keeps its journal. The error is the engine's.
+/// A run with sites that answer as the table says and with this gate. It keeps its journal, which has at most `limit` entries, cancels not counted.
+/// The error is the engine's.
 pub(crate) fn play<R: Threads + Wait + Sync, G: Gate + Sync>(
     rt: &R,
     alloc: Global,
@@ -121,37 +122,45 @@ fn end_of<R: Threads + Wait + Sync, G: Gate + Sync>(
 // Programs with their scripts. In each order that the rules allow a program here publishes the same values, though perhaps one before another.
 const ORDERED: [(&[u8], &[u8]); 8] = [
     (b"1 | (2 | 3) >x> Add(x, 10)", b""),
+    // Each call of `tree` but those with 0 makes two more, and each of the 64 with 0 publishes 0.
     (
         b"def tree(n) = Lt(0, n) >b> (Iff(b) >> n | Ift(b) >> Sub(n, 1) >m> (tree(m) | tree(m)))\ntree(6)",
         b"",
     ),
+    // 20 comes at time 3, and 1 at time 7. For each of them two calls race: for 20 the one of `A` wins, for 1 the one of `B`.
     (
         b"(A() | B()) >x> (y <y< (A() | Rwait(x) >> B()))",
         b"A() = 1 after 7\nB() = 20 after 3\n",
     ),
+    // The calls with 0 and 1 halt. After each of them comes a wait, and then a call with the next number. The call with 2 answers 5.
     (
         b"def retry(n) = A(n) ; Lt(n, 3) >b> Ift(b) >> Rwait(2) >> Add(n, 1) >m> retry(m)\nretry(0)",
         b"A(2) = 5 after 1\nA(_) = halt after 4\n",
     ),
+    // The clock publishes the numbers from 9 down to 1, one every three units.
     (
         b"def clock(n) = Lt(0, n) >b> Ift(b) >> (n | Rwait(3) >> Sub(n, 1) >m> clock(m))\nclock(9)",
         b"",
     ),
+    // x is 3 at time 9, when `A()` halts; y is 2 at time 4.
     (
         b"(Add(x, y) <x< (A() ; 3)) <y< Rwait(4) >> 2",
         b"A() = halt after 9\n",
     ),
+    // x is lost, so the left side of `;` halts. The right side publishes 4, and waits forever for the call of `Never`.
     (
         b"(Add(x, 1) <x< stop) ; ((x <x< Never()) | 4)",
         b"Never() = never\n",
     ),
+    // The first line that matches answers, so both calls give 1, and `If(true)` gives a signal: the run publishes 1.
     (
         b"val a = A()\nval b = B()\nIf(Eq(a, b)) >> 1 ; Add(a, b)",
         b"A() = 1 after 2\nA() = 9\nB() = 1 after 8\nIf(true) = signal\nIf(false) = halt\n",
     ),
 ];
 
-// Whether `run_alone` publishes what the reference does, in any order, ends as it does, and at the same logical time.
+// Whether `run_alone`, which has no workers, publishes what the reference does, in any order, ends as it does, and at the same logical time. It is
+// given no order, and needn't keep its journal.
 fn is_as_alone(alloc: Global, loaded: &Loaded, reference: &Played) -> bool {
     match run_alone(alloc, &loaded.program, &loaded.answers, None, false, LIMIT) {
         Ok(played) => {
@@ -163,8 +172,8 @@ fn is_as_alone(alloc: Global, loaded: &Loaded, reference: &Played) -> bool {
     }
 }
 
-// Whether runs on one worker and on several publish what the reference does, and end as it does and when it does. None if the program doesn't load,
-// or the reference doesn't run it.
+// Whether runs on one worker and on several publish what the reference does, and end as it does and when it does. The gate `Slow` makes the workers
+// hold the run's tokens. None if the program doesn't load, or the reference doesn't run it.
 fn do_as_the_reference<R: Threads + Wait + Sync>(
     rt: &R,
     alloc: Global,
@@ -242,6 +251,7 @@ const HELD: [HeldRow; 8] = [
         wanted: 2,
         workers: &[2],
     },
+    // In this row and the two below four calls stand in different brackets. Each is held until all four have come.
     HeldRow {
         source: b"Add(1, 2) | Add(3, 4) | Add(5, 6) | Add(7, 8)",
         values: FOUR,

@@ -9,7 +9,8 @@ use orc_subrun::Numbering;
 use std::alloc::{AllocError, Global};
 use std::test::Fail;
 
-// The text of a journal; empty if the script can't be read, so that the test fails. Site 3 is `Lt` in it, site 6 `Rwait`, and site 7 `A`.
+// The text of a journal; empty if the script can't be read, so that the test fails. The sites of its calls are 3, the built-in `Lt`, 6, the built-in
+// `Rwait`, and 7, the script's `A`.
 fn text_of(alloc: Global, journal: &Journal) -> Result<Vec<u8>, AllocError> {
     let mut text = Vec::new(alloc);
     if let Ok(answers) = read_script(alloc, b"A(_, _) = 1\n") {
@@ -18,7 +19,8 @@ fn text_of(alloc: Global, journal: &Journal) -> Result<Vec<u8>, AllocError> {
     Ok(text)
 }
 
-// A journal keeps the numbers and values of what was pushed. No run has these entries: the journal doesn't ask whether they are allowed.
+// A journal keeps the numbers and values of what was pushed. A push takes the numbers in the order of the entry's line: in that of the call they are
+// mark 1, call 2 and site 3, `Lt`. No run has these entries: the journal doesn't ask whether they are allowed.
 #[test]
 fn keeps_what_is_pushed(rt: HostRuntime) -> Result<(), Fail> {
     let mut journal = Journal::new(rt.alloc(), Version::Two);

@@ -65,7 +65,7 @@ fn takes_65535_nodes(rt: HostRuntime) -> Result<(), Fail> {
     Ok(())
 }
 
-// Whether the main term is `Add(n, 4) <n< Add(1, 2)`, which `Add(Add(1, 2), 4)` means for a new n.
+// Whether the main term is `Add(n, 4) <n< Add(1, 2)`, which `Add(Add(1, 2), 4)` means for a new n. Site 0 is `Add`.
 fn has_arguments(program: &Program) -> bool {
     let TermNode::Prune(left, new, right) = program.node(program.source()) else {
         return false;
@@ -87,7 +87,8 @@ fn writes_out_arguments(rt: HostRuntime) {
     assert!(rt; has_arguments(&program));
 }
 
-// Whether `val x = f(1) x` is `x <x< f(1)`, and the body of `def f(f) = f` its parameter, which hides the definition of the same name.
+// Whether the program of `writes_out_val` was read right. Its `val` has become a pruning, so the main term is `x <x< f(1)`. In `def f(f) = f`,
+// definition 0, the body means the parameter, which hides the definition of the same name.
 fn has_val(program: &Program) -> bool {
     let TermNode::Prune(left, x, right) = program.node(program.source()) else {
         return false;

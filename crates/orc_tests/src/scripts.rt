@@ -115,7 +115,8 @@ fn answer(answers: &Answers, call: &Places) -> Option<usize> {
     }
 }
 
-// Whether a script of fewer than 60 lines is read, and all calls are answered as its lines say. Scripts have from no `_` to nothing else.
+// Whether a script of fewer than 60 lines is read, and all calls are answered as its lines say. `wildcards` is the chance of a `_`, 0 to 100 in a
+// hundred.
 fn trial(alloc: Global, dice: &mut Dice) -> Result<bool, AllocError> {
     let wildcards = dice.roll(101);
     let mut lines = Vec::new(alloc);
