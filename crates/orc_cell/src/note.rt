@@ -9,6 +9,7 @@ use once_cell::race::Note as Sight;
 /// What one reader knows of one cell: that it has read nothing, or which value it has read.
 #[derive(Drop)]
 pub struct Note<T: Drop> {
+    // The kit's note of the kit's cell (`Cell::shared`).
     pub(crate) sight: Sight<T>,
 }
 

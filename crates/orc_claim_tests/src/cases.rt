@@ -33,7 +33,8 @@ fn scripts_of(alloc: Global, text: &[u8]) -> Result<Vec<u8>, AllocError> {
     Ok(told)
 }
 
-// Tests, and the ways of their first cases: those with fewer unusual lines come first, and of these those with fewer unusual calls.
+// Tests, and the ways of their first cases, as `scripts_of` writes them: behind a line `way` the unusual lines of the way, and behind a line `-` its
+// script. Those with fewer unusual lines come first, and of these those with fewer unusual calls.
 const WAYS: [(&[u8], &[u8]); 4] = [
     (
         b"case c\nA(_) = 1 | 2 | never\nB(1, true) = 4 after 3 | halt after 7\n",
@@ -82,7 +83,7 @@ fn a_case_has_its_ways_in_order(rt: HostRuntime) -> Result<(), Fail> {
 }
 
 // Tests, and how many ways their first cases have: None where they are over a million. The third has one too many, the fourth 32 to the power of 4,
-// and the fifth 31 squared.
+// and the fifth 31 squared. A case without lines has one way.
 const SIZES: [(&[u8], Option<u64>); 6] = [
     (b"case c\nA() = 1 after 0..9223372036854775807\n", None),
     (b"case c\nA() = 1 after 1..100\n", Some(100)),
@@ -107,7 +108,7 @@ fn a_case_has_so_many_ways(rt: HostRuntime) -> Result<(), Fail> {
     Ok(())
 }
 
-// Whether a script is one of these.
+// Whether the script `wanted` is one of these.
 fn is_among(scripts: &[&[u8]], wanted: &[u8]) -> bool {
     for script in scripts {
         if *script == wanted {
@@ -117,7 +118,8 @@ fn is_among(scripts: &[&[u8]], wanted: &[u8]) -> bool {
     false
 }
 
-// What is written of the ranges of the first way if the ways with these scripts fail. Empty where `ways_of` gives None.
+// What is written of the ranges of the first way, that of number 0, if the ways with the scripts `failing` fail and no others. Empty where `ways_of`
+// gives None.
 fn ranges_told(alloc: Global, text: &[u8], failing: &[&[u8]]) -> Result<Vec<u8>, AllocError> {
     let Some(ways) = ways_of(alloc, text)? else {
         return Ok(Vec::new(alloc));
@@ -130,7 +132,8 @@ fn ranges_told(alloc: Global, text: &[u8], failing: &[&[u8]]) -> Result<Vec<u8>,
     ways.failing_ranges(alloc, 0, fails.as_slice())
 }
 
-// Tests, the scripts of ways that fail, and what is written of their ranges: consecutive numbers are one interval.
+// Tests, the scripts of ways that fail, and what is written of the ranges of the first way: consecutive numbers are one interval. If no way fails,
+// nothing follows the word `after`.
 const FAILING: [(&[u8], &[&[u8]], &[u8]); 5] = [
     (b"case c\nA() = 1 after 3..9\n", &[], b"A() = 1 after \n"),
     (

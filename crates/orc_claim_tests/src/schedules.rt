@@ -68,8 +68,9 @@ const WAITS: [ClaimSite; 1] = [ClaimSite {
     arguments: 1,
 }];
 
-// Claims about the race, how many states a search may look at, and what it has to answer. The race has fewer than 1,000 states, and more than 3. A
-// search sees in a run only what its claim names.
+// Claims about `RACE`, how many states a search may look at, and what it has to answer. Every run of `RACE` halts at time 1, when both waits are
+// over, after it has published 1 and 2 in either order. It has fewer than 1,000 states, and more than 3. A search sees in a run only what its claim
+// names.
 const CLAIMS: [(&[u8], usize, Wanted); 9] = [
     (
         b"always\nat most 1 Rwait(_) answered",
@@ -106,8 +107,8 @@ const CLAIMS: [(&[u8], usize, Wanted); 9] = [
     ),
 ];
 
-// What a separate search for the first claim of a text answers, through `most` states at most and in runs of up to 1,000 entries. None if the text is
-// no test with a claim.
+// What a separate search for the first claim of a text answers, through `most` states at most and in runs of up to 1,000 entries. `race` is the
+// program `RACE`. None if the text is no test with a claim.
 fn searched(
     alloc: Global,
     race: &Loaded,
@@ -141,7 +142,8 @@ fn a_claim_is_searched_for_in_every_schedule(rt: HostRuntime) -> Result<(), Fail
     Ok(())
 }
 
-// What one explorer finds for three claims, one after another. None if the text is no test with three claims, which doesn't come.
+// What one explorer finds for three claims, one after another, each through 1,000 states at most and in runs of up to 1,000 entries. None if the text
+// is no test with three claims, which doesn't come.
 fn searched_in_turn(
     alloc: Global,
     race: &Loaded,
@@ -162,7 +164,8 @@ fn searched_in_turn(
     Ok(Some([first, second, third]))
 }
 
-// It answers what separate searches do (`CLAIMS`): what it keeps of one search doesn't change the next.
+// It answers what separate searches do (`CLAIMS`): what it keeps of one search doesn't change the next. One run breaks the first claim, since both
+// waits are answered; one the second, since 2 may be published first; and none the third, since there are only two waits.
 #[test]
 fn one_explorer_searches_for_many_claims(rt: HostRuntime) -> Result<(), Fail> {
     let race = load(rt.alloc(), RACE, b"").expect(&rt, "a program");

@@ -43,7 +43,7 @@ fn call(terms: &mut Terms, alloc: Global, p: Param, q: Param) -> Result<usize, A
     terms.number_of(Node::Tip(Tip::Asks(7, params)))
 }
 
-// The number of the terms with the numbers f and g, joined so.
+// The number of the term that joins the terms with the numbers f and g so.
 fn pair(terms: &mut Terms, joint: Joint, f: usize, g: usize) -> Result<usize, AllocError> {
     if f >= terms.len() || g >= terms.len() {
         return Err(AllocError);
@@ -137,13 +137,13 @@ const NAMES: Make = Make::Asks(Param::Name(5), Param::Name(6));
 const FILLED: Make = Make::Asks(Param::Is(ONE), Param::Name(6));
 
 // What a row shows, and terms of which the last two are the same: one that the search makes by a change or a step, and what it has to be, written
-// out.
+// out. A term names those before it by their places in the row, from 0.
 const SAME: [(&str, &[Make]); 4] = [
     (
         "what is put for a name",
         &[
             NAMES,
-            // On the right of a `>5>` the name is another one.
+            // On the right of a `>5>` the name is another one: each side of the `>6>` gets the 1 only on the left of its `>5>`.
             Make::Pair(Joint::Feeds(5), 0, 0),
             Make::Pair(Joint::Feeds(6), 1, 1),
             FILLED,
@@ -167,6 +167,7 @@ const SAME: [(&str, &[Make]); 4] = [
     (
         "time passes for both calls",
         &[
+            // After 3 units the first call is due, and the second has 2 left.
             Make::Awaits(3),
             Make::Awaits(5),
             Make::Pair(Joint::Both, 0, 1),

@@ -87,6 +87,7 @@ fn number_of(alloc: Global, site: u32, arguments: &[Value]) -> Result<Option<u32
         return Err(AllocError);
     }
     let mut journal = Journal::new(alloc, Version::Two);
+    // Token 1 makes call 1.
     journal.push_call(1, 1, site, arguments)?;
     let sites = SITES;
     let happenings = happenings_of(alloc, &sites, &journal)?;

@@ -28,8 +28,9 @@ fn watch_of(alloc: Global, text: &[u8]) -> Result<Option<Watch>, AllocError> {
     }
 }
 
-// Claims, and for each the time from which on it makes no difference when something happens. None if a search can't watch for the claim: it is about
-// calls that pend at the same time, or asks for a cancel. Of `by 5` all times from 6 on are the same, and `within 5` tells all apart.
+// Claims, and for each the time from which on it makes no difference when something happens. It is 0 where the claim names no time. None if a search
+// can't watch for the claim: it is about calls that pend at the same time, or asks for a cancel. Of `by 5` all times from 6 on are the same, and
+// `within 5` tells all apart.
 const LATEST: [(&[u8], Option<u64>); 7] = [
     (b"always\nat most 5 Rwait(_) at once", None),
     (
@@ -55,6 +56,7 @@ fn latest_at_the_end(alloc: Global) -> Result<Option<u64>, AllocError> {
     let event = Event {
         alternatives: Vec::new(alloc),
     };
+    // The event happens at least 0 times and at most once, up to the time 2^64 - 1.
     let claim = Claim {
         conditions: Vec::new(alloc),
         plain: Plain::Count(event, 0, Some(1), Some(u64::MAX)),
@@ -116,8 +118,8 @@ fn fails(
     }
 }
 
-// Claims, the end of a run, when it calls the claim's site, its last time, and whether the claim fails in it. An end just at the time that
-// a claim names is by that time.
+// Claims, the end of a run, when it calls the claim's site, its last time, and whether the claim fails in it. An end just at the time that a claim
+// names is by that time. Of the calls at 2 and 4 only the first is by 3.
 const ENDS: [(&[u8], End, &[u64], u64, bool); 5] = [
     (b"always\nat most 1 Rwait(_)", End::Halted, &[2], 5, false),
     (b"always\nat most 1 Rwait(_)", End::Quiet, &[2, 4], 5, true),

@@ -84,6 +84,7 @@ impl Texts<'_, '_> {
                 Piece::Unread(_) => break,
             }
         }
+        // If memory was refused to the line, it is refused to this page, too.
         page.heed(&line);
         let is_long = line.len() > LONGEST;
         if is_long {

@@ -167,6 +167,7 @@ impl Legend {
                 self.add(page, template, text);
             }
         }
+        // The dot of a publication is explained in every picture.
         self.add(
             page,
             "<circle class=\"pub\" cx=\"11\" r=\"5\"/>",
@@ -183,6 +184,7 @@ impl Legend {
             say_small(&mut text, picture.story.small);
             text.say(" (--all)");
             self.add(page, "", text.as_str());
+            // If memory was refused to the text, it is refused to this page, too.
             page.heed(&text);
         }
         if !is_true {

@@ -225,6 +225,7 @@ impl Publications {
             page.say(" values");
         } else {
             page.say(self.values.as_str());
+            // If memory was refused to the values, it is refused to this page, too.
             page.heed(&self.values);
         }
     }
@@ -235,6 +236,7 @@ fn publications_by_time(alloc: Global, events: &[Event]) -> Result<Vec<Publicati
     let mut all: Vec<Publications> = Vec::new(alloc);
     for event in events {
         if let Shown::Publication(value) = event.shown {
+            // The first publication of a time begins a new entry of the list.
             if all.last().map(|last| last.first.time) != Some(event.at.time) {
                 all.push(Publications {
                     first: event.at,

@@ -184,7 +184,8 @@ impl Rows {
         Ok(())
     }
 
-    // Adds the row, with this depth, of a span that is worth one, and says whether it has one. The faults are those of `new`.
+    // Adds the row, with this depth, of the span at `place`, which is worth a row, and says whether the span has one (`is_row`). The faults are those
+    // of `new`.
     fn add(
         &mut self,
         spans: &[Span],
@@ -204,6 +205,7 @@ impl Rows {
         if self.rows.len() as u64 >= MOST_ROWS {
             return Err(DrawFault::Rows);
         }
+        // The new row comes last, so its place is how many there are before it.
         if let Some(row) = self.of_span.get_mut(place) {
             *row = Some(self.rows.len());
         }

@@ -83,6 +83,7 @@ impl Scale {
             shortest = shortest.min(*gap);
             longest = longest.max(*gap);
         }
+        // The gaps are in proportion to the time between, unless the longest time is more than 25 times the shortest.
         let is_true = longest <= shortest.saturating_mul(25);
         // From here on a gap is its share: the time between, or the number of digits. `whole` is the sum of the shares.
         let mut whole: u64 = 0;

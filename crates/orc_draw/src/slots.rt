@@ -54,6 +54,7 @@ impl Slots {
     // it has a new one only where nothing was.
     fn add(&mut self, event: &Event) -> Result<(), AllocError> {
         let is_cancel = matches!(event.shown, Shown::Cancel);
+        // The place of the last instant, from 0.
         let instant = self.instants.len().saturating_sub(1);
         let Some(last) = self.instants.last_mut() else {
             return Ok(());
@@ -72,6 +73,7 @@ impl Slots {
 
     /// The slot of a moment's entry; if that isn't drawn, of the last one before it at its time; if there is none, the first slot of that time.
     pub(crate) fn slot(&self, at: Moment) -> Slot {
+        // How many slots are of this entry or of an earlier one.
         let behind = self.slots.partition_point(|slot| slot.entry <= at.entry);
         if let Some(slot) = behind.checked_sub(1).and_then(|last| self.slots.get(last)) {
             let time = self

@@ -117,9 +117,9 @@ pub(crate) struct Story<'a> {
     calls: u64,
     // Whether all calls are shown, also those of built-in sites that take no time.
     is_whole: bool,
-    // How often each site was called with the same arguments, by which the table answers.
+    // How often each site was called with the same arguments: the table's answer to a call may depend on that.
     counts: Counts,
-    // Where the tokens are.
+    // Which tokens there are, on which part of the program each one stands, and in which step.
     trail: Trail,
     // The places in `spans` of the calls that are shown, by their numbers; of the prunings whose cells are neither bound nor lost,
     // by these cells; and of all otherwises, by their marks.
@@ -182,7 +182,7 @@ impl<'a> Story<'a> {
         Ok(story)
     }
 
-    // Follows all entries. What an entry says of its token is noted before the trail takes the token away.
+    // Follows all entries. What an entry says of its token is noted before the trail takes the token away. The faults are those of `new`.
     fn read(
         &mut self,
         sketch: &Sketch<'a>,
@@ -214,13 +214,15 @@ impl<'a> Story<'a> {
         Ok(())
     }
 
-    // Notes what an entry other than a call begins, ends or shows, and sets the time. Where memory is refused it sets `is_refused`.
+    // Notes what an entry other than a call begins, ends or shows, and sets the time. In the entries `s` is the mark of a token or an otherwise, `k`
+    // the number of a call, and `c` that of a cell. Where memory is refused the function sets `is_refused`.
     fn tell(&mut self, sketch: &Sketch<'a>, entry: &Entry, at: Moment) {
         match entry {
             Entry::Tick(time) => {
                 self.now = *time;
             }
             Entry::Open(s, c, _, _) => {
+                // The token stands on a pruning, whose shape on the sketch says what the value is for.
                 if let Shape::Prune(_, _, purpose) = self.trail.shape(sketch, *s) {
                     let span = self.begin(Kind::Pruning(purpose), *s, at);
                     self.is_refused = self.cells.insert(*c, span).is_err() || self.is_refused;
@@ -232,6 +234,7 @@ impl<'a> Story<'a> {
                     self.is_refused = self.others.insert(*s, span).is_err() || self.is_refused;
                 }
             }
+            // A `>x>` takes a value that the token publishes.
             Entry::Send(s, _, _) => self.leave(*s, at),
             Entry::Return(k, _, value) => {
                 let span = self.shown.get(k).copied();
@@ -310,13 +313,15 @@ impl<'a> Story<'a> {
 
     // ---- steps
 
-    // The number of the step in which the token of a mark stands, 0 where it stands in none.
+    // The number of the step in which the token with this mark stands, 0 where it stands in none. A step leads into one side of a running `>x>`,
+    // pruning or otherwise.
     fn step_of(&self, mark: u64) -> usize {
         self.trail.token(mark).map_or(0, |token| token.step)
     }
 
-    // A publication of a token goes outwards to the nearest `>x>` or right side of a pruning, or out of the whole. On the way it ends each otherwise
-    // whose left side it leaves. Each turn of the loop goes one step outwards, so there are no more turns than steps.
+    // Notes a publication, at the moment `at`, of the token with this mark: it goes outwards to the nearest `>x>` or right side of a pruning, or out
+    // of the whole. On the way it ends each otherwise whose left side it leaves. Each turn of the loop goes one step outwards, so there are no more
+    // turns than steps.
     fn leave(&mut self, mark: u64, at: Moment) {
         let mut number = self.step_of(mark);
         for _step in 0..self.trail.steps().len() {
@@ -328,6 +333,7 @@ impl<'a> Story<'a> {
                 Way::SeqLeft(_) | Way::PruneRight(_) => return,
                 // The right side stands in the place of its otherwise, whose span has ended.
                 Way::Then(_) => {}
+                // This mark is the otherwise's.
                 Way::OtherwiseLeft(mark) => {
                     match self.others.get(&mark).copied() {
                         Some(span) if self.end_of(span).is_none() => {
@@ -342,17 +348,18 @@ impl<'a> Story<'a> {
         }
     }
 
-    // The place of the innermost span in which a step stands, None where it stands in none. An otherwise whose left side has published doesn't count:
-    // what is left of that side stands in the span that encloses the otherwise. Each turn goes outwards.
+    // The place of the innermost span in which the step of the number `from` stands, None where it stands in none. An otherwise whose left side has
+    // published doesn't count: what is left of that side stands in the span that encloses the otherwise. Each turn goes outwards.
     fn span_round(&self, from: usize) -> Option<usize> {
         let mut number = from;
         for _step in 0..self.trail.steps().len() {
-            // Neither step 0 nor a step without a home has a span round it.
+            // The home of a step is the innermost step into a pruning or an otherwise, which may be this one. Neither step 0 nor a step without a
+            // home has a span round it.
             let home = self.trail.step(self.trail.step(number)?.home)?;
             let span = match home.way {
                 Way::PruneRight(cell) => self.cells.get(&cell).copied(),
                 Way::OtherwiseLeft(mark) | Way::Then(mark) => self.others.get(&mark).copied(),
-                // `home` leads past the left sides of `>x>`.
+                // Never: a home doesn't lead into the left side of a `>x>`.
                 Way::SeqLeft(_) => None,
             };
             match (home.way, span) {
@@ -374,7 +381,7 @@ impl<'a> Story<'a> {
         Some(end)
     }
 
-    // Begins a span where the token of a mark stands, and gives the place of the span.
+    // Begins a span where the token with this mark stands, and gives the place of the span.
     fn begin(&mut self, kind: Kind<'a>, mark: u64, began: Moment) -> usize {
         let span = self.spans.len();
         let outer = self.span_round(self.step_of(mark));

@@ -71,6 +71,7 @@ pub(crate) fn write(alloc: Global, picture: &Picture, theme: Theme) -> Result<St
     sheet.winners(&mut body);
     // 24 pixels below the last row.
     let mut legend = Legend::new(sheet.bottom().saturating_add(24), sheet.width);
+    // Where the scale isn't true, that is, where gaps aren't in proportion to the time between, the legend says so.
     legend.write(alloc, &mut body, picture, sheet.scale.is_true);
     let mut page = Page::new(alloc);
     sheet.head(&mut page, theme, legend.bottom());
@@ -79,13 +80,13 @@ pub(crate) fn write(alloc: Global, picture: &Picture, theme: Theme) -> Result<St
     page.finish()
 }
 
-// So many pixels in parts.
+// `count` pixels, in parts.
 fn pixels(count: u64) -> u64 {
     count.saturating_mul(PARTS)
 }
 
-// The size of rows where there are so many, the deepest of which stands in `depth` others: over 60 rows, and again over 150, they are lower, so that
-// the sheet doesn't grow too high. Deep ones are less indented, so that no row is indented by more than 112 pixels, 8 times 14.
+// The size of rows where there are so many (`rows`), the deepest of which stands in `depth` others: over 60 rows, and again over 150, they are lower,
+// so that the sheet doesn't grow too high. Deep ones are less indented, so that no row is indented by more than 112 pixels, 8 times 14.
 fn size_of_rows(rows: u64, depth: u64) -> Size {
     let (row, bar, letter) = if rows <= 60 {
         (24, 13, 12)
@@ -144,7 +145,8 @@ impl<'a> Sheet<'a> {
             .saturating_sub(60)
             .saturating_mul(4)
             .saturating_add(760);
-        // A slot has room for the sign at an end, which reaches 6 pixels to either side (`reach`).
+        // A slot has room for the sign at an end, which reaches 6 pixels to either side (`reach`). The gap between two bands is 16 pixels wide or
+        // more, where there is room.
         let measure = Measure {
             width: pixels(plot.min(1400)),
             slot: pixels(13),
@@ -152,6 +154,7 @@ impl<'a> Sheet<'a> {
             margin: 0,
         };
         let slots = &picture.slots;
+        // The plot's width is shared among the times that are shown. `total` is how many slots wide their bands are together.
         let scale = Scale::new(alloc, &slots.instants, slots.total(), measure)?;
         // 10 pixels stay free before the first band, and 6 behind the last one.
         let gutter = gutter_of(picture, &size);
@@ -173,7 +176,7 @@ impl<'a> Sheet<'a> {
             scale,
             wins: Vec::new(alloc),
         };
-        // `find_wins` can't be refused memory then.
+        // `wins` gets a place for each row here, so that `find_wins`, which only writes into them, needs no memory.
         for _row in rows {
             sheet.wins.push(0)?;
         }
@@ -181,7 +184,8 @@ impl<'a> Sheet<'a> {
         Ok(sheet)
     }
 
-    // Fills `wins`: for each pruning with a row that a call with a row has won.
+    // Fills `wins`: for each pruning with a row that a call with a row has won. `won` is the place of the call's row, and `at` is when the pruning
+    // was bound.
     fn find_wins(&mut self) {
         for row in &self.picture.rows.rows {
             if let Some((won, _call, at)) = self.picture.winner(row) {
@@ -195,27 +199,27 @@ impl<'a> Sheet<'a> {
 
     // ---- places
 
-    // The lower edge of the last row, in pixels.
+    // The lower edge of the last row, in pixels: a row behind it would begin there.
     fn bottom(&self) -> u64 {
         self.down(self.picture.rows.rows.len())
     }
 
-    // The upper edge of a row, in pixels.
+    // The upper edge of the row at this place, from 0 at the top, in pixels.
     fn down(&self, row: usize) -> u64 {
         TOP.saturating_add((row as u64).saturating_mul(self.size.row))
     }
 
-    // The middle of a row, in parts.
+    // The middle of the row at this place, from 0 at the top, in parts from the sheet's upper edge.
     fn middle(&self, row: usize) -> u64 {
         pixels(self.down(row)).saturating_add(pixels(self.size.row) / 2)
     }
 
-    // The left edge of an instant's band.
+    // The left edge of the band of the instant at this place, from 0, in parts.
     fn band(&self, instant: usize) -> u64 {
         self.left.saturating_add(self.scale.begin(instant))
     }
 
-    // The middle of a moment's slot.
+    // The middle of a moment's slot, in parts from the sheet's left edge.
     fn across(&self, at: Moment) -> u64 {
         let slot = self.picture.slots.slot(at);
         self.band(slot.instant)
@@ -223,12 +227,12 @@ impl<'a> Sheet<'a> {
             .saturating_add(self.scale.slot / 2)
     }
 
-    // Where a span begins: the middle of its slot.
+    // Where a span begins, in parts: the middle of its slot.
     fn begin(&self, span: &Span) -> u64 {
         self.across(span.began)
     }
 
-    // Where a span ends: the middle of its slot, or the plot's right edge where it hasn't ended.
+    // Where a span ends, in parts: the middle of its slot, or the plot's right edge where it hasn't ended.
     fn end(&self, span: &Span) -> u64 {
         match span.end {
             Some((_, at)) => self.across(at),
@@ -238,8 +242,8 @@ impl<'a> Sheet<'a> {
 
     // ---- the frame
 
-    // Writes the beginning of the SVG, down to this lower edge: its size, its title, its style sheet, its background, and the line of letters at the
-    // top.
+    // Writes the beginning of the SVG: its size, its title, its style sheet, its background, and the line of letters at the top. `bottom` is the
+    // sheet's lower edge, in pixels, and so its height.
     fn head(&self, page: &mut Page, theme: Theme, bottom: u64) {
         // Rounded to whole pixels.
         let width = self.width.saturating_add(PARTS / 2) / PARTS;
@@ -279,6 +283,7 @@ impl<'a> Sheet<'a> {
     // Writes the band of each time, and the line of times, 6 pixels above. Where there are too many times, each that has a label has a line in place
     // of a band.
     fn times(&self, page: &mut Page) {
+        // In the templates here `%` is a length in parts and `@` a number as it stands.
         let instants = &self.picture.slots.instants;
         let are_bands = instants.len() <= MOST_BANDS;
         let height = self.bottom().saturating_sub(HEAD);
@@ -304,6 +309,7 @@ impl<'a> Sheet<'a> {
                     "<text class=\"axis\" x=\"%\" y=\"@\" text-anchor=\"middle\">@</text>\n",
                     &[middle, HEAD - 6, instant.time],
                 );
+                // Half of the label stands right of its middle: 3.5 pixels for each digit.
                 last = middle.saturating_add(letters.saturating_mul(3_500_000));
                 if !are_bands {
                     page.form(
@@ -313,6 +319,7 @@ impl<'a> Sheet<'a> {
                 }
             }
         }
+        // The word `time` left of the plot, and the line between the times and their bands.
         page.form(
             "<text class=\"axis\" x=\"%\" y=\"@\" text-anchor=\"end\">time</text>\n<line class=\"rule\" x1=\"%\" x2=\"%\" y1=\"@\" y2=\"@\"/>\n",
             &[
@@ -331,6 +338,7 @@ impl<'a> Sheet<'a> {
     // Writes the dot of each publication, with a line down through the rows where there are few, and the values below the dots. The word at the left
     // is 4 pixels lower than the dots' middle, so that it stands beside them.
     fn publications(&self, page: &mut Page) {
+        // In the templates here `%` is a length in parts and `@` a number as it stands.
         page.form(
             "<text class=\"lab\" x=\"12\" y=\"@\">publishes</text>\n",
             &[PUBLICATIONS + 4],
@@ -371,8 +379,8 @@ impl<'a> Sheet<'a> {
         }
     }
 
-    // Writes the values of a time if they end before this limit, or else how many there are, if more than one and 60 pixels are free, or nothing.
-    // They begin 4 pixels left of the first dot's middle, and stand 20 pixels below it.
+    // Writes the values of the publications of one time (`some`) if they end before `limit`, in parts across; or else how many there are, if more
+    // than one and 60 pixels are free; or nothing. They begin 4 pixels left of the first dot's middle, and stand 20 pixels below it.
     fn values(&self, page: &mut Page, some: &Publications, limit: u64) {
         let place = self.across(some.first);
         // These letters are 7.3 pixels wide.
@@ -411,6 +419,7 @@ impl<'a> Sheet<'a> {
                         "<rect class=\"group\" x=\"%\" y=\"@\" width=\"%\" height=\"@\" rx=\"4\">",
                         &[begin, self.down(i).saturating_add(2), width, height],
                     );
+                    // The box's title: from when to when the pruning was open.
                     say_stay(page, &span);
                     page.say("</rect>\n");
                 }
@@ -418,7 +427,7 @@ impl<'a> Sheet<'a> {
         }
     }
 
-    // Writes the row of each span.
+    // Writes all rows, from top to bottom.
     fn rows(&self, page: &mut Page) {
         for (i, row) in self.picture.rows.rows.iter().enumerate() {
             if let Some(span) = self.picture.span(row) {
@@ -444,10 +453,12 @@ impl<'a> Sheet<'a> {
     // Writes the row of a call, at this place: its label, its number, its bar, and how it ended. The number ends 6 pixels before the frame. The bar
     // is 3 pixels wide at least, and that of an Rwait half as high as others.
     fn call(&self, page: &mut Page, place: usize, row: &Row, span: &Span, called: Called) {
+        // In the templates here `%` is a length in parts and `@` a number as it stands. The title says what a viewer shows of the call.
         let class = class_of(span);
         page.say("<g><title>");
         say_tip(page, row, span, called);
         page.say("</title><text class=\"lab");
+        // The label of a cancelled call is dim. A cancelled call has the class `cut` (`class_of`).
         page.say(if class == "cut" { " dim" } else { "" });
         page.form("\" x=\"%\" y=\"%\">", &[self.indent(row), self.line(place)]);
         page.escaped(row.label.as_str());
@@ -512,6 +523,7 @@ impl<'a> Sheet<'a> {
             // Still pending.
             None => {}
         }
+        // The class of the words is that of the bar with one more `t`.
         page.say("<text class=\"end ");
         page.say(class);
         page.form("t\" x=\"%\" y=\"%\">", &[behind, self.line(place)]);
@@ -521,7 +533,7 @@ impl<'a> Sheet<'a> {
             page.escaped(row.label.as_str());
             page.say(" ");
         }
-        // When the call was due stands in its title (`say_tip`).
+        // A cancelled call's words also say when it was due. In a picture of many rows only its title does (`say_tip`).
         if is_crowded && class == "cut" {
             page.say("cancelled");
         } else {
@@ -544,7 +556,8 @@ impl<'a> Sheet<'a> {
         (pixels(self.size.bar) / 2).min(pixels(6))
     }
 
-    // Writes the row of a pruning or an otherwise, at this place: its label, its line, and how it ended.
+    // Writes the row of a pruning or an otherwise, at this place: its label, its line, and how it ended. `indent` and `line` say where the letters of
+    // the label begin.
     fn side(&self, page: &mut Page, place: usize, row: &Row, span: &Span) {
         let (begin, end, middle) = (self.begin(span), self.end(span), self.middle(place));
         page.form(
@@ -553,6 +566,7 @@ impl<'a> Sheet<'a> {
         );
         page.escaped(row.label.as_str());
         page.say("</text><g>");
+        // The line's title: from when to when the pruning or the otherwise was open.
         say_stay(page, span);
         page.say(match span.kind {
             Kind::Pruning(_) => "<line class=\"span\"",
@@ -580,6 +594,7 @@ impl<'a> Sheet<'a> {
     // Writes the sign at the end of a pruning or an otherwise, in parts at x and y, and opens the tag of the words behind it, whose class it finds. A
     // value is a diamond, `lost` a ring a pixel smaller, the right side of an otherwise a triangle, and a drop a cross of four fifths.
     fn side_end(&self, page: &mut Page, place: usize, span: &Span, x: u64, y: u64) {
+        // In the templates here `%` is a length in parts and `@` a number as it stands.
         let reach = self.reach();
         let (left, right) = (x.saturating_sub(reach), x.saturating_add(reach));
         let (up, down) = (y.saturating_sub(reach), y.saturating_add(reach));
@@ -635,7 +650,7 @@ impl<'a> Sheet<'a> {
     }
 
     // Writes the green line from each answer that won to the pruning whose value it became: across in the call's row to the time of the bind, then up
-    // to the lower tip of the diamond in the pruning's row, which is above it.
+    // to the lower tip of the diamond in the pruning's row, which is above it. `i` is the place of the pruning's row, and `won` that of the call's.
     fn winners(&self, page: &mut Page) {
         for (i, row) in self.picture.rows.rows.iter().enumerate() {
             if let Some((won, call, at)) = self.picture.winner(row) {
@@ -653,7 +668,7 @@ impl<'a> Sheet<'a> {
     }
 }
 
-// How many rows stand in the row at `at`, which has this depth: those behind it up to the next one that is no deeper.
+// How many rows stand in the row at the place `at`, from 0, which has this depth: those behind it up to the next one that is no deeper.
 fn inner_rows(rows: &[Row], at: usize, depth: u64) -> u64 {
     let mut count: u64 = 0;
     for row in rows.iter().skip(at.saturating_add(1)) {
@@ -695,7 +710,7 @@ fn say_stay(page: &mut Page, span: &Span) {
     page.say("</title>");
 }
 
-// Writes what a viewer shows of a call where the reader points at it.
+// Writes what a viewer shows of a call where the reader points at it. In the templates `@` is a number.
 fn say_tip(page: &mut Page, row: &Row, span: &Span, called: Called) {
     page.form("call @: ", &[called.number]);
     page.escaped(row.label.as_str());

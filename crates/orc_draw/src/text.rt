@@ -97,6 +97,7 @@ impl<'a> Columns<'a> {
             margin: PARTS,
         };
         let slots = &picture.slots;
+        // The plot's width is shared among the times that are shown. `total` is how many slots wide their bands are together.
         let mut scale = Scale::new(alloc, &slots.instants, slots.total(), measure)?;
         // A scale may be wider than it was asked for, but text has no columns to spare.
         scale.squeeze(room);
@@ -186,7 +187,8 @@ impl<'a> Columns<'a> {
         page.say("\n")
     }
 
-    // Writes the line of publications: a `*` for those of each time, and the values where they have room before the next `*`.
+    // Writes the line of publications: a `*` for those of each time (`some`), and the values where they have room before the next `*`. `written`
+    // counts the columns of the plot that are filled so far.
     fn publications(&self, page: &mut Page) {
         let all = &self.picture.publications;
         if all.is_empty() {

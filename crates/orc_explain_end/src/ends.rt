@@ -63,7 +63,8 @@ impl Scene<'_, '_> {
         self.rest(page, count_out(&self.replay.calls), shown);
     }
 
-    // The line of one pending call, by its number from 1.
+    // The line of one pending call, by its number from 1: `call 3, M(1), made at time 0 in line 1, column 5: line 2 of the script says never`. `note`
+    // begins the line.
     fn silent_call(&self, page: &mut Page, number: u64, call: Made, lines: &ScriptLines) {
         page.note("");
         page.say_number("call ", number, ", ");
@@ -87,10 +88,11 @@ impl Scene<'_, '_> {
         }
     }
 
-    // Which line of the script says never of a call. No built-in site does; nothing is written where no line is found.
+    // Writes which line of the script says never of a call. No built-in site does; nothing is written where no line is found.
     fn never(&self, page: &mut Page, call: Made, lines: &ScriptLines) {
         if let Some(Entry::Call(_, _, site, args)) = self.ended.journal.get(call.entry) {
             let name = name_of(self.ended.answers, site);
+            // The first line that fits the call is the one that answers it. `place` is its place in the list.
             if let Some(place) = lines.first(name, args.as_slice()) {
                 page.say_number(": line ", lines.number(place), " of the script says never");
             }
@@ -113,7 +115,8 @@ impl Scene<'_, '_> {
         self.rest(page, all, shown);
     }
 
-    // The line of one cell: what it is for, how many tokens wait for it, where the first of them stands, and what could give it a value.
+    // The line of one cell, which `note` begins: what the cell is for, how many tokens wait for it, where the first of them stands, and what could
+    // give it a value.
     fn wait(&self, page: &mut Page, moves: &Moves, wait: Wait) {
         page.note("");
         self.cell(page, wait.cell);
@@ -126,6 +129,7 @@ impl Scene<'_, '_> {
         });
         self.place(page, self.replay.spot(wait.first, self.sketch));
         page.say("); it could come from ");
+        // For each step of the run, whether it is in the right side of the cell's pruning.
         match self.replay.inside(self.alloc, wait.cell) {
             Ok(inside) => self.giver(page, moves, &inside),
             Err(_) => page.refuse(),
@@ -178,7 +182,7 @@ impl Scene<'_, '_> {
         page.help("a time limit is `x <x< (f | Rwait(10) >> 0)`");
     }
 
-    // The line with the first entries that could come next. There is none if the run had just ended when it reached its limit.
+    // The line with the first entries that could come next. If there are none, the line says that the run had just ended when it reached its limit.
     fn next(&self, page: &mut Page, moves: &Moves) {
         if moves.count == 0 {
             page.note("nothing could go on: it has just ended\n");
@@ -195,7 +199,8 @@ impl Scene<'_, '_> {
         page.say("\n");
     }
 
-    // What the token that an entry names stands on, in brackets; nothing where the entry names none, or that stands on an answer.
+    // Writes what the token that an entry names stands on, and in which line, in brackets; nothing where the entry names no token, or one that stands
+    // on an answer.
     fn on(&self, page: &mut Page, entry: &Entry) {
         let Some(token) = mark_named(entry) else {
             return;
@@ -209,7 +214,7 @@ impl Scene<'_, '_> {
         }
     }
 
-    // One line with the first pending calls and their due times; none where no call is pending.
+    // One line with the first pending calls and their due times; no line where no call is pending.
     fn out(&self, page: &mut Page) {
         let all = count_out(&self.replay.calls);
         if all == 0 {
@@ -263,6 +268,7 @@ impl Scene<'_, '_> {
     // The lines of `room`. `frames` is how many left sides of `>x>` are round one token at most.
     fn limits(&self, page: &mut Page, moves: &Moves, frames: u64) {
         page.note("the engine can hold no more; by the rules it could go on\n");
+        // The second line: how much of each limit is used up.
         page.note("");
         let calls = count_out(&self.replay.calls);
         page.say_number(

@@ -107,6 +107,7 @@ impl Moves {
                 // One that was dropped with a side can do nothing.
                 if let Some(next) = replay.marked.next(program, mark) {
                     self.tokens = self.tokens.saturating_add(1);
+                    // The entry of the token's next move; None where the token waits for a value.
                     match token_entry(&replay.marked, mark, next) {
                         Some(entry) => self.add(entry)?,
                         None => self.wait(program, replay, mark)?,
@@ -143,7 +144,8 @@ impl Moves {
         }
     }
 
-    // Looks at each side that hasn't ended: right sides of prunings by their cells, and left sides of otherwises by their marks.
+    // Looks at each side that hasn't ended: right sides of prunings by their cells, and left sides of otherwises by their marks. Of a side that has
+    // ended or was dropped the term says nothing (None).
     fn add_sides(&mut self, replay: &Replay) -> Result<(), AllocError> {
         let mut cell: u64 = 0;
         for _cell in &replay.cells {
@@ -155,6 +157,7 @@ impl Moves {
         for mark in 1..replay.marked.new_mark() {
             if replay.trail.is_entered(mark) {
                 if let Some(has_halted) = replay.marked.left_has_halted(mark) {
+                    // An entry `right` names the otherwise and the mark of the token that it brings, which is the next new mark.
                     let entry = Entry::Right(mark, replay.marked.new_mark());
                     self.add_side(has_halted, entry)?;
                 }

@@ -173,7 +173,7 @@ fn distance(patterns: &[Option<Value>], args: &[Value]) -> u64 {
     }
 }
 
-// Why the nearest line doesn't answer a call.
+// Writes why `line`, the nearest line of the script, doesn't answer a call with these arguments.
 fn missed(page: &mut Page, lines: &ScriptLines, line: &ScriptLine, args: &[Value]) {
     let patterns = lines.patterns(line);
     page.say_number("; the nearest one, line ", line.number as u64, "");
@@ -326,7 +326,7 @@ impl Scene<'_, '_> {
         self.hidden_sites(page);
     }
 
-    // The beginning of a line on the first call of a group: `call 3, Ift(3), made in line 1, column 5, halted: `.
+    // The beginning of a line on the first call of a group, of which `note` writes the margin: `call 3, Ift(3), made in line 1, column 5, halted: `.
     fn halted_call(&self, page: &mut Page, group: &Group) {
         page.note("");
         page.say_number("call ", group.number, ", ");
@@ -350,7 +350,7 @@ impl Scene<'_, '_> {
         self.rest(page, groups.list.len() as u64, SHOWN);
     }
 
-    // What the site takes of the call that this entry of the journal makes.
+    // Writes what the site takes whose call halted. `entry` is the place of the call's entry in the journal, from 0.
     fn site_takes(&self, page: &mut Page, entry: usize) {
         if let Some(Entry::Call(_, _, site, args)) = self.ended.journal.get(entry) {
             let name = name_of(self.ended.answers, site);
@@ -360,7 +360,8 @@ impl Scene<'_, '_> {
         }
     }
 
-    // That no line answers the call of an entry; and the line that is nearest to it, and why that doesn't.
+    // Writes that no line answers a call; and the line that is nearest to it, and why that doesn't. `entry` is the place of the call's entry in the
+    // journal, from 0.
     fn no_line(&self, page: &mut Page, entry: usize, lines: &ScriptLines) {
         page.say("no line of the script answers it");
         if let Some(Entry::Call(_, _, site, args)) = self.ended.journal.get(entry) {
@@ -371,7 +372,8 @@ impl Scene<'_, '_> {
         }
     }
 
-    // Why a call halted that its site could answer: its line of the script says so, or the built-in site does.
+    // Writes why a call halted that its site could answer: its line of the script says so, or the built-in site does. `entry` is the place of the
+    // call's entry in the journal, from 0.
     fn halting(&self, page: &mut Page, entry: usize, lines: &ScriptLines) {
         if let Some(Entry::Call(_, _, site, args)) = self.ended.journal.get(entry) {
             let name = name_of(self.ended.answers, site);
@@ -394,7 +396,8 @@ impl Scene<'_, '_> {
         self.rest(page, self.replay.losses.len() as u64, SHOWN);
     }
 
-    // The line of one spot where values were lost: its text, and the value that the first token there needed.
+    // The line of one spot where values were lost: the spot's text, and the value that the first token there needed. `words` writes the text, and
+    // `place` its line and column.
     fn loss(&self, page: &mut Page, loss: Loss) {
         page.note("`");
         self.words(page, loss.spot);

@@ -118,6 +118,7 @@ impl<'a> Replay<'a> {
             if let Entry::Void(s) = entry {
                 self.add_loss(ended.program, s)?;
             }
+            // The checker's term takes the entry. The rules allow each entry of a run's journal.
             if self
                 .marked
                 .step(ended.program, ended.answers, &entry)
@@ -131,7 +132,8 @@ impl<'a> Replay<'a> {
         Ok(())
     }
 
-    // Notes what an entry begins or ends besides tokens: a call, a cell, a call of a definition. Other entries begin and end none.
+    // Notes what an entry begins or ends besides tokens: a call, a cell, a call of a definition. Other entries begin and end none. In the entries `s`
+    // is the mark of a token and `k` the number of a call; `at` is the entry's place in the journal, from 0.
     fn note(&mut self, sketch: &Sketch<'a>, entry: &Entry, at: usize) -> Result<(), AllocError> {
         match entry {
             Entry::Call(s, _, _, _) => return self.add_call(*s, at),
@@ -158,7 +160,7 @@ impl<'a> Replay<'a> {
         Ok(())
     }
 
-    // A call, from 1, is pending no longer. `has_halted` says that it has returned with halt.
+    // A call, by its number from 1, is pending no longer. `has_halted` says that it has returned with halt.
     fn end_call(&mut self, call: u64, has_halted: bool) {
         if let Some(made) = self.calls.get_mut((call as usize).saturating_sub(1)) {
             made.is_out = false;
@@ -166,7 +168,7 @@ impl<'a> Replay<'a> {
         }
     }
 
-    // Counts a token that ends, since a value that it needs was lost, among those of its spot.
+    // Counts a token, by its mark, that ends since a value that it needs was lost, among those of its spot.
     fn add_loss(&mut self, program: &Program, token: u64) -> Result<(), AllocError> {
         // A token that bears a call's answer needs no value, so this one is at a spot.
         let spot = self.token(token).spot.unwrap_or(0);
@@ -190,8 +192,8 @@ impl<'a> Replay<'a> {
         Ok(())
     }
 
-    // The cell of the first lost value that a token needs. None where `cell_of` finds none, or the token stands on something else than a variable or
-    // a call of a site.
+    // The cell of the first lost value that a token, by its mark, needs. None where `cell_of` finds none, or the token stands on something else than
+    // a variable or a call of a site.
     fn lost_cell(&self, program: &Program, token: u64) -> Option<u64> {
         let (number, scope) = self.node_of(token)?;
         match program.node(number) {
@@ -217,8 +219,8 @@ impl<'a> Replay<'a> {
         }
     }
 
-    /// The number of the program's node on which a token stands, and of its scope, which says what the names mean. None where it stands on an answer,
-    /// or there is no such token. It looks through the whole term.
+    /// The number of the program's node on which a token, by its mark, stands, and that of its scope, which says what the names mean. None where it
+    /// stands on an answer, or there is no such token. It looks through the whole term.
     pub(crate) fn node_of(&self, token: u64) -> Option<(usize, usize)> {
         for slot in self.marked.nodes() {
             match slot.node().kind {
@@ -241,12 +243,12 @@ impl<'a> Replay<'a> {
         Ok(())
     }
 
-    /// The token of a mark; one at no spot and in no step where there is none.
+    /// The token with this mark; one at no spot and in no step where there is none.
     pub(crate) fn token(&self, mark: u64) -> Token {
         self.trail.token(mark).unwrap_or(NO_TOKEN)
     }
 
-    /// The spot of a token; that of the whole program where it stands on a call's answer.
+    /// The spot of the token with this mark; that of the whole program where it stands on a call's answer.
     pub(crate) fn spot(&self, mark: u64, sketch: &Sketch) -> usize {
         match self.token(mark).spot {
             Some(spot) => spot,
@@ -278,7 +280,7 @@ impl<'a> Replay<'a> {
         let mut most: u64 = 0;
         for mark in 1..self.marked.new_mark() {
             if let Some(token) = self.trail.token(mark) {
-                // One that was dropped with a side is there no longer.
+                // A token that was dropped with a side isn't in the term any more, and `next` gives None for it.
                 if self.marked.next(program, mark).is_some() {
                     most = most.max(frames.get(token.step).copied().unwrap_or(0));
                 }

@@ -158,7 +158,8 @@ impl Scene<'_, '_> {
         squeeze(page, self.subject.source.part(self.sketch.span(spot)));
     }
 
-    // The arguments of a call in brackets, with the values that they have. `list` and `scope` are numbers of the program and of the marked term.
+    // Writes the arguments of a call in brackets, with the values that they have. `list` is the number of the call's arguments in the program, and
+    // `scope` that of the scope, in the marked term, which says what the names mean.
     fn operands(&self, page: &mut Page, list: usize, scope: usize) {
         page.say("(");
         for (i, operand) in self.ended.program.operands(list).iter().enumerate() {

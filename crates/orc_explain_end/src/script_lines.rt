@@ -72,7 +72,7 @@ impl<'a> ScriptLines<'a> {
         Ok(lines)
     }
 
-    // Adds the line with this number, from 1, of these bytes, if it is more than blanks and a comment.
+    // Adds the line with this number, from 1, if it is more than blanks and a comment. `span` is the line's bytes in the text.
     fn read(
         &mut self,
         alloc: Global,

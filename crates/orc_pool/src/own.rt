@@ -27,7 +27,7 @@ impl<T: Drop> Own<T> {
     ghost use Rattle.orc_pool.specs.History.{IsPush, IsPop, WasEmpty};
     ghost use Rattle.orc_pool.specs.Words.{own_view, slots, pushed};
 
-    /// The end of this deque, as `lifo_as` made it.
+    /// The end of this deque, which has to be the owner's and to pop what was pushed last, as `lifo_as` makes it.
     pub(crate) fn of(worker: Deque<T>) -> Own<T>
         requires { ((worker_view worker).owns ≡ true) × (worker_flavor worker ≡ 1) }
         ensures { result.worker ≡ worker }
@@ -42,6 +42,7 @@ impl<T: Drop> Own<T> {
         ensures counted { MatchResult result (λ _. pushed self.new ≡ pushed self.old + 1) (λ _. (slots self.old ≤ pushed self.old) × (pushed self.new ≡ pushed self.old)) }
         ensures slots { slots self.old ≤ slots self.new }
     {
+        // The kit's push. `Pushes` is for the prover: it says how the history goes on.
         self.worker.push_as::<Pushes>(task)
     }
 
@@ -50,6 +51,7 @@ impl<T: Drop> Own<T> {
         ensures rule { MatchOption result ((own_view self.new ≡ own_view self.old) × WasEmpty (own_view self.old)) (λ task. IsPop (own_view self.old) (task ∷ []) (own_view self.new)) }
         ensures slots { (pushed self.new ≤ pushed self.old) × (slots self.old ≤ slots self.new) }
     {
+        // The kit's pop. `Pops` is for the prover: it says how the history goes on.
         self.worker.pop_as::<Pops>()
     }
 }

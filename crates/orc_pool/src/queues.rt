@@ -28,6 +28,7 @@ impl<T: Drop> Lane<T> {
     fn new(alloc: Global) -> Result<Lane<T>, AllocError>
         ensures { IfOk result (λ lane. is_some lane.own ≡ true) }
     {
+        // A deque with so many slots, from which the owner pops what was pushed last.
         let worker = Deque::<T>::lifo_as(alloc, SLOTS)?;
         let thief = worker.stealer()?;
         let own = Some(Own::of(worker));

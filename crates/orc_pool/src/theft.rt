@@ -17,7 +17,7 @@ const TRIES: u32 = 1_048_576;
 #[derive(Drop)]
 pub struct Theft<T: Drop> {
     pub(crate) stealer: Thief<T>,
-    // What this thief knows of the history. It is the deque's pass, and no pass to a group.
+    // What this thief knows of the history. The kit calls it a pass of the deque; it has nothing to do with the passes to a group in other crates.
     pub(crate) pass: Pass<T, View<T>>,
     ghost of: { IsPassOf (stealer_deque stealer) pass },
     ghost guest: { (view pass).owns ≡ false },
@@ -41,6 +41,7 @@ impl<T: Drop> Theft<T> {
         ensures { MatchOption result (theft_view self.new ≡ theft_view self.old) (λ task. IsTheft (theft_view self.old) (task ∷ []) (theft_view self.new)) }
     {
         for _ in 0..TRIES {
+            // The kit's theft. `Thefts` is for the prover: it says how the history goes on.
             match self.stealer.steal_as::<Thefts>(&mut self.pass) {
                 Steal::Success(task) => return Some(task),
                 Steal::Empty => return None,

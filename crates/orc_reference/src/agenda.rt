@@ -125,6 +125,7 @@ impl Turns for Agenda {
                 }
             }
         }
+        // No token can move, so the halted side ends: its otherwise goes to the right side, or its cell is lost.
         if let Some(side) = side {
             if let Some(entry) = side_entry(marked, side) {
                 return Ok(Choice::Entry(entry));

@@ -152,7 +152,8 @@ impl Search<'_> {
         }
     }
 
-    // How much has been seen once the call with this number is answered. None if that must not happen. The way has the call, since it pends.
+    // How much has been seen once the call with this number is answered, after `seen` before. `time` is as `Wanted::time` gives it. None if that must
+    // not happen. The way has the call, since it pends.
     fn answered<W: Wanted>(
         &self,
         wanted: &W,
@@ -165,7 +166,8 @@ impl Search<'_> {
         wanted.after(seen, time, Happened::Answered(site, args, answer))
     }
 
-    // How much has been seen after an entry at such a time. None if the entry must not come. Entries that nobody outside sees change nothing.
+    // How much has been seen after an entry, where `seen` was before. `time` is as `Wanted::time` gives it. None if the entry must not come. Entries
+    // that nobody outside sees change nothing.
     fn seen_after<W: Wanted>(
         &self,
         wanted: &W,
@@ -197,12 +199,14 @@ impl Search<'_> {
         let mut after = counts;
         if let Entry::Call(_, _, site, args) = &entry {
             let called = mix_args(*site, args);
+            // How many calls of this site with these arguments the way has already.
             let mut earlier = 0_u64;
             for made in self.calls.as_slice() {
                 if made.called == called {
                     earlier = earlier.saturating_add(1);
                 }
             }
+            // From the number `last_answer` on, counted from 0, all these calls are answered alike. The new call has the number `earlier`.
             if earlier < self.answers.last_answer(*site, args) {
                 after = counts.wrapping_add(mix(called, earlier));
             }
@@ -362,6 +366,7 @@ impl Search<'_> {
         let Some(level) = self.levels.last_mut() else {
             return Ok(Turn::Nothing);
         };
+        // The way is cut back to the position before the choice.
         self.way.truncate(level.entries);
         self.calls.truncate(level.calls);
         let Some(entry) = level.next.pop() else {
@@ -372,9 +377,11 @@ impl Search<'_> {
         let counts = level.counts;
         let before = level.seen;
         let time = wanted.time(marked.now());
+        // None: the entry shows something that must not happen, so it isn't tried.
         let Some(seen) = self.seen_after(wanted, before, time, &entry) else {
             return Ok(Turn::More);
         };
+        // The marks from here on are those that the entry brings.
         let from = marked.new_mark();
         self.step(&mut marked, &entry)?;
         let counts = self.add(entry, counts)?;
@@ -437,8 +444,8 @@ impl Turns for Steps {
     }
 }
 
-// Searches for a wanted run through some `most` positions, as `Search::go` counts them. Gives its entries, or None if it found none. The error is
-// refused memory.
+// Searches for a wanted run until it has come to more than `most` positions, as `Search::go` counts them. Gives the entries of the run, or None if it
+// found none. The error is refused memory.
 fn way_to<W: Wanted>(
     alloc: Global,
     program: &Program,
@@ -484,6 +491,7 @@ pub fn find<W: Wanted>(
     };
     // `Steps` takes entries from the end.
     way.reverse();
+    // The run is played again from its beginning, so that the rules test each of its entries.
     let Ok(mut history) = History::new(alloc, program) else {
         return Err(PlayFault::Memory);
     };

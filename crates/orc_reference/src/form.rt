@@ -216,12 +216,13 @@ impl Forms<'_> {
                 }
                 // A node that means just its part has the part's form: an otherwise that has published, or a pruning whose cell is settled.
                 Kind::One(Single::Passed, part) => todo.push((part, place))?,
+                // The left side of a `>x>` runs. Its right side, a node of the program, is mixed into the left side's place.
                 Kind::One(Single::Feeds(name, node, scope), part) => {
                     let seed = mix(mix(place, 20), name as u64);
                     todo.push((part, self.mix_node(seed, marked, node, scope)?))?;
                 }
                 Kind::One(Single::Entered(_, node, scope), part) => {
-                    // It counts itself, and not only its part, which may have ended.
+                    // The left side of an otherwise runs. The otherwise counts itself, and not only its left side, which may have ended.
                     let seed = self.mix_node(mix(place, 21), marked, node, scope)?;
                     form = form.wrapping_add(spread(seed));
                     todo.push((part, seed))?;
@@ -231,7 +232,8 @@ impl Forms<'_> {
                     todo.push((right, mix(place, 23)))?;
                 }
                 Kind::Two(Double::Side(cell), left, right) => {
-                    // Before the left side is walked through, which alone names the cell. The pruning counts itself, since its parts may have ended.
+                    // An opened pruning. Its cell is noted before the left side is walked through, which alone names the cell. The pruning counts
+                    // itself, since its parts may have ended.
                     self.cells.insert(cell, place)?;
                     form = form.wrapping_add(spread(mix(place, 26)));
                     todo.push((left, mix(place, 24)))?;

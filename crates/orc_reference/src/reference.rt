@@ -102,6 +102,7 @@ pub(crate) fn proceed<T: Turns>(
 {
     // A turn for each entry that counts.
     for _turn in 0..limit {
+        // A side that has halted, whose otherwise or cell can go on. `choose` takes it once no token can move.
         let side = history.halted_side();
         let entry = match turns.choose(program, history.marked(), side) {
             Ok(Choice::Entry(entry)) => entry,

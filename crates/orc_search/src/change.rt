@@ -67,7 +67,7 @@ fn put_param(q: Param, x: u32, param: Param) -> Param
     }
 }
 
-// The parameter, with w put for the cell n.
+// The parameter, with w put for the cell n. A cell with a greater number gets the next lower one, since one opened pruning fewer is around it.
 fn settle_param(w: Param, n: u64, param: Param) -> Param
     ensures { result ≡ settle_param w n param }
 {
@@ -153,7 +153,8 @@ fn changed_tip(alloc: Global, change: Change, tip: &Tip) -> Result<Tip, AllocErr
     }
 }
 
-// Whether the left part of such a term stays as it is: in `f <x< g` the x of f is the pruning's own, not the one for which something is put.
+// Whether the left part of a term that is joined so stays as it is: in `f <x< g` the x of f is the pruning's own, not the one for which something is
+// put.
 fn left_stays(change: Change, joint: Joint) -> bool
     ensures { result ≡ left_stays change joint }
 {
@@ -163,7 +164,7 @@ fn left_stays(change: Change, joint: Joint) -> bool
     }
 }
 
-// Whether the right part stays as it is: the g of `f >x> g` has its own x.
+// Whether the right part of a term that is joined so stays as it is: the g of `f >x> g` has its own x.
 fn right_stays(change: Change, joint: Joint) -> bool
     ensures { result ≡ right_stays change joint }
 {
@@ -173,8 +174,8 @@ fn right_stays(change: Change, joint: Joint) -> bool
     }
 }
 
-// The node from which the change of a term is made: a term without parts already changed, or the parts of the term before the change. The error is
-// refused memory, or that there is no such term.
+// The node from which the change of the term of the number `at` is made: a term without parts already changed, or the parts of the term before the
+// change. The error is refused memory, or that there is no such term.
 fn plan(terms: &Terms, alloc: Global, change: Change, at: usize) -> Result<Node, AllocError>
     ensures { IfOk result (λ n. IsPlan (smalls terms.now) change at n) }
 {
@@ -188,7 +189,7 @@ fn plan(terms: &Terms, alloc: Global, change: Change, at: usize) -> Result<Node,
     }
 }
 
-// The number of a part after the change: its own if it stays, or that of its image; None if that isn't kept yet.
+// The number of what the part `at` is after the change: its own if it stays, or that of its image; None if the image isn't kept yet.
 fn part(terms: &Terms, change: Change, stays: bool, at: usize) -> Option<usize>
     ensures { IfSome result (λ to. IsPart (smalls terms.now) change stays at to) }
 {
@@ -199,8 +200,8 @@ fn part(terms: &Terms, change: Change, stays: bool, at: usize) -> Option<usize>
     }
 }
 
-// One step for one term: what it becomes if the images of its parts are kept, and otherwise a part whose image is wanted first, the left one before
-// the right one. The error is refused memory.
+// One step for the term of the number `at`: what it becomes if the images of its parts are kept, and otherwise a part whose image is wanted first,
+// the left one before the right one. The error is refused memory.
 fn step(terms: &mut Terms, alloc: Global, change: Change, at: usize) -> Result<Progress, AllocError>
     ensures progress { IfOk result (λ s. ProgressIs (smalls terms.old) (smalls terms.new) change at s) }
     ensures kept { Extends (smalls terms.old) (smalls terms.new) }
@@ -223,8 +224,8 @@ fn step(terms: &mut Terms, alloc: Global, change: Change, at: usize) -> Result<P
     }
 }
 
-// One step of the whole change, for the term taken from the end of `todo`: its image is kept, and handed back; or the term goes back to `todo`, and
-// behind it the part that is wanted first, and the answer is None. The error is refused memory.
+// One step of the whole change, for the term `at`, which was taken from the end of `todo`: its image is kept, and handed back; or the term goes back
+// to `todo`, and behind it the part that is wanted first, and the answer is None. The error is refused memory.
 fn advance(
     terms: &mut Terms,
     alloc: Global,
@@ -252,7 +253,8 @@ fn advance(
     }
 }
 
-/// The number of what a term that is there becomes by a change. The error is refused memory. The terms that were there stay, in both cases.
+/// The number of what the term of the number `root` becomes by a change. The error is refused memory. The terms that were there stay, also after an
+/// error.
 pub fn changed(
     terms: &mut Terms,
     alloc: Global,
@@ -263,6 +265,7 @@ pub fn changed(
     ensures image { IfOk result (λ to. slice_get (smalls terms.new) to ≡ Some (changed change (small_at (smalls terms.old) root))) }
     ensures kept { Extends (smalls terms.old) (smalls terms.new) }
 {
+    // If too many images are kept, all go here: none may go while the change is worked out.
     terms.begin_change();
     if let Some(to) = terms.image(change, root) {
         return Ok(to);

@@ -122,8 +122,8 @@ impl Parts {
         Ok(())
     }
 
-    // Lists those parts of two joined terms that can move, as `Walk::plan_parts` plans them. The joined term is at the place `outer`, and `depth` is
-    // its own. The error is refused memory, or a depth of 2^64.
+    // Lists those parts of two joined terms that can move, as `Walk::plan_parts` plans them. `f` and `g` are the numbers of the left and the right
+    // term. The joined term is at the place `outer` of the list, and `depth` is its own. The error is refused memory, or a depth of 2^64.
     fn add_parts(
         &mut self,
         outer: usize,
@@ -155,7 +155,8 @@ impl Parts {
         }
     }
 
-    // Counts the next part, which is `part`, as looked at, and lists its parts behind the others. The error is refused memory.
+    // Counts the next part of the list, which is `part`, as looked at, and lists its own parts behind the others. The error is refused memory, or a
+    // depth of 2^64.
     fn enter(&mut self, terms: &Terms, part: Part) -> Result<(), AllocError>
         requires parts { AreParts (smalls terms.now) self.old.root self.old.list.items }
         requires next { slice_get self.old.list.items self.old.next ≡ Some part }
@@ -269,8 +270,9 @@ impl Parts {
     }
 
     /// The next step of the term that may go first; None once all its parts have been looked at. `made` are the calls that were made before. The step
-    /// is early if its happening is hidden: nobody sees it, and the calls to come are answered after it as before. The errors are those of
-    /// `successors`. The terms that were there stay, in both cases.
+    /// is early if its happening is hidden: nobody sees it, and the calls to come are answered after it as before. The error is refused memory, or a
+    /// count past its type: a call with more than `MOST_ARGUMENTS` parameters, 2^64 calls, or prunings opened in one another 2^64 deep. The terms
+    /// that were there stay, also after an error.
     pub fn next_early(
         &mut self,
         terms: &mut Terms,

@@ -148,8 +148,8 @@ fn call(alloc: Global, site: u32, args: &[Value], rest: Found) -> Result<Becomin
     })
 }
 
-// The step of a call of a site that isn't made yet: it is made if all parameters are values, ends silently if one is void, and waits otherwise. The
-// error is refused memory, or that it has more than `MOST_ARGUMENTS` parameters.
+// The step of a call of a site that isn't made yet, after the calls `made`: it is made if all parameters are values, ends silently if one is void,
+// and waits otherwise. The error is refused memory, or that it has more than `MOST_ARGUMENTS` parameters.
 fn asked(
     alloc: Global,
     source: &Source,
@@ -195,8 +195,8 @@ fn returned(alloc: Global, waiting: &Waiting) -> Result<Option<Becoming>, AllocE
     }))
 }
 
-// What the term of that number does by itself. The error is refused memory, a call with more than `MOST_ARGUMENTS` parameters, or that there is no
-// such term.
+// What the term of the number `at` does by itself, after the calls `made`. The error is refused memory, a call with more than `MOST_ARGUMENTS`
+// parameters, or that there is no such term.
 fn own_of(
     terms: &Terms,
     alloc: Global,
@@ -239,7 +239,8 @@ fn definition(program: &Program, number: u32) -> Option<&Definition>
     }
 }
 
-// The number of the term of a program's node; where there is no such node, its term is nothing. The error is refused memory.
+// The number of the small term of the program's node at the place `node`, from 0; where there is no such node, its term is `stop`. The error is
+// refused memory.
 fn number_of_node(terms: &mut Terms, source: &Source, node: usize) -> Result<usize, AllocError>
     requires { IsReady (smalls terms.old) source.now }
     // The number is that of the small term of the program's node.
@@ -303,8 +304,8 @@ fn entered(
     }))
 }
 
-// The number of what `f <x< g` becomes when it opens: in f the new cell takes the place of x. The cell's number is the depth of the pruning (`Spot`).
-// The error is refused memory.
+// The number of what `f <x< g` becomes when it opens: in f the new cell takes the place of x. `f` and `g` are the numbers of the two sides. The
+// cell's number is the depth of the pruning (`Spot`). The error is refused memory.
 fn opened(
     terms: &mut Terms,
     alloc: Global,
@@ -324,9 +325,9 @@ fn opened(
     Ok(to)
 }
 
-// The number of what two joined terms become by themselves; None if they do nothing but by a part. All such steps are silent: a pruning opens, an
-// otherwise goes to its right side, or a cell is lost. `depth` is that of the joined term (`Spot`), and so the number of the cell that opens or is
-// lost. The error is refused memory.
+// The number of what two joined terms become by themselves; None if they do nothing but by a part. `f` and `g` are their numbers. All such steps are
+// silent: a pruning opens, an otherwise goes to its right side, or a cell is lost. `depth` is that of the joined term (`Spot`), and so the number of
+// the cell that opens or is lost. The error is refused memory.
 fn turned(
     terms: &mut Terms,
     alloc: Global,
@@ -348,6 +349,7 @@ fn turned(
             let to = opened(terms, alloc, f, x, g, depth)?;
             Ok(Some(to))
         }
+        // Once its left side has halted, an otherwise goes to its right side.
         Joint::Instead => {
             if terms.summary(f).over {
                 Ok(Some(g))
@@ -355,6 +357,7 @@ fn turned(
                 Ok(None)
             }
         }
+        // Once the right side of an opened pruning has halted, the cell is lost: void is put for it, and the left side alone is left.
         Joint::Needs => {
             if terms.summary(g).over {
                 let to = changed(terms, alloc, Change::Settle(Param::Void, depth), f)?;
@@ -366,8 +369,8 @@ fn turned(
     }
 }
 
-/// The step of a part by itself: what is seen of it, and the number of the part after it; None if it has none. The error is refused memory, or a call
-/// with more than `MOST_ARGUMENTS` parameters. The terms that were there stay, in both cases.
+/// The step of the part at `spot` by itself, after the calls `made`: what is seen of it, and the number of the part after it; None if it has none.
+/// The error is refused memory, or a call with more than `MOST_ARGUMENTS` parameters. The terms that were there stay, also after an error.
 pub(crate) fn own_step(
     terms: &mut Terms,
     alloc: Global,
@@ -384,6 +387,7 @@ pub(crate) fn own_step(
     match own_of(terms, alloc, source, made, spot.at)? {
         Own::Becomes(None) => Ok(None),
         Own::Becomes(Some(becoming)) => {
+            // The term after the step is among the terms from here on.
             let to = terms.number_of(Node::Tip(becoming.tip))?;
             Ok(Some(Successor {
                 happening: becoming.happening,
@@ -401,8 +405,8 @@ pub(crate) fn own_step(
     }
 }
 
-// Plans that the parts of this part are entered next. The error is refused memory, prunings opened in one another 2^64 deep, or that there is no such
-// term.
+// Plans that the parts of the part at `spot` are entered next. The error is refused memory, prunings opened in one another 2^64 deep, or that there
+// is no such term.
 fn plan(terms: &Terms, walk: &mut Walk, spot: Spot) -> Result<(), AllocError>
     ensures { OnOk result (IsPlanned (smalls terms.now) spot walk.old walk.new) }
 {
@@ -413,7 +417,8 @@ fn plan(terms: &Terms, walk: &mut Walk, spot: Spot) -> Result<(), AllocError>
     }
 }
 
-// The step of a part by itself, as `own_step` has it, once its own parts are planned to be entered next. The errors are those of both.
+// The step of the part at `spot` by itself, after the calls `made`, once its own parts are planned to be entered next. The errors are those of `plan`
+// and of `own_step`.
 fn step(
     terms: &mut Terms,
     alloc: Global,
@@ -481,7 +486,7 @@ fn add(found: &mut Vec<Successor>, successor: Option<Successor>) -> Result<(), A
 
 /// All that the term of the number `root` may do, in the order of the list `moves` of the definitions, where the calls `made` were made before: what
 /// is seen of each step, and the number of the term after it. The error is refused memory, or that a count is past its type: a call with more than
-/// `MOST_ARGUMENTS` parameters, 2^64 calls, or prunings opened in one another. The terms that were there stay, in both cases.
+/// `MOST_ARGUMENTS` parameters, 2^64 calls, or prunings opened in one another 2^64 deep. The terms that were there stay, also after an error.
 pub fn successors(
     terms: &mut Terms,
     alloc: Global,
@@ -500,6 +505,7 @@ pub fn successors(
     let mut spot = Spot { at: root, depth: 0 };
     // The loop ends with the walk: no term has as many parts as it has turns, and the bound shows that it ends.
     for _step in 0..u64::MAX {
+        // The walk goes on with the part's own parts, which `step` plans. `walk.path` has the frames around the part.
         let own = step(terms, alloc, source, made, &mut walk, spot)?;
         let whole = whole_of(terms, alloc, &walk.path, own)?;
         add(&mut found, whole)?;

@@ -177,6 +177,7 @@ fn mix_waiting(seed: u64, waiting: &Waiting) -> u64 {
     mix_found(mixed, waiting.rest)
 }
 
+// The hash of a joint. Each kind has a small number of its own.
 fn mix_joint(joint: Joint) -> u64 {
     match joint {
         Joint::Both => 10,
@@ -187,7 +188,8 @@ fn mix_joint(joint: Joint) -> u64 {
     }
 }
 
-/// The hash by which a node is looked for. Equal nodes have the same one, but no contract says so.
+/// The hash by which a node is looked for. Equal nodes have the same one, but no contract says so. The kinds of terms without parts have the numbers
+/// 15 to 19.
 pub fn hash_of(node: &Node) -> u64 {
     match node {
         Node::Tip(Tip::Nothing) => 15,

@@ -74,6 +74,7 @@ impl Places {
         let wanted = Slot::new(hash, FREE);
         // Without slots the loop has no turn, whatever the mask is.
         let mask = self.slots.len().wrapping_sub(1);
+        // The low bits of the hash say at which slot the search begins.
         let mut place = wanted.low as usize & mask;
         for _slot in 0..self.slots.len() {
             let slot = self.slots.get(place)?;

@@ -55,8 +55,8 @@ fn pair_of(numbers: &[usize], joint: Joint, f: usize, g: usize) -> Result<Node, 
     Ok(Node::Pair(joint, left, right))
 }
 
-// The node of the small term of a program's node, which `unfolded` is, from the numbers of the terms of the nodes before it. The error is refused
-// memory, or that of `pair_of`.
+// The node of the small term of a program's node, which `unfolded` is. `numbers` has the numbers of the small terms of the nodes before it. The error
+// is refused memory, or that the number of a part isn't known yet.
 fn node_of(
     alloc: Global,
     program: &Program,
@@ -96,7 +96,7 @@ fn node_of(
 }
 
 /// The numbers of the small terms of a program's nodes, one for each node in their order. The error is refused memory. The terms that were there
-/// stay, in both cases.
+/// stay, also after an error.
 pub fn numbered(
     terms: &mut Terms,
     alloc: Global,

@@ -82,7 +82,7 @@ pub fn copy_of(alloc: Global, happening: &Happening) -> Result<Happening, AllocE
     }
 }
 
-// The enclosing node, with this term as its part.
+// The enclosing node, with the term of the number `to` as its part.
 fn whole_of(frame: Frame, to: usize) -> Node
     ensures { result ≡ whole_of frame to }
 {
@@ -130,8 +130,8 @@ fn fed(
     Ok(to)
 }
 
-/// What the enclosing term does when a part of it does `successor`: what is seen of it from there, and the number of the term after it. The error is
-/// refused memory. The terms that were there stay, in both cases.
+/// What the enclosing term does when a part of it does `successor`: what is seen of it from there, and the number of the term after it. `frame` is
+/// what encloses the part. The error is refused memory. The terms that were there stay, also after an error.
 pub fn lifted(
     terms: &mut Terms,
     alloc: Global,
@@ -152,6 +152,7 @@ pub fn lifted(
                 to,
             })
         }
+        // The `>x>` takes the value, so that nobody sees it outside.
         Lift::Fed(x, g, value) => {
             let to = fed(terms, alloc, x, value, successor.to, g)?;
             Ok(Successor {
@@ -159,6 +160,7 @@ pub fn lifted(
                 to,
             })
         }
+        // The value is put for the cell in the left side f, which alone is left of the pruning.
         Lift::Bound(n, f, value) => {
             let to = changed(terms, alloc, Change::Settle(Param::Is(value), n), f)?;
             Ok(Successor {
@@ -166,6 +168,7 @@ pub fn lifted(
                 to,
             })
         }
+        // The otherwise publishes what its left side does, and only that side is left.
         Lift::Passed => Ok(successor),
     }
 }

@@ -197,7 +197,7 @@ impl Terms {
         }
     }
 
-    // Adds a node behind the others, whose parts are there: its number. Where memory is refused nothing changes.
+    // Adds a node, whose parts are there, behind the others, and gives its number. Where memory is refused nothing changes.
     fn push(&mut self, node: Node) -> Result<usize, AllocError>
         requires { HasParts (length self.old) node }
         ensures number { IfOk result (λ at. at ≡ length self.old) }
@@ -237,8 +237,8 @@ impl Terms {
         self.places.insert(hash, at)
     }
 
-    /// The number of a node's term, whose parts are there: that of an equal node, or else of a new one. The error is refused memory. The terms
-    /// that were there stay, in both cases.
+    /// The number of a node's term, whose parts are there: that of an equal node, or else of a new one. The error is refused memory. The terms that
+    /// were there stay, also after an error.
     pub fn number_of(&mut self, node: Node) -> Result<usize, AllocError>
         requires { HasParts (length self.old) node }
         ensures number { IfOk result (λ at. slice_get (smalls self.new) at ≡ Some (small_of_node (smalls self.old) node)) }

@@ -36,7 +36,7 @@ pub(crate) struct Walk {
 }
 
 /// What the whole term does when a part of it does `successor`, through all frames of the path, the innermost (last) first. The error is refused
-/// memory. The terms that were there stay, in both cases.
+/// memory. The terms that were there stay, also after an error.
 pub(crate) fn lifted_out(
     terms: &mut Terms,
     alloc: Global,
