@@ -8,25 +8,25 @@ use orc_rules::limits::{DEFAULT_ENTRIES, DEFAULT_WORKERS, MOST_ENTRIES, MOST_WOR
 /// The most orders in which `outcomes` runs a program, or `test` each way.
 const MOST_ORDERS: i64 = 1_000_000;
 
-/// The orders of `outcomes` where no number is asked for.
+/// In how many orders `outcomes` runs a program where no number is asked for.
 const DEFAULT_ORDERS: u64 = 100;
 
 /// The most states of a search of `outcomes --all`, or of one search of `test`; also the greatest number that `--show` takes.
 const MOST_STATES: i64 = 10_000_000;
 
-/// The states of such a search where no number is asked for.
+/// The most states of a search of `outcomes --all` or of `test` where no number is asked for.
 pub const DEFAULT_STATES: u64 = 5_000;
 
-/// The ways of each case that `test` tries where no number is asked for.
+/// How many ways of each case `test` tries at most where no number is asked for.
 pub const DEFAULT_WAYS: u64 = 10_000;
 
-/// The orders in which `test` runs each way where no number is asked for.
+/// In how many orders `test` runs each way where no number is asked for.
 pub const DEFAULT_TRIALS: u64 = 20;
 
 /// The most ways of a case that `test` tries.
 const MOST_WAYS: i64 = 1_000_000;
 
-/// The most failures that a test may report: of 1,024 claims, and one of each of 256 cases, that its runs end by themselves.
+/// The most failures that a test may report: one of each of 1,024 claims, and one of each of 256 cases, whose runs have to end by themselves.
 const MOST_FAILURES: i64 = 1_280;
 
 /// An argument of one or more commands.

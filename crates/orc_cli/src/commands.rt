@@ -23,7 +23,7 @@ Status:
   2  the command line was refused       6  a file or the output failed
   3  quiet: it waits for ever           7  the engine is at fault";
 
-// The texts of a setting that aren't in the table, since they have its numbers.
+// The texts of a setting (an option with a range of numbers and a default) that aren't in the table, since they have its numbers.
 #[derive(Drop)]
 struct Told {
     /// The number where it is left out.
@@ -56,7 +56,7 @@ impl Row {
         Ok(Row { argument, told })
     }
 
-    // Whether the command of this name takes it.
+    // Whether the command of this name takes the argument.
     fn is_of(&self, command: &str) -> bool {
         for one in self.argument.of {
             if *one == command {
@@ -66,7 +66,7 @@ impl Row {
         false
     }
 
-    // Adds to `clap`'s argument what the help says of it, and the default of a setting.
+    // Adds to `clap`'s argument what the help says of this row's, and the default of a setting.
     fn helping<'a>(&'a self, argument: Arg<'a>) -> Arg<'a> {
         match &self.told {
             Some(told) => argument
@@ -76,7 +76,7 @@ impl Row {
         }
     }
 
-    // Adds to `clap`'s argument which other one it excludes or needs. The error is refused memory.
+    // Adds to `clap`'s argument which other one this row's excludes or needs. The error is refused memory.
     fn beside<'a>(&self, argument: Arg<'a>) -> Result<Arg<'a>, AllocError> {
         match self.argument.beside {
             Beside::Anything => Ok(argument),
@@ -85,7 +85,7 @@ impl Row {
         }
     }
 
-    // The argument as `clap` reads it. The error is refused memory.
+    // The argument as `clap` reads it, with the placeholder for its text, its range or words, and its default. The error is refused memory.
     fn argument<'a>(&'a self, alloc: Global) -> Result<Arg<'a>, AllocError> {
         let name = self.argument.name;
         let named = self.beside(self.helping(Arg::new(alloc, name)))?;

@@ -24,7 +24,7 @@ pub struct Asked<'a> {
 pub struct ProgramPaths<'a> {
     /// The program's source.
     pub file: &'a str,
-    /// How its own sites answer. None where no script is given: then it has none.
+    /// The script, which says how the program's own sites answer. None where no script is given: then the program has no sites of its own.
     pub script: Option<&'a str>,
 }
 
@@ -46,7 +46,7 @@ pub enum Job<'a> {
         program: ProgramPaths<'a>,
         options: SearchOptions,
     },
-    /// Write the journal of a run that has one of these outcomes.
+    /// Write the journal of a run that has the outcome on a line of those that `outcomes` writes.
     Show {
         program: ProgramPaths<'a>,
         options: ShowOptions,
@@ -116,7 +116,8 @@ fn are_two_of_four(a: bool, b: bool, c: bool, d: bool) -> bool
     are_two(a, b, c) || (a || b || c) && d
 }
 
-// Whether so many workers, and a limit of so many entries, are within the limits of the engine.
+// Whether so many workers, and a limit of so many entries, are within the limits of the engine: 1 of each at least, and `MOST_WORKERS` and
+// `MOST_ENTRIES` at most.
 fn is_in_range(workers: u64, limit: u64) -> bool
     ensures { result ≡ true → IsInRange workers limit }
 {
@@ -170,7 +171,7 @@ impl Job<'_> {
                 may_be_input(program.script),
                 is_input(test),
             ),
-            // It reads one file.
+            // `print` reads one file.
             Job::Print { .. } => false,
             Job::Test { program, test, .. } => program.shares_input_with(test),
         }
@@ -219,7 +220,7 @@ pub struct SearchOptions {
 pub struct ShowOptions {
     /// How the program is run in many orders, whose outcomes come first.
     pub survey: SurveyOptions,
-    /// At so many states a search of all schedules looks at most; None for no search.
+    /// The search of all schedules looks at so many states at most; None for no search.
     pub states: Option<u64>,
     /// The outcome's line, from 1, among those that the same command writes without `--show`.
     pub number: u64,
@@ -293,7 +294,7 @@ pub enum Wanted {
     Values,
     /// A line for each value that it published, with the logical time at which it came.
     Times,
-    /// Its journal.
+    /// The run's journal.
     Journal,
 }
 

@@ -1,6 +1,7 @@
 //! The words of the command line: which there are, what the help says of them, and what they ask for.
 //!
-//! [`read_words`] reads a whole line. It gives the [`Job`] that it asks for, or the error of `clap` that asks for help, asks for the version, or refuses it.
+//! [`read_words`] reads a whole line. It gives the [`Job`] that it asks for, or the error of `clap` that asks for help, asks for the version, or
+//! refuses it.
 #![tactic(auto)]
 
 mod arguments;

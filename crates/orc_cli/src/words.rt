@@ -24,7 +24,7 @@ fn is_given(given: &ArgMatches, name: &str) -> bool {
     given.get_flag(name)
 }
 
-// What is written of a run. `clap` refuses both flags together.
+// What is written of a run: its journal, its values with their times, or its values. `clap` refuses both flags together.
 fn wanted_of(given: &ArgMatches) -> Wanted {
     if is_given(given, "journal") {
         Wanted::Journal
@@ -35,7 +35,7 @@ fn wanted_of(given: &ArgMatches) -> Wanted {
     }
 }
 
-// The order of the number that is given, else the fixed one. `Unordered` is asked for by a flag, which `options_of` reads.
+// The order with the number that `--order` gives, else the fixed one. `Unordered` is asked for by a flag, which `options_of` reads.
 fn order_of(given: &ArgMatches) -> Order {
     match given.get_one::<u64>("order") {
         Some(number) => Order::Numbered(number),
@@ -62,7 +62,7 @@ fn options_of(given: &ArgMatches) -> Option<RunOptions> {
     })
 }
 
-// How a program is run in many orders.
+// How a program is run in many orders, by the options of `outcomes`. None where `clap` lacks one, though each has a default.
 fn survey_options_of(given: &ArgMatches) -> Option<SurveyOptions> {
     Some(SurveyOptions {
         workers: given.get_one::<u64>("workers")?,
@@ -83,6 +83,7 @@ fn states_of(given: &ArgMatches) -> Option<u64> {
 fn outcomes_of<'a>(program: ProgramPaths<'a>, given: &ArgMatches<'a>) -> Option<Job<'a>> {
     let survey = survey_options_of(given)?;
     let states = states_of(given);
+    // `--show` gives the line of the outcome, from 1.
     if let Some(number) = given.get_one::<u64>("show") {
         let options = ShowOptions {
             survey,
@@ -103,7 +104,7 @@ fn outcomes_of<'a>(program: ProgramPaths<'a>, given: &ArgMatches<'a>) -> Option<
     }
 }
 
-// What is written of a test.
+// What is written of a test: the script or the journal of the failure that `--fail` names, else a line for each claim.
 fn shown_of(given: &ArgMatches) -> Shown {
     match given.get_one::<u64>("fail") {
         None => Shown::Table,
@@ -117,7 +118,7 @@ fn shown_of(given: &ArgMatches) -> Shown {
     }
 }
 
-// How a test is made.
+// How a test is made, by the options of `test`. None where `clap` lacks one, though each has a default.
 fn test_options_of(given: &ArgMatches) -> Option<TestOptions> {
     Some(TestOptions {
         workers: given.get_one::<u64>("workers")?,
@@ -216,7 +217,7 @@ fn job_with_script<'a>(
     }
 }
 
-// What the words of a command ask for.
+// What the words of the command with this name ask for. None where `clap` lacks a file or a setting, which doesn't come.
 fn job_of<'a>(name: &str, given: &ArgMatches<'a>) -> Option<Job<'a>> {
     let file = given.get_str("file")?;
     if name == "print" {

@@ -32,7 +32,8 @@ pub struct Scope {
     pub outer: u32,
 }
 
-// What has become of a cell: itself if it isn't bound, or isn't in the table. A value and void stay as they are.
+// What a meaning has become by now: a cell what the table of cells says of it, or itself if it isn't bound, or isn't in the table. A value and void
+// stay as they are.
 fn current(cells: &[Bound], bound: Bound) -> Bound
     ensures { result ≡ current cells.now bound }
 {
@@ -56,7 +57,7 @@ fn scope_at(scopes: &[StoredScope], i: usize) -> Option<&StoredScope>
     }
 }
 
-// What a name means in a scope. None if the scope has no such name.
+// What a name means in a scope, as its cell is by now. None if the scope has no such name.
 fn bound_of(scopes: &[StoredScope], cells: &[Bound], name: u32, scope: usize) -> Option<Bound>
     ensures bound { IfSome result (λ b. Means cells.now scopes.now scope (Name name) b) }
     ensures free { IfNone result (IsFree cells.now scopes.now scope (Name name)) }
@@ -110,7 +111,7 @@ pub fn are_arguments(
     ensures are { result ≡ true → AreArguments cells.now scopes.now scope operands.now args.now }
     ensures others { result ≡ false → AreOthers cells.now scopes.now scope operands.now args.now }
 {
-    // It recurses once an argument of one call, `MOST_ARGUMENTS` times at most.
+    // It calls itself once for each argument of one call, `MOST_ARGUMENTS` times at most.
     match operands {
         [] => args.is_empty(),
         [operand, operands @ ..] => match args {

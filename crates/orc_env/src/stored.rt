@@ -18,7 +18,8 @@ enum Put {
     Void,
 }
 
-/// A scope as it is stored, in 24 bytes, by the fields of `Scope`.
+/// A scope as it is stored, in 24 bytes: the number of its name, that of the scope that it extends, and what the name means, by the fields of
+/// `Scope`.
 #[derive(Clone, Copy)]
 pub struct StoredScope {
     name: u32,

@@ -42,8 +42,8 @@ fn answer_at_once(found: Found) -> Option<Answer>
     }
 }
 
-// Writes a call and its answer, and counts the call. `token` is the caller's mark, `call` the call's number, `answer` the entry of the return. Where
-// memory is refused nothing changes.
+// Writes a call and its answer, and counts in `counts` a call of the site with these arguments, if a script answers the site. `token` is the caller's
+// mark, `call` the call's number, `answer` the entry of the return. Where memory is refused nothing changes.
 #[inline(always)]
 fn write_answered<P: Run>(
     journal: &mut Log<P>,
@@ -68,6 +68,7 @@ fn write_answered<P: Run>(
     {
         return Err(LedgerFault::Memory);
     }
+    // The journal's length with the call, to which it is cut below.
     let called = journal.len();
     if journal.push(answer).is_err() {
         journal.truncate(entries);
@@ -85,8 +86,9 @@ fn write_answered<P: Run>(
 }
 
 impl<P: Run> Ledger<P> {
-    /// Makes the call of a site at which this token is, as `call` does. If the table answers it at once, and the limit allows both entries, the
-    /// answer is recorded, too; else the call pends. `args` is lent for the arguments.
+    /// Makes the call of a site at which this token is, whose operands have values. If the table answers it at once, and the limit allows both
+    /// entries, the answer is recorded, too; else the call pends. `args` is lent for the arguments: it has them afterwards. Full, Limit or Memory if
+    /// the entry is refused; then nothing changes but `args`.
     pub fn call_through(
         &mut self,
         inputs: &Inputs<'_, P>,
@@ -101,12 +103,14 @@ impl<P: Run> Ledger<P> {
         ensures refused { OnErr result (self.new ≡ self.old) }
         ensures why { IfErr result (λ fault. IsRefused self.old 0 0 0 fault) }
     {
+        // `ask` gives the number of the site, and writes the arguments over `args`.
         let site = self.ask(inputs, token, args);
         self.answer_through(inputs, slot, token, site, args)
     }
 
-    /// Makes the call at which this token is, of `site` with the operands of list `list` in `scope`, as `call_through` does, but looks at the
-    /// operands only once. None, and nothing changes, if an operand has no value. `args` is lent for the arguments.
+    /// Makes the call at which this token is, of `site` with the operands of list `list` in `scope`, and records its answer, too, if the table gives
+    /// it at once and the limit allows both entries. It looks at the operands only once. None, and nothing changes, if an operand has no value.
+    /// `args` is lent for the arguments. Full, Limit or Memory if the entry is refused; then nothing changes but `args`.
     #[inline(always)]
     pub fn call_at(
         &mut self,
@@ -126,6 +130,7 @@ impl<P: Run> Ledger<P> {
         ensures refused { OnErr result (self.new ≡ self.old) }
         ensures why { IfErr result (λ fault. IsRefused self.old 0 0 0 fault) }
     {
+        // `take_values` writes the operands' values over `args`, and is false if one has none.
         if self.take_values(inputs.graph.operands(list as usize), scope, args) {
             return match self.answer_through(inputs, slot, token, site, args) {
                 Ok(called) => Ok(Some(called)),
@@ -135,7 +140,8 @@ impl<P: Run> Ledger<P> {
         Ok(None)
     }
 
-    /// Makes the call at which this token is, of this site with these arguments, as `call_through` does: it is answered at once, or pends.
+    /// Makes the call at which this token is, of this site with these arguments: it is answered at once if the table does so and the limit allows
+    /// both entries, else it pends. Full, Limit or Memory if the entry is refused; then nothing changes.
     #[inline(always)]
     pub(crate) fn answer_through(
         &mut self,
@@ -152,12 +158,15 @@ impl<P: Run> Ledger<P> {
         ensures refused { OnErr result (self.new ≡ self.old) }
         ensures why { IfErr result (λ fault. IsRefused self.old 0 0 0 fault) }
     {
+        // The pending call, or the token on the answer, takes the token's place: no token or call more, and no group.
         self.within(0, 0, 0)?;
+        // The call's record, with its number and the table's answer. Nothing is written yet.
         let call = self.next_call(inputs, token, site, args);
         // An answer at once takes two entries, the call's and its own. If the limit has room for one alone, the call pends.
         let answer = match answer_at_once(call.found) {
             Some(answer) if self.limit - self.entries >= 2 => answer,
             _ => {
+                // The call is written without an answer, and pends in the token's place.
                 self.pend(inputs, slot, token, site, args, call)?;
                 return Ok(Called::Pends(call.number));
             }
@@ -185,6 +194,7 @@ impl<P: Run> Ledger<P> {
                 )?;
                 self.entries += 2;
                 self.next_mark = mark + 1;
+                // The call's number is used up, though the call never pends.
                 self.calls.skip_number();
                 self.tokens.replace(
                     slot,
@@ -209,6 +219,7 @@ impl<P: Run> Ledger<P> {
                     &Entry::ReturnHalt(number),
                 )?;
                 self.entries += 2;
+                // The call's number is used up, though the call never pends.
                 self.calls.skip_number();
                 self.tokens.remove(slot);
                 self.groups.leave(group);

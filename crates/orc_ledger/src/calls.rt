@@ -18,8 +18,9 @@ use orc_tables::{Call, Standing, Token};
 
 impl<P: Run> Ledger<P> {
     /// Answers the call that pends with this number, if the table of sites gives this answer and it is due now. If the answer is a value, a token on
-    /// it comes in the call's place, and its slot is given; if the call halts, None is given. Gone if no such call pends, Wrong if the table says
-    /// otherwise or the call isn't due now, Limit if the journal has as many entries as its limit, else Memory. Nothing has changed then.
+    /// it comes in the call's place, and its slot is given; if the call halts, None is given. Each other token stays in its slot. Gone if no such
+    /// call pends, Wrong if the table says otherwise or the call isn't due now, Limit if the journal has as many entries as its limit, else Memory.
+    /// Nothing has changed then.
     pub fn returned(&mut self, number: u64, answer: Answer) -> Result<Option<usize>, ReturnFault>
         ensures done { IfOk result (λ slot. (c : Its) × Pends self.old number c × IsReturned self.old c answer slot self.new) }
         ensures others { OnOk result (KeepsAll self.old.slots self.new.slots) }
@@ -49,7 +50,7 @@ impl<P: Run> Ledger<P> {
         }
     }
 
-    // A call is answered with a value. Gives the slot of the token on it. The error is refused memory, and then nothing changes.
+    // Answers a call, which is due now, with a value. Gives the slot of the token on it. The error is refused memory, and then nothing changes.
     fn give(&mut self, call: Call, value: Value) -> Result<usize, LedgerFault>
         requires pends { IsIn call self.old.calls }
         requires due { DueNow call.made_at call.found (Gives value) self.old.now }
@@ -77,7 +78,7 @@ impl<P: Run> Ledger<P> {
         Ok(slot)
     }
 
-    // A call halts. The error is refused memory, and then nothing changes.
+    // Answers a call, which is due now, with a halt. The error is refused memory, and then nothing changes.
     fn give_up(&mut self, call: Call) -> Result<(), LedgerFault>
         requires pends { IsIn call self.old.calls }
         requires due { DueNow call.made_at call.found Halt self.old.now }
@@ -90,6 +91,7 @@ impl<P: Run> Ledger<P> {
         write(&mut self.journal, &Entry::ReturnHalt(call.number))?;
         self.entries += 1;
         self.calls.take(call.number);
+        // The call was a member of the group, and no token comes for it.
         self.groups.leave(group);
         Ok(())
     }

@@ -53,9 +53,10 @@ fn extend_within(scopes: &mut Vec<StoredScope>, more: &[StoredScope])
 
 impl<P: Run> Ledger<P> {
     /// Makes a call of a definition: a token on its body takes the slot, with a scope for each parameter, and the answer is Ok(true). `token` is the
-    /// one in the slot, which is at a call of `definition` in `scope`, with the operands of list `list`. `added` is lent for the new scopes, and
-    /// what it held is lost. Ok(false), and nothing changes, if there is no such definition, if it has more or fewer parameters than there are
-    /// operands, or if an operand isn't bound: no checked program has such a call.
+    /// one in the slot, which is at a call of `definition` in `scope`, with the operands of list `list`. `added` is lent for the new scopes, and what
+    /// it held is lost. Ok(false), and nothing changes, if there is no such definition, if it has more or fewer parameters than there are operands,
+    /// or if an operand isn't bound: no checked program has such a call. Full, Limit or Memory if the entry is refused; then nothing changes but
+    /// `added`.
     #[inline(always)]
     pub fn def(
         &mut self,
@@ -77,6 +78,7 @@ impl<P: Run> Ledger<P> {
         ensures refused { OnErr result (self.new ≡ self.old) }
         ensures why { IfErr result (λ fault. IsRefused self.old 0 0 0 fault) }
     {
+        // The token on the body takes the place of the one at the call: no token and no group more, and no left side of a `>x>` is entered.
         self.within(0, 0, 0)?;
         // There is no such definition.
         let Some(body) = inputs.graph.body(definition as usize) else {
@@ -84,12 +86,14 @@ impl<P: Run> Ledger<P> {
         };
         let params = inputs.graph.params(definition as usize);
         let operands = inputs.graph.operands(list as usize);
+        // Writes a scope for each parameter over `added`, and gives the number that the innermost one will have in `self.scopes`.
         let fitted = parameter_scopes(&self.scopes, &self.cells, params, operands, scope, added)?;
         // Not as many operands as parameters, or one that isn't bound.
         let Some(newest) = fitted else {
             return Ok(false);
         };
         reserve_scopes(&mut self.scopes, added.len())?;
+        // The new token is in the group of the one that it replaces, so no group changes its size.
         let group = self.steps.group_at(token.step);
         let mark = self.next_mark;
         write(&mut self.journal, &Entry::Def(token.serial, mark))?;

@@ -34,7 +34,7 @@ impl<P: Run> Ledger<P> {
     fn was_left(&self, group: u32, number: u64) -> bool
         ensures { result ≡ has_left self.now.steps number }
     {
-        // The hint leads to the step that entered the left side. A wrong one would only cost a look at each step.
+        // The hint is the number of the step that entered the left side, so one look tells. None if it's wrong: then `has_left` looks at each step.
         match left_at(&self.steps, self.groups.hint(group), number) {
             Some(left) => left,
             None => has_left(&self.steps, number),
@@ -42,8 +42,9 @@ impl<P: Run> Ledger<P> {
     }
 
     /// Ends the group with this number, which has no member. If it is a right side of a `<x<`, it is lost: its cell becomes void. If it is the left
-    /// side of an otherwise, the right side starts, unless the left side has published: then the group goes without an entry. Gone if no open group
-    /// has this number (the program's own, 0, isn't one), Live if it has members, Refused if its entry is refused. A group that is refused stays.
+    /// side of an otherwise, the right side starts, unless the left side has published: then the group goes without an entry. Each token stays in its
+    /// slot. Gone if no open group has this number (the program's own, 0, isn't one), Live if it has members, Refused with the ledger's fault if its
+    /// entry is refused. A group that is refused stays.
     pub fn halt(&mut self, number: u32) -> Result<Halted, HaltFault>
         ensures done { IfOk result (λ h. HasHalted (code P.listing) self.old self.new number h) }
         ensures others { OnOk result (KeepsAll self.old.slots self.new.slots) }

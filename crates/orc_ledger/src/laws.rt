@@ -22,6 +22,7 @@ use orc_log::Run;
 pub fn offered<P: Run>(ledger: &Ledger<P>)
     ensures { NothingIsLost P.listing P.sites ledger.now }
 {
+    // Shows the prover the invariant; nothing runs.
     let _journal = &ledger.journal;
 }
 
@@ -30,6 +31,7 @@ pub fn offered<P: Run>(ledger: &Ledger<P>)
 pub fn calls_fit<P: Run>(ledger: &Ledger<P>)
     ensures { CallsFit P.listing ledger.now }
 {
+    // Shows the prover the invariant; nothing runs.
     let _journal = &ledger.journal;
 }
 
@@ -37,5 +39,6 @@ pub fn calls_fit<P: Run>(ledger: &Ledger<P>)
 pub fn stands<P: Run>(ledger: &Ledger<P>)
     ensures { Stands P.listing P.sites ledger.now }
 {
+    // Shows the prover the invariant; nothing runs.
     let _journal = &ledger.journal;
 }

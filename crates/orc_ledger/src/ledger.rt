@@ -34,7 +34,7 @@ use std::marker::{Model, PhantomData};
 pub struct Ledger<P: Run> {
     // The most entries that the journal is to have, cancels not counted.
     pub(crate) limit: usize,
-    // Its entries, held or only counted.
+    // The journal's entries: held, or only counted if the run doesn't keep its journal.
     pub(crate) journal: Log<P>,
     // How many entries the journal has, cancels not counted: at most `limit`.
     pub(crate) entries: usize,
@@ -42,21 +42,28 @@ pub struct Ledger<P: Run> {
     pub(crate) next_mark: u64,
     // The time, in logical units, from 0.
     pub(crate) time: u64,
+    // The tokens, each in a slot that it keeps while it lives.
     pub(crate) tokens: Tokens,
+    // The calls of sites that pend.
     pub(crate) calls: Pending,
     // How often each site that a script answers was called with the same arguments.
     pub(crate) counts: Counts,
-    // Scope n is the n-th item of `scopes`, and step n that of `steps`. Scope 0 has no names, and step 0 is the program as a whole.
+    // Scope n is the n-th item of `scopes`, and step n, which enters a side or the left side of a `>x>`, that of `steps`; both count from 1. Scope 0
+    // has no names, and step 0 is the program as a whole.
     pub(crate) scopes: Vec<StoredScope>,
     pub(crate) steps: Steps,
+    // The sides that are open (right sides of a `<x<`, left sides of a `;`), each with the number of its members.
     pub(crate) groups: Groups,
-    // By number, what a cell has become; one that isn't bound yet stands for itself.
+    // By number, what a cell has become: a value, or void if it was lost. A cell that is neither bound nor lost stands for itself.
     pub(crate) cells: Vec<Bound>,
     // Lists for `bind`, kept so that it rarely asks for memory.
     pub(crate) crowd: Crowd,
+    // Names the run, for contracts alone.
     pub(crate) program: PhantomData<P>,
 }
 
+// What contracts see of a ledger: its fields as numbers and lists (`Records`), with the tokens once by themselves and once in their slots. The
+// invariant `IsKept` says above all that the journal leads, by Orc's rules, to what the records describe.
 impl<P: Run> Model for Ledger<P> {
     ghost use Rattle.orc_ledger_spec.specs.Records.{Records};
     ghost use Rattle.orc_ledger_spec.specs.Kept.{IsKept};
@@ -100,7 +107,7 @@ impl<P: Run> Drop for Ledger<P> {
     }
 }
 
-// Writes an entry. Where memory is refused nothing changes.
+// Writes an entry. The only fault is `Memory`, and then nothing changes.
 #[inline(always)]
 pub(crate) fn write<P: Run>(journal: &mut Log<P>, entry: &Entry) -> Result<(), LedgerFault>
     ensures added { OnOk result (journal.new ≡ log_with journal.old (entry.now ∷ [])) }
@@ -113,8 +120,8 @@ pub(crate) fn write<P: Run>(journal: &mut Log<P>, entry: &Entry) -> Result<(), L
     }
 }
 
-// Writes an entry that publishes nothing (`truncate` removes no other), then asks the claim, and removes the entry if the claim is lost. Memory if
-// memory is refused, Unclaimed if the claim is lost; the journal is then as it was.
+// Writes an entry, then asks the claim, and removes the entry if the claim is lost. The entry has to publish nothing, since `truncate` removes no
+// other. Memory if memory is refused, Unclaimed if the claim is lost; the journal is then as it was.
 #[inline(always)]
 pub(crate) fn write_claimed<P: Run, C: Claim>(
     journal: &mut Log<P>,
@@ -154,11 +161,12 @@ impl<P: Run> Ledger<P> {
     {
         let mut cells = Vec::new(alloc);
         reserve(&mut cells)?;
-        // There is no cell 0.
+        // There is no cell 0: a void item takes its place, so that cell n is item n.
         push_within(&mut cells, Bound::Void);
         let mut groups = Groups::begin(alloc)?;
         // The first token is a member of the program's own group.
         groups.join(0);
+        // The token is in scope 0, which has no names, and in step 0, the program as a whole.
         let tokens = Tokens::begin(
             alloc,
             Token {
@@ -191,7 +199,7 @@ impl<P: Run> Ledger<P> {
     pub fn is_whole(&self)
         ensures { IsWhole P.listing P.sites self.now }
     {
-        // To name a field shows the prover the invariant; so in the laws below.
+        // To name a field shows the prover the invariant; nothing runs.
         let _journal = &self.journal;
     }
 
@@ -199,6 +207,7 @@ impl<P: Run> Ledger<P> {
     pub fn keeps_limit(&self)
         ensures { self.now.limit ≡ P.limit }
     {
+        // To name a field shows the prover the invariant; nothing runs.
         let _journal = &self.journal;
     }
 
@@ -207,6 +216,7 @@ impl<P: Run> Ledger<P> {
     pub fn full_is_crowded(&self)
         ensures { FullIsCrowded P.listing self.now }
     {
+        // To name a field shows the prover the invariant; nothing runs.
         let _journal = &self.journal;
     }
 
@@ -301,7 +311,7 @@ impl<P: Run> Ledger<P> {
         ensures held { IfSome result (λ t. IsHeld self.now.slots slot t × (t.serial ≡ serial) × IsIn t self.now.tokens) }
         ensures gone { IfNone result ((t : Its) → IsHeld self.now.slots slot t → t.serial ≡ serial → ⊥) }
     {
-        // The match gives what it gets: it only splits the proof into two cases. So in `held`.
+        // The match gives what it gets: it only splits the proof into two cases.
         match self.tokens.get(slot, serial) {
             Some(token) => Some(token),
             None => None,
@@ -314,6 +324,7 @@ impl<P: Run> Ledger<P> {
         ensures held { IfSome result (λ t. IsHeld self.now.slots slot t × IsIn t self.now.tokens) }
         ensures none { IfNone result ((t : Its) → IsHeld self.now.slots slot t → ⊥) }
     {
+        // The match gives what it gets: it only splits the proof into two cases.
         match self.tokens.held(slot) {
             Some(token) => Some(token),
             None => None,
@@ -347,7 +358,8 @@ impl<P: Run> Ledger<P> {
         ensures room { OnOk result (self.now.entries < self.now.limit) }
         ensures places { OnOk result (HasRoom self.now tokens groups depth) }
     {
-        // The first test keeps the subtraction in the second from going below 0. One of `MOST_GROUPS` is the program's own, which isn't in the table.
+        // Tokens and calls share one limit: the first test keeps the subtraction in the second from going below 0. One of `MOST_GROUPS` is the
+        // program's own group, which isn't in the table.
         if self.tokens.len() > MOST_TOKENS - tokens
             || self.calls.len() > MOST_TOKENS - tokens - self.tokens.len()
             || self.groups.len() > MOST_GROUPS - 1 - groups

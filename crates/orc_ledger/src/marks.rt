@@ -34,7 +34,7 @@ use orc_rules::limits::MOST_FRAMES;
 use orc_tables::{Frame, Side, Standing, Step, Token};
 
 impl<P: Run> Ledger<P> {
-    /// `stop`: the token ends, and its slot is free.
+    /// `stop`: the token ends, and its slot is free. Full, Limit or Memory if the entry is refused; nothing has changed then.
     pub fn end(&mut self, slot: usize, token: Token) -> Result<(), LedgerFault>
         requires held { IsHeld self.old.slots slot token }
         requires at { (node : ℕ) × (scope : ℕ) × (token.standing ≡ At node scope) × (code P.listing node ≡ stop) }
@@ -43,6 +43,7 @@ impl<P: Run> Ledger<P> {
         ensures refused { OnErr result (self.new ≡ self.old) }
         ensures why { IfErr result (λ fault. IsRefused self.old 0 0 0 fault) }
     {
+        // No token and no group comes, and no left side of a `>x>` is entered.
         self.within(0, 0, 0)?;
         let group = self.steps.group_at(token.step);
         write(&mut self.journal, &Entry::End(token.serial))?;
@@ -52,7 +53,8 @@ impl<P: Run> Ledger<P> {
         Ok(())
     }
 
-    /// A void variable, or a call of a site with a void argument: nothing can give it a value any more. The token ends, and its slot is free.
+    /// A void variable, or a call of a site with a void argument: nothing can give it a value any more. The token ends, and its slot is free. Full,
+    /// Limit or Memory if the entry is refused; nothing has changed then.
     pub fn void(&mut self, slot: usize, token: Token) -> Result<(), LedgerFault>
         requires held { IsHeld self.old.slots slot token }
         requires void { IsVoid (standing (code P.listing) (its_env (code P.listing) self.old) token.standing) }
@@ -61,6 +63,7 @@ impl<P: Run> Ledger<P> {
         ensures refused { OnErr result (self.new ≡ self.old) }
         ensures why { IfErr result (λ fault. IsRefused self.old 0 0 0 fault) }
     {
+        // No token and no group comes, and no left side of a `>x>` is entered.
         self.within(0, 0, 0)?;
         let group = self.steps.group_at(token.step);
         write(&mut self.journal, &Entry::Void(token.serial))?;
@@ -70,7 +73,8 @@ impl<P: Run> Ledger<P> {
         Ok(())
     }
 
-    /// `f | g`: a token on each side, the left one in the same slot. Gives the right one's slot.
+    /// `f | g`: a token on each side, the left one in the same slot. `left` and `right` are the nodes of f and g, `scope` is the scope of the whole
+    /// term. Gives the right one's slot. Full, Limit or Memory if the entry is refused; nothing has changed then.
     #[inline(always)]
     pub fn fork(
         &mut self,
@@ -89,6 +93,7 @@ impl<P: Run> Ledger<P> {
         ensures refused { OnErr result (self.new ≡ self.old) }
         ensures why { IfErr result (λ fault. IsRefused self.old 1 0 0 fault) }
     {
+        // Two tokens come for one.
         self.within(1, 0, 0)?;
         self.tokens.reserve()?;
         let group = self.steps.group_at(token.step);
@@ -121,7 +126,8 @@ impl<P: Run> Ledger<P> {
         Ok(other)
     }
 
-    /// `f >x> g`: a token on the left side, in the same slot.
+    /// `f >x> g`: a token on the left side, in the same slot. `left` and `right` are the nodes of f and g, `name` is the number of x, `scope` the
+    /// scope of the whole term. Full, Limit or Memory if the entry is refused; nothing has changed then.
     #[inline(always)]
     pub fn feed(
         &mut self,
@@ -146,12 +152,14 @@ impl<P: Run> Ledger<P> {
         if depth as usize >= MOST_FRAMES {
             return Err(LedgerFault::Full);
         }
+        // The new token is inside one left side of a `>x>` more.
         self.within(0, 0, depth + 1)?;
         self.steps.reserve()?;
         let mark = self.next_mark;
         write(&mut self.journal, &Entry::Seq(token.serial, mark))?;
         self.entries += 1;
         self.next_mark = mark + 1;
+        // The number of the step that is added next: steps count from 1.
         let step = self.steps.len() + 1;
         self.steps.push(Step {
             entered: Frame::SeqLeft(name, right, scope),
@@ -172,7 +180,8 @@ impl<P: Run> Ledger<P> {
         Ok(())
     }
 
-    /// `f ; g`: a token on the left side, in the same slot, in a new group. The claim is asked last; Unclaimed where it is lost.
+    /// `f ; g`: a token on the left side, in the same slot, in a new group. `left` and `right` are the nodes of f and g, `scope` is the scope of the
+    /// whole term. The claim is asked last. Full, Limit or Memory if the entry is refused, Unclaimed if the claim is lost; nothing has changed then.
     pub fn other<C: Claim>(
         &mut self,
         slot: usize,
@@ -191,6 +200,7 @@ impl<P: Run> Ledger<P> {
         ensures refused { OnErr result (self.new ≡ self.old) }
         ensures why { IfErr result (λ fault. IsBarred (claim.new ≡ claim.old) (C.lost claim.old claim.new) (IsRefused self.old 0 1 0) fault) }
     {
+        // A token comes for the token, and a group is opened.
         self.within(0, 1, 0)?;
         self.steps.reserve()?;
         self.groups.reserve()?;
@@ -199,6 +209,7 @@ impl<P: Run> Ledger<P> {
         write_claimed(&mut self.journal, &Entry::Other(token.serial, mark), claim)?;
         self.entries += 1;
         self.next_mark = mark + 1;
+        // The number of the step that is added below: steps count from 1.
         let step = self.steps.len() + 1;
         let parent = self.steps.group_at(token.step);
         // The group around the otherwise loses the token and gets the new group: it has as many members as before. The token's mark becomes the
@@ -209,7 +220,7 @@ impl<P: Run> Ledger<P> {
             step,
             parent,
         );
-        // Its first member is the token on the left side.
+        // The new group's first member is the token on the left side.
         self.groups.join(number);
         self.steps.push(Step {
             entered: Frame::OtherwiseLeft(token.serial),
@@ -230,8 +241,9 @@ impl<P: Run> Ledger<P> {
         Ok(())
     }
 
-    /// `f <x< g`: a token on each side with a new cell between them, the left one in the same slot, the right one in a new group. Gives the
-    /// right one's slot. The claim is asked last; Unclaimed where it is lost.
+    /// `f <x< g`: a token on each side with a new cell between them, the left one in the same slot, the right one in a new group. `left` and `right`
+    /// are the nodes of f and g, `name` is the number of x, `scope` the scope of the whole term. Gives the right one's slot. The claim is asked last.
+    /// Full, Limit or Memory if the entry is refused, Unclaimed if the claim is lost; nothing has changed then.
     pub fn prune<C: Claim>(
         &mut self,
         slot: usize,
@@ -252,6 +264,7 @@ impl<P: Run> Ledger<P> {
         ensures refused { OnErr result (self.new ≡ self.old) }
         ensures why { IfErr result (λ fault. IsBarred (claim.new ≡ claim.old) (C.lost claim.old claim.new) (IsRefused self.old 1 1 0) fault) }
     {
+        // Two tokens come for one, and a group is opened.
         self.within(1, 1, 0)?;
         // A scope keeps the number of the one that it extends in 32 bits. A longer number counts as refused memory.
         let outer = outer_number(scope)?;

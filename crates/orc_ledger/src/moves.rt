@@ -90,10 +90,11 @@ impl<P: Run> Ledger<P> {
     pub(crate) fn scan(&self, operands: &[Operand], scope: usize) -> Action
         ensures { result ≡ scan false Nothing (closed (its_env (code P.listing) self.now scope) operands.now) }
     {
+        // False and None: all operands are still to be looked at, so no unbound cell was met before them.
         site_call_action(&self.scopes, &self.cells, operands, scope, false, None)
     }
 
-    // `stop`: the token goes.
+    // `stop`: the token goes, out of the group that the answer names.
     #[inline(always)]
     fn move_end(&mut self, slot: usize, token: Token) -> Result<Moved, LedgerFault>
         requires held { IsHeld self.old.slots slot token }
@@ -103,12 +104,13 @@ impl<P: Run> Ledger<P> {
         ensures refused { OnErr result (self.new ≡ self.old) }
         ensures why { IfErr result (λ fault. IsHindered P.listing self.old token fault) }
     {
+        // Asked now, since the move takes the token out of its group.
         let group = self.group_of(token.step);
         self.end(slot, token)?;
         Ok(Moved::Gone(group))
     }
 
-    // A void variable, or a call of a site with a void argument: the token goes.
+    // A void variable, or a call of a site with a void argument: the token goes, out of the group that the answer names.
     fn move_void(&mut self, slot: usize, token: Token) -> Result<Moved, LedgerFault>
         requires held { IsHeld self.old.slots slot token }
         requires void { IsVoid (standing (code P.listing) (its_env (code P.listing) self.old) token.standing) }
@@ -117,12 +119,14 @@ impl<P: Run> Ledger<P> {
         ensures refused { OnErr result (self.new ≡ self.old) }
         ensures why { IfErr result (λ fault. IsHindered P.listing self.old token fault) }
     {
+        // Asked now, since the move takes the token out of its group.
         let group = self.group_of(token.step);
         self.void(slot, token)?;
         Ok(Moved::Gone(group))
     }
 
-    // `f | g`, whose sides are the nodes `left` and `right`.
+    // `f | g`, whose sides are the nodes `left` and `right`: a token on the left side comes into the slot, and one on the right side into the slot
+    // that the answer names.
     #[inline(always)]
     fn move_fork(
         &mut self,
@@ -143,7 +147,7 @@ impl<P: Run> Ledger<P> {
         Ok(Moved::Forked(right_slot))
     }
 
-    // `f >x> g`: `left` is the node of f, `name` the number of x, `right` the node of g.
+    // `f >x> g`: a token on f comes into the slot. `left` is the node of f, `name` the number of x, `right` the node of g.
     fn move_feed(
         &mut self,
         slot: usize,
@@ -164,7 +168,8 @@ impl<P: Run> Ledger<P> {
         Ok(Moved::On)
     }
 
-    // `f ; g`, whose sides are the nodes `left` and `right`. It asks the claim, since it opens a side.
+    // `f ; g`, whose sides are the nodes `left` and `right`: a token on the left side comes into the slot. The claim is asked last, since a side is
+    // opened.
     fn move_other<C: Claim>(
         &mut self,
         slot: usize,
@@ -186,7 +191,8 @@ impl<P: Run> Ledger<P> {
         Ok(Moved::On)
     }
 
-    // `f <x< g`: `left` is the node of f, `name` the number of x, `right` the node of g. It asks the claim, since it opens a side.
+    // `f <x< g`: a token on f comes into the slot, and one on g into the slot that the answer names. `left` is the node of f, `name` the number of x,
+    // `right` the node of g. The claim is asked last, since a side is opened.
     fn move_prune<C: Claim>(
         &mut self,
         slot: usize,
@@ -209,7 +215,8 @@ impl<P: Run> Ledger<P> {
         Ok(Moved::Forked(right_slot))
     }
 
-    // A call of a definition, with the operands of list `list`. It waits where it can't be made; no checked program has such a call.
+    // A call of `definition` with the operands of list `list`: a token on the body comes into the slot. `added` is lent for the scopes of the
+    // parameters. The token waits where the call can't be made; no checked program has such a call.
     #[inline(always)]
     fn move_def(
         &mut self,
@@ -229,7 +236,7 @@ impl<P: Run> Ledger<P> {
         ensures why { IfErr result (λ fault. IsHindered P.listing self.old token fault) }
     {
         match inputs.graph.body(definition as usize) {
-            // Asked before the limits, which `def` asks first: what can't be done waits, and is never refused.
+            // No such definition. `def` asks the limits first, so this is asked before it: a call that can't be made waits, and is never refused.
             None => Ok(Moved::Waits),
             Some(_) => {
                 if self.def(inputs, slot, token, scope, definition, list, added)? {
@@ -241,7 +248,7 @@ impl<P: Run> Ledger<P> {
         }
     }
 
-    // Nothing around the token takes its value: the program publishes it.
+    // Nothing around the token takes its value: the program publishes it, and the token goes, out of the group that the answer names.
     #[inline(always)]
     fn move_publish(
         &mut self,
@@ -257,12 +264,14 @@ impl<P: Run> Ledger<P> {
         ensures refused { OnErr result (self.new ≡ self.old) }
         ensures why { IfErr result (λ fault. IsHindered P.listing self.old token fault) }
     {
+        // Asked now, since the move takes the token out of its group.
         let group = self.group_of(token.step);
         self.publish(slot, token, value)?;
         Ok(Moved::Gone(group))
     }
 
-    // A `>x>` takes the token's value: `name` is the number of x, `right` the node of its right side, `scope` its scope, `outer` the step around it.
+    // A `>x>` takes the token's value: a token on its right side comes into the slot. `name` is the number of x, `right` the node of the right side,
+    // `scope` the scope of the whole `>x>`, `outer` the step around it. The answer names the group that the old token was in.
     #[inline(always)]
     fn move_send(
         &mut self,
@@ -284,12 +293,14 @@ impl<P: Run> Ledger<P> {
         ensures refused { OnErr result (self.new ≡ self.old) }
         ensures why { IfErr result (λ fault. IsHindered P.listing self.old token fault) }
     {
+        // Asked now, since the move takes the token out of its group.
         let group = self.group_of(token.step);
         self.send(slot, token, value, name, right, scope, outer)?;
         Ok(Moved::Sent(group))
     }
 
-    // The right side of this cell publishes the token's value; `outer` is the step around the pruning. It asks the claim.
+    // The right side of this cell publishes the token's value: the cell is bound, and all inside that side goes. `outer` is the step around the
+    // pruning. The claim is asked last, and `cancelled` gets the numbers of the calls that are cancelled.
     fn move_bind<C: Claim>(
         &mut self,
         slot: usize,
@@ -310,12 +321,14 @@ impl<P: Run> Ledger<P> {
         ensures refused { OnErr result (self.new ≡ self.old) }
         ensures why { IfErr result (λ fault. IsBarredAt P.listing self.old token (claim.new ≡ claim.old) (C.lost claim.old claim.new) fault) }
     {
+        // The group around the pruning, which the answer names: it loses the right side's group.
         let group = self.group_of(outer);
         self.bind(slot, token, value, cell, claim, cancelled)?;
         Ok(Moved::Bound(cell, group))
     }
 
-    // A token whose term is this value publishes it to what takes it: the program, a `>x>` or a cell.
+    // A token whose term is this value publishes it to what takes it: the program, a `>x>` or a cell. For a cell alone the claim is asked, and
+    // `cancelled` gets the numbers of the calls that are cancelled.
     #[inline(always)]
     pub(crate) fn move_value<C: Claim>(
         &mut self,
@@ -344,7 +357,8 @@ impl<P: Run> Ledger<P> {
         }
     }
 
-    // A variable, by what stands for it: a value is published, an unbound cell awaited, and with void the token goes.
+    // The variable with the number `name`, by what stands for it in this scope: a value is published, an unbound cell awaited, and with void the
+    // token goes. `claim` and `cancelled` are used only if the value binds a cell.
     fn move_name<C: Claim>(
         &mut self,
         slot: usize,
@@ -371,7 +385,8 @@ impl<P: Run> Ledger<P> {
         }
     }
 
-    // A call of a site: once its operands have values the answer is `Calls`, and the caller makes the call by another function.
+    // A call of a site, with the operands of list `list`: once they have values the answer is `Calls`, and the caller makes the call by another
+    // function.
     #[inline(always)]
     fn move_site(
         &mut self,
@@ -394,7 +409,7 @@ impl<P: Run> Ledger<P> {
             return Ok(Moved::Calls);
         }
         match self.scan(operands, scope) {
-            // It doesn't happen, but `have_values` promises nothing of `false`.
+            // Not reached: some operand has no value. But the contract of `have_values` says nothing of `false`.
             Action::Call => Ok(Moved::Calls),
             Action::Void => self.move_void(slot, token),
             // `scan` gives no action but these two and `Wait`.
@@ -441,11 +456,11 @@ impl<P: Run> Ledger<P> {
         }
     }
 
-    /// Moves this token by its action, as `what` gives it: the kind of entry follows from the token's node and from what takes its value. A call of
-    /// a site is not made, and a token that waits stays as it is. If a cell is bound or a side opened, the claim is asked last. Any other move
-    /// leaves the claim untouched, and so does a refusal before it is asked. Full, Limit or Memory if the entry is refused, Unclaimed if the claim is
-    /// lost; the records are as before then. `added` and `cancelled` are lent: what they held may be lost, and if a cell is bound, `cancelled` then
-    /// holds the numbers of the calls that are cancelled, in rising order.
+    /// Moves this token, which is in this slot, by its action, as `what` gives it: the kind of entry follows from the token's node and from what
+    /// takes its value. A call of a site is not made, and a token that waits stays as it is. If a cell is bound or a side opened, the claim is asked
+    /// last. Any other move leaves the claim untouched, and so does a refusal before it is asked. Full, Limit or Memory if the entry is refused,
+    /// Unclaimed if the claim is lost; the records are as before then. `added` and `cancelled` are lent: what they held may be lost, and if a cell is
+    /// bound, `cancelled` then holds the numbers of the calls that are cancelled, in rising order.
     pub fn advance_by<C: Claim>(
         &mut self,
         inputs: &Inputs<'_, P>,
@@ -472,7 +487,8 @@ impl<P: Run> Ledger<P> {
     }
 
     /// Moves this token as `advance_by` does, with a claim that is always got. Full, Limit or Memory if its entry is refused, and then nothing
-    /// changes. `added` and `cancelled` are lent as there.
+    /// changes. `added` and `cancelled` are lent: what they held may be lost, and if a cell is bound, `cancelled` then holds the numbers of the calls
+    /// that are cancelled, in rising order.
     pub fn advance(
         &mut self,
         inputs: &Inputs<'_, P>,
@@ -491,7 +507,9 @@ impl<P: Run> Ledger<P> {
         self.advance_by(inputs, slot, token, &mut claim, added, cancelled)
     }
 
-    /// Moves this token, which is on this value, as `advance` does: it publishes the value to what takes it.
+    /// Moves this token, which is in this slot and on this value: it publishes the value to what takes it. Full, Limit or Memory if its entry is
+    /// refused, and then nothing changes. `cancelled` is lent: if a cell is bound, it then holds the numbers of the calls that are cancelled, in
+    /// rising order.
     #[inline(always)]
     pub fn advance_value(
         &mut self,

@@ -100,7 +100,7 @@ impl<P: Run> Ledger<P> {
         self.is_empty(0) || self.empty_group().is_some()
     }
 
-    // What comes next, which its contract says as an equation. `next` also promises that the rules agree.
+    // What comes next: work, a tick, or that the run is quiet. The contract says it as an equation. `next` also promises that the rules agree.
     fn find_next(&mut self, inputs: &Inputs<'_, P>) -> Next
         ensures is { spoken result ≡ next_of (code P.listing) (definitions P.listing) (numbers_of self.old) self.old }
         ensures same { self.new ≡ self.old }
@@ -109,6 +109,7 @@ impl<P: Run> Ledger<P> {
             return Next::Work;
         }
         match self.next_due() {
+            // No pending call is ever due.
             None => Next::Quiet,
             Some(time) => {
                 if self.time < time {
@@ -122,8 +123,8 @@ impl<P: Run> Ledger<P> {
     }
 
     /// What comes next. Work where a token can move, a group (the program's own, too) has no members, or a call is due; else a tick to the least due
-    /// time of the pending calls; else the run is quiet. It may look at each token, unless all are parked. No record changes: `&mut` is for the notes
-    /// of due times, of which it drops those whose calls are gone.
+    /// time of the pending calls; else the run is quiet. Orc's rules agree with the answer. The function may look at each token, unless all are
+    /// parked. No record changes: `&mut` is for the notes of due times, of which it drops those whose calls are gone.
     pub fn next(&mut self, inputs: &Inputs<'_, P>) -> Next
         ensures is { spoken result ≡ next_of (code P.listing) (definitions P.listing) (numbers_of self.old) self.old }
         ensures right { IsRight P.listing P.sites self.old result }

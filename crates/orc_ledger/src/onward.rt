@@ -64,7 +64,9 @@ impl<P: Run> Ledger<P> {
         ensures goes { GoesOn P.listing P.sites self.old slot token result self.new }
         ensures others { KeepsOthers self.old.slots slot self.new.slots }
     {
+        // `take_values` writes the operands' values over `args`, and is false if one has none.
         if self.take_values(inputs.graph.operands(list as usize), scope, args) {
+            // The mark of the token on the answer, if the answer comes at once.
             let mark = self.next_mark;
             return match self.answer_through(inputs, slot, token, site, args) {
                 Ok(Called::Answered(value)) => {
@@ -120,6 +122,7 @@ impl<P: Run> Ledger<P> {
         ensures refused { OnErr result (self.new ≡ self.old) }
         ensures why { IfErr result (λ fault. IsHindered P.listing self.old token fault) }
     {
+        // The mark that `feed` gives to the token on the left side.
         let mark = self.next_mark;
         self.feed(slot, token, scope, left, name, right)?;
         // Anything but a call of a site is left to the token's next move.
@@ -134,14 +137,16 @@ impl<P: Run> Ledger<P> {
         };
         match self.call_on(inputs, slot, first, scope, site, list, args) {
             Passed::Through => {
+                // Nothing is left in the left side, so the step into it goes.
                 self.shed();
                 Ok(Passed::Through)
             }
             Passed::Halted(group) => {
+                // Nothing is left in the left side, so the step into it goes.
                 self.shed();
                 Ok(Passed::Halted(group))
             }
-            // `On`, `Pends` or `Answered`: a token or a call is still in the left side, so the step stays.
+            // `On`, `Pends` or `Answered`: a token or a call is still in the left side, so the step into it stays.
             inside => Ok(inside),
         }
     }

@@ -48,10 +48,12 @@ impl<P: Run> Ledger<P> {
         ensures refused { OnErr result (self.new ≡ self.old) }
         ensures why { IfErr result (λ fault. IsRefused self.old 0 0 0 fault) }
     {
+        // The token goes: no token and no group comes, and no left side of a `>x>` is entered.
         self.within(0, 0, 0)?;
         let group = self.steps.group_at(token.step);
         write(&mut self.journal, &Entry::Publish(token.serial, value))?;
         self.entries += 1;
+        // Marks the otherwises that the value passes as published: their right sides never run.
         leave_others(&mut self.steps, token.step);
         self.tokens.remove(slot);
         self.groups.leave(group);
@@ -83,6 +85,7 @@ impl<P: Run> Ledger<P> {
         ensures refused { OnErr result (self.new ≡ self.old) }
         ensures why { IfErr result (λ fault. IsRefused self.old 0 0 0 fault) }
     {
+        // A token comes for the token, and no group. It leaves a left side of a `>x>`, and enters none.
         self.within(0, 0, 0)?;
         // The new scope extends that of the `>x>`, whose number it keeps in 32 bits. A longer number counts as refused memory.
         let extended = outer_number(scope)?;
@@ -97,7 +100,9 @@ impl<P: Run> Ledger<P> {
         // The two may be one group: as it is joined first, it isn't empty in between.
         self.groups.join(joined);
         self.groups.leave(left);
+        // Marks the otherwises that the value passes as published: their right sides never run.
         leave_others(&mut self.steps, token.step);
+        // The number of the new scope, in which x is the value: scopes count from 1.
         let inner = self.scopes.len() + 1;
         push_within(
             &mut self.scopes,

@@ -32,7 +32,8 @@ use orc_rules::entry::Entry;
 use orc_rules::value::Args;
 use orc_tables::{Call, Standing, Token};
 
-// Writes a call and counts it. `token` is the caller's mark, `call` the call's number. Where memory is refused nothing changes.
+// Writes a call, and counts in `counts` a call of the site with these arguments, if a script answers the site. `token` is the caller's mark, `call`
+// the call's number. Where memory is refused nothing changes.
 fn write_call<P: Run>(
     journal: &mut Log<P>,
     counts: &mut Counts,
@@ -75,13 +76,15 @@ impl<P: Run> Ledger<P> {
         let Node::Site(site, list) = inputs.graph.node(node as usize) else {
             unreachable!()
         };
+        // `take_values` writes the operands' values over `args`, and is false if one has none.
         if !self.take_values(inputs.graph.operands(list as usize), scope, args) {
             unreachable!()
         }
         site
     }
 
-    // The call that a token makes next of a site with these arguments, by one look into the counts.
+    // The record of the call that a token makes next, of a site with these arguments: its number, the table's answer, the place of its entry (`row`),
+    // which is the next one in the journal, and which call with these arguments it is (`nth`). It looks into the counts once, and changes nothing.
     #[inline(always)]
     pub(crate) fn next_call(
         &self,
@@ -123,6 +126,7 @@ impl<P: Run> Ledger<P> {
         ensures refused { OnErr result (self.new ≡ self.old) }
         ensures why { IfErr result (λ fault. fault ≡ LedgerFault.Memory) }
     {
+        // Makes room for the call, and notes when it is due.
         match self.calls.reserve(call) {
             Ok(()) => {}
             Err(_) => return Err(LedgerFault::Memory),
@@ -140,13 +144,14 @@ impl<P: Run> Ledger<P> {
         // The call is a member of the token's group in its place: no group changes its size.
         self.tokens.remove(slot);
         let group = self.steps.group_at(call.step);
+        // The table of calls takes the group as a hint for later searches.
         self.calls.add(call, group);
         Ok(())
     }
 
     /// Makes the call of a site at which this token is, whose operands have values: the call pends in the token's place, and the slot is free. Gives
-    /// the call's record. `args` is lent for the arguments: it has them afterwards, and what it held is lost. Full or Limit as of `within`, or
-    /// Memory; then nothing changes but `args`.
+    /// the call's record. `args` is lent for the arguments: it has them afterwards, and what it held is lost. Full, Limit or Memory if the entry is
+    /// refused; then nothing changes but `args`.
     pub fn call(
         &mut self,
         inputs: &Inputs<'_, P>,
@@ -162,7 +167,9 @@ impl<P: Run> Ledger<P> {
         ensures refused { OnErr result (self.new ≡ self.old) }
         ensures why { IfErr result (λ fault. IsRefused self.old 0 0 0 fault) }
     {
+        // The call takes the token's place: no token or call more, and no group.
         self.within(0, 0, 0)?;
+        // `ask` gives the number of the site, and writes the arguments over `args`.
         let site = self.ask(inputs, token, args);
         let call = self.next_call(inputs, token, site, args);
         self.pend(inputs, slot, token, site, args, call)?;

@@ -22,7 +22,8 @@ use orc_rules::limits::MOST_FRAMES;
 use orc_tables::{Standing, Token};
 
 impl<P: Run> Ledger<P> {
-    // Whether a token uses a rule next: it neither waits nor makes a move of marks alone.
+    // Whether a token uses a rule of Orc next: it neither waits nor makes a move of marks, which is an entry that uses no rule (`end`, `fork`, `seq`
+    // or `other`).
     fn is_at_rule(&self, inputs: &Inputs<'_, P>, token: &Token) -> bool
         ensures { result ≡ true → is_rule (what_of (code P.listing) (definitions P.listing) self.now token.now) ≡ true }
     {

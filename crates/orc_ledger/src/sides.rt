@@ -84,8 +84,9 @@ impl<P: Run> Ledger<P> {
     }
 
     /// Binds a cell to the value that the token publishes in its right side: all that is inside that side goes, and the calls that pended there are
-    /// cancelled. `cancelled` has their numbers then, in rising order; what it held is lost. The claim is asked last. Full, Limit or Memory if the
-    /// entries are refused, Unclaimed if the claim is lost; no record has changed then.
+    /// cancelled. The tokens outside it stay in their slots. `slot` is the token's slot, which only the contract uses. `cancelled` gets the numbers
+    /// of the cancelled calls, in rising order; what it held is lost. The claim is asked last. Full, Limit or Memory if the entries are refused,
+    /// Unclaimed if the claim is lost; no record has changed then.
     pub fn bind<C: Claim>(
         &mut self,
         slot: usize,
@@ -106,9 +107,11 @@ impl<P: Run> Ledger<P> {
         ensures refused { OnErr result (self.new ≡ self.old) }
         ensures why { IfErr result (λ fault. IsBarred (claim.new ≡ claim.old) (C.lost claim.old claim.new) (IsRefused self.old 0 0 0) fault) }
     {
+        // No token and no group comes, and no left side of a `>x>` is entered.
         self.within(0, 0, 0)?;
-        // True if all that is inside was found group by group; else each table is searched below. The cancelled calls are listed before the entry is
-        // written.
+        // Lists what is inside the right side: the calls, which are to be cancelled, in `cancelled`, the rest in `self.crowd`. `known` is false if
+        // only the calls were found: then each table is searched below. `side_group` guesses the side's group by the token; a wrong guess costs only
+        // time.
         let known = list_side(
             &mut self.crowd,
             &self.tokens,
@@ -153,11 +156,12 @@ impl<P: Run> Ledger<P> {
             &self.crowd.groups,
         );
         settle(&mut self.cells, cell, Bound::Is(value));
+        // The tokens that are parked for this cell have to be looked at again.
         self.tokens.wake(cell);
         Ok(())
     }
     /// The right side of a cell has halted without a publication: its group has no members. The group goes and the cell becomes void; no other record
-    /// goes. Full, Limit or Memory if the entry is refused; nothing has changed then.
+    /// goes, and each token stays in its slot. Full, Limit or Memory if the entry is refused; nothing has changed then.
     pub fn lost(&mut self, group: Group, cell: u64) -> Result<(), LedgerFault>
         requires there { IsIn group self.old.groups }
         requires side { group.side ≡ Right cell }
@@ -169,16 +173,19 @@ impl<P: Run> Ledger<P> {
         ensures refused { OnErr result (self.new ≡ self.old) }
         ensures why { IfErr result (λ fault. IsRefused self.old 0 0 0 fault) }
     {
+        // No token and no group comes, and no left side of a `>x>` is entered.
         self.within(0, 0, 0)?;
         write(&mut self.journal, &Entry::Lost(cell))?;
         self.entries += 1;
+        // The group goes, and the group around it has one member less.
         take_out(&mut self.groups, &self.steps, group);
         settle(&mut self.cells, cell, Bound::Void);
+        // The tokens that are parked for this cell have to be looked at again.
         self.tokens.wake(cell);
         Ok(())
     }
 
-    /// Removes the group of a left side that has published and has no member any more. No entry says so.
+    /// Removes the group of a left side of an otherwise that has published and has no member any more. The journal gets no entry for it.
     pub fn close(&mut self, group: Group)
         requires there { IsIn group self.old.groups }
         requires over { is_over (code P.listing) self.old group.side ≡ true }
@@ -186,11 +193,12 @@ impl<P: Run> Ledger<P> {
         ensures done { Closes self.old self.new group }
         ensures others { KeepsAll self.old.slots self.new.slots }
     {
+        // The group goes, and the group around it has one member less.
         take_out(&mut self.groups, &self.steps, group);
     }
     /// The left side of an otherwise has halted without a publication: its group has no members. The group goes, and a token starts the right side,
-    /// at this `node` and `scope`. `number` is the otherwise's. Gives the token's slot. Full, Limit or Memory if the entry is refused; nothing has
-    /// changed then.
+    /// at this `node` and `scope`; each other token stays in its slot. `number` is the otherwise's. Gives the new token's slot. Full, Limit or Memory
+    /// if the entry is refused; nothing has changed then.
     pub fn right(
         &mut self,
         group: Group,
@@ -208,6 +216,7 @@ impl<P: Run> Ledger<P> {
         ensures refused { OnErr result (self.new ≡ self.old) }
         ensures why { IfErr result (λ fault. IsRefused self.old 1 0 0 fault) }
     {
+        // One token more: it starts the right side.
         self.within(1, 0, 0)?;
         self.tokens.reserve()?;
         let mark = self.next_mark;

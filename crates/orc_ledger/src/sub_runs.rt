@@ -55,8 +55,10 @@ impl SubRunTask {
 /// The result of a call of a definition with values that was run by itself: its entries, its next mark, how many calls of sites it has made and cells
 /// it has opened, by its own numbers. Either nothing is left of its run, or a token on a value alone, and then it has published nothing.
 pub struct SubRun<P: Run> {
+    // The number of the definition that was called, and the arguments.
     definition: u32,
     args: Args,
+    // The entries of the sub-run, by its own numbers.
     journal: Log<P>,
     // Whether its run is known to have published nothing.
     is_silent: bool,
@@ -69,6 +71,8 @@ pub struct SubRun<P: Run> {
     program: PhantomData<P>,
 }
 
+// What contracts see of a sub-run (`Apart`). By the invariant the call's run is over but for the token that is `left`, and has published nothing
+// where `is_silent` is true.
 impl<P: Run> Model for SubRun<P> {
     ghost use Rattle.std.specs.Prelude.{◌≡◌, true};
     ghost use Rattle.orc_subrun.specs.Moved.{AreSilent};
@@ -100,22 +104,22 @@ impl<P: Run> Drop for SubRun<P> {
 }
 
 impl<P: Run> SubRun<P> {
-    /// How many entries it has. None is a cancel.
+    /// How many entries the sub-run has. None of them is a cancel.
     pub fn len(&self) -> usize
         ensures { result ≡ length self.now.entries }
     {
         self.journal.len()
     }
 
-    /// Whether its call yields a value, on which a token is left.
+    /// Whether the sub-run's call yields a value: a token on that value is left then.
     pub fn has_value(&self) -> bool
         ensures { MatchOption self.now.left (result ≡ false) (λ _. result ≡ true) }
     {
         self.left.is_some()
     }
 
-    /// Whether it is the result of this task, and may be merged where the task's call is: what has published something may be merged only where the
-    /// whole run publishes that. The contract promises it of `true` alone.
+    /// Whether the sub-run is the result of this task, and may be merged where the task's call is: a sub-run that has published something may be
+    /// merged only where the whole run publishes that. The contract promises it of `true` alone.
     pub fn is_of(&self, task: &SubRunTask) -> bool
         ensures { result ≡ true → (self.now.definition ≡ task.now.definition) × (self.now.args ≡ task.now.args) × (self.now.left ≡ None → (task.now.is_outermost ≡ true) ⊎ AreSilent self.now.entries) }
     {
@@ -213,8 +217,8 @@ fn exchange(
 }
 
 impl<P: Run> Ledger<P> {
-    /// The call of a definition with values at which a token is, as a task. None where it isn't at such a call, or an argument has no value; the
-    /// contract doesn't say when. It is outermost only if the token is inside no side and no `>x>`.
+    /// The call of a definition with values at which the token is, as a task. None where the token isn't at such a call, or an argument has no value;
+    /// the contract doesn't say when. The task is outermost only if the token is inside no side and no `>x>`.
     pub fn task(&self, inputs: &Inputs<'_, P>, token: &Token) -> Option<SubRunTask>
         ensures stands { IfSome result (λ task. StandsFor P.listing self.now token.now task.definition task.args) }
         ensures outermost { IfSome result (λ task. task.is_outermost ≡ true → token.now.step ≡ 0) }
@@ -226,6 +230,7 @@ impl<P: Run> Ledger<P> {
             return None;
         };
         let mut args = Args::new();
+        // `take_values` writes the operands' values over `args`, and is false if one has none.
         if !self.take_values(inputs.graph.operands(list as usize), scope, &mut args) {
             return None;
         }
@@ -274,7 +279,8 @@ impl<P: Run> Ledger<P> {
         }
     }
 
-    // Turns a ledger that has run this task into the task's result. Of the run nothing is left but `left`.
+    // Turns a ledger that has run this task into the task's result, for the enclosing run `W`. Of the task's run nothing is left but `left`, a token
+    // on a value; `is_silent` says that the run is known to have published nothing.
     fn part_of<W: Run>(self, task: SubRunTask, is_silent: bool, left: Option<Yield>) -> SubRun<W>
         requires silent { is_silent ≡ true → AreSilent self.journal }
         requires sites { P.sites ≡ W.sites }
@@ -294,6 +300,7 @@ impl<P: Run> Ledger<P> {
         SubRun {
             definition,
             args,
+            // The log stays as it is: only its type names the enclosing run now.
             journal: self.into_log().named::<W>(),
             is_silent,
             next_mark,
@@ -320,6 +327,7 @@ impl<P: Run> Ledger<P> {
         requires call { source P.listing ≡ call_of task.definition task.args }
         ensures { IfSome result (λ part. (part.definition ≡ task.definition) × (part.args ≡ task.args)) }
     {
+        // Some entry may be a tick, a cancel or a call that a script answers: the enclosing run could affect it.
         if !self.journal.are_local(inputs.answers) {
             return None;
         }
@@ -327,6 +335,7 @@ impl<P: Run> Ledger<P> {
         if self.is_over() {
             return Some(self.part_of(task, is_silent, None));
         }
+        // A token may be left only of a run that has published nothing.
         if !is_silent {
             return None;
         }
@@ -334,9 +343,10 @@ impl<P: Run> Ledger<P> {
         Some(self.part_of(task, true, Some(last)))
     }
 
-    /// Merges a part: the token is at the call that the part has run. The part's entries are appended to the journal under the numbers that they
-    /// have in this run. Then the token is gone, or a token on the value that the call yields is in its slot. The fault is Limit if the limit has no
-    /// room for all of the entries, else Memory; nothing has changed then.
+    /// Merges a part, which is a sub-run: the token is at the call that the part has run. A part that has published something is merged only where
+    /// the token is inside no side and no `>x>`. The part's entries are appended to the journal under the numbers that they have in this run. Then
+    /// the token is gone, or a token on the value that the call yields is in its slot. The fault is Limit if the limit has no room for all of the
+    /// entries, else Memory; nothing has changed then.
     pub fn append_sub_run(
         &mut self,
         slot: usize,
@@ -356,13 +366,15 @@ impl<P: Run> Ledger<P> {
         if entries > self.limit - self.entries {
             return Err(LedgerFault::Limit);
         }
+        // How the part's own numbers become those of this run: from the token's mark, the next mark, and how many calls and cells there were before.
         let numbering = Numbering {
             token: token.serial,
             mark: self.next_mark,
             calls: self.calls.next_number() - 1,
-            // There is no cell 0.
+            // Item 0 of `cells` is no cell.
             cells: self.cells.len() as u64 - 1,
         };
+        // The token on the value that the part yields, if it yields one.
         let comer = comer_of(numbering, token, part.left);
         let group = self.steps.group_at(token.step);
         // What can be refused comes first, and `append` changes nothing if it is: from there on nothing can fail. A token comes for a token at most,
@@ -371,9 +383,10 @@ impl<P: Run> Ledger<P> {
         self.journal
             .append(&part.journal, numbering, &mut self.calls, part.calls)?;
         self.entries += entries;
-        // Its marks from 2 on are new; its mark 1 is the token's.
+        // The part's marks from 2 on are new here; its mark 1 is the token's.
         self.next_mark = self.next_mark + part.next_mark - 2;
         add_cells(&mut self.cells, part.cells);
+        // Puts that token into the slot, or without one removes the token at the call, from its group, too.
         exchange(
             &mut self.tokens,
             &mut self.groups,

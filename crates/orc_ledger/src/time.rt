@@ -26,7 +26,7 @@ impl<P: Run> Ledger<P> {
     }
 
     /// The call with the least number of those that are due now, and the answer that the table gives. None where no call is due, and then none is
-    /// overdue. No record changes, as in `due_beyond`.
+    /// overdue. No record changes: `&mut` is for the notes of due times, of which it drops those whose calls are gone.
     pub fn due(&mut self) -> Option<(Call, Answer)>
         ensures due { MatchOption result ((c : Its) (t : ℕ) → IsIn c self.old.calls → due_of c ≡ Some t → t ≤ self.old.now → ⊥) (λ d. Pends self.old d.0.number d.0 × IsDueNow P.listing P.sites self.old d.0.number d.1 × IsLeastBeyond self.old.calls 0 self.old.now d.0.number) }
         ensures same { self.new ≡ self.old }
@@ -47,7 +47,8 @@ impl<P: Run> Ledger<P> {
         Some((call, answer))
     }
 
-    /// The least due time of the pending calls, in logical units. None where none is ever due. No record changes, as in `due_beyond`.
+    /// The least due time of the pending calls, in logical units. None where none is ever due. No record changes: `&mut` is for the notes of due
+    /// times, of which it drops those whose calls are gone.
     pub fn next_due(&mut self) -> Option<u64>
         ensures due { result ≡ next_due self.old.calls }
         ensures same { self.new ≡ self.old }

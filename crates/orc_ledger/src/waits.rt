@@ -76,7 +76,7 @@ impl<P: Run> Ledger<P> {
         self.awaited(inputs, &token, listed)?;
         match self.what(inputs, &token) {
             Action::Wait(_) => Ok(self.tokens.park(slot, token.serial, listed)?),
-            // It can move.
+            // The token can move, so it isn't parked.
             _ => Ok(()),
         }
     }

@@ -33,7 +33,7 @@ impl From<AllocError> for LedgerFault {
 pub enum ReturnFault {
     /// No call with this number pends.
     Gone,
-    /// The table of sites has another answer for it, or another due time, or none.
+    /// The table of sites has another answer for the call, or another due time, or none.
     Wrong,
     /// The journal has as many entries as its limit, cancels not counted.
     Limit,
@@ -46,8 +46,8 @@ pub enum ReturnFault {
 pub enum HaltFault {
     /// No open group has this number.
     Gone,
-    /// It has members.
+    /// The group has members.
     Live,
-    /// Its entry is refused.
+    /// The entry with which the group would end is refused, for this reason.
     Refused(LedgerFault),
 }

@@ -12,26 +12,27 @@ pub enum Moved {
     On,
     /// The token has two successors: one is in its slot, the other in this slot.
     Forked(usize),
-    /// A `>x>` took its value, and a token on the right side stands in its slot. The group that it was in may have no member any more.
+    /// A `>x>` took the token's value, and a token on the right side stands in its slot. The group that the old token was in has this number, and may
+    /// have no member any more.
     Sent(u32),
     /// The token is gone, out of this group, which may have no member any more.
     Gone(u32),
     /// This cell is bound, and all inside its right side is gone. The group around the pruning has this number, and may have no member any more.
     Bound(u64, u32),
-    /// It is at a call of a site whose arguments have values. The caller makes the call by another function (`call`): nothing has changed.
+    /// The token is at a call of a site whose arguments have values. The caller makes the call by another function (`call`): nothing has changed.
     Calls,
-    /// It waits for a cell, or for what never comes (no checked program has such a token): nothing has changed.
+    /// The token waits for a cell, or for what never comes (no checked program has such a token): nothing has changed.
     Waits,
 }
 
 /// What became of a call of a site.
 #[derive(Clone, Copy)]
 pub enum Called {
-    /// It pends, with this number, and the token that made it is gone.
+    /// The call pends, with this number, and the token that made it is gone.
     Pends(u64),
-    /// It was answered at once with this value: a token on it stands in the slot of the one that made it.
+    /// The call was answered at once with this value: a token on it stands in the slot of the one that made the call.
     Answered(Value),
-    /// It halted at once, and the token that made it is gone, out of this group, which may have no member any more.
+    /// The call halted at once, and the token that made it is gone, out of the group with this number, which may have no member any more.
     Halted(u32),
 }
 
@@ -39,12 +40,19 @@ pub enum Called {
 /// [`Moved`] of the same name.
 #[derive(Clone, Copy)]
 pub enum Passed {
+    /// The token was replaced: its successor is in its slot.
     On,
+    /// The token has two successors: one is in its slot, the other in this slot.
     Forked(usize),
+    /// A `>x>` took the token's value: a token on the right side stands in its slot. This group, which the old token was in, may have no member now.
     Sent(u32),
+    /// The token is gone, out of this group, which may have no member any more.
     Gone(u32),
+    /// This cell is bound. The group around the pruning has this number, and may have no member any more.
     Bound(u64, u32),
+    /// The token is at a call of a site whose arguments have values, which the caller makes: nothing has changed.
     Calls,
+    /// The token waits: nothing has changed.
     Waits,
     /// The call pends, with this number, and the slot is free.
     Pends(u64),
@@ -102,6 +110,6 @@ pub enum Next {
     Work,
     /// A tick to this time, in logical units.
     Ticks(u64),
-    /// Nothing ever.
+    /// Nothing comes any more: no token can move, and no call is ever due.
     Quiet,
 }

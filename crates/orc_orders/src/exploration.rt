@@ -70,6 +70,7 @@ impl<R: Threads + Sync> Surveyor<'_, R> {
         ensures tried { IfOk result (λ trials. All (IsTried self.now.program.now self.now.answers.now self.now.limit) trials.items) }
     {
         let mut trials = places(self.alloc, number)?;
+        // The threads share the places among them: each place gets the result of its order.
         thread::for_each_mut(
             self.rt,
             &mut trials,
@@ -181,10 +182,12 @@ pub fn survey<R: Threads + Sync>(
     // Each round runs one order at least, so the loop ends.
     while next < orders {
         let number = batch.min(orders - next);
+        // `go` counts the outcomes in `seen`, and gives how many entries a run had on average.
         let mean = surveyor.go(threads, next, number, &mut seen)?;
         next += number;
-        // As many orders as `ROOM` allows, but at least one for each worker.
+        // As many orders as `ROOM` allows, but at least one for each worker, and `BATCH` at most.
         batch = (ROOM / mean.max(1)).clamp(workers as u64, BATCH);
+        // Several threads only where the next batch is likely to have `WORTH` entries or more.
         threads = if mean.saturating_mul(batch.min(orders - next)) < WORTH {
             1
         } else {

@@ -36,7 +36,8 @@ fn head_of(alloc: Global, orders: u64, seen: &Seen) -> Result<Vec<u8>, AllocErro
     Ok(head.into_bytes())
 }
 
-// That part of the line of an outcome to which none of `orders` orders came: `no order (0 of 100) Halted:`. The error is refused memory.
+// The part of an outcome's line before the values where none of `orders` orders came to it: `no order (0 of 100) Halted:`. The error is refused
+// memory.
 fn unseen_head_of(alloc: Global, orders: u64, end: End) -> Result<Vec<u8>, AllocError>
     ensures { IfOk result (λ t. t.items ≡ unseen_head orders end) }
 {

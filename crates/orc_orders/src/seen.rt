@@ -61,7 +61,8 @@ impl Seen {
     }
 }
 
-/// The place from 0 of an outcome among those that came up; None if it isn't one of them. It compares with one after another.
+/// The place, from 0, of the outcome of a run that ended so and published these values, among those that came up; None if it isn't one of them. It
+/// compares with one after another.
 pub fn place_of(seen: &[Seen], end: End, values: &[Value]) -> Option<usize>
     ensures { MatchOption result (All (λ y. IsOf (record { end = end; values = values.now }) y → ⊥) seen.now) (λ at. (at < length seen.now) × ((d : Seen) → IsOf (record { end = end; values = values.now }) (slice_index_or seen.now at d))) }
 {
@@ -80,7 +81,7 @@ struct Outcome {
     values: Vec<Value>,
 }
 
-// Of its values alone, not of its end: they tell nearly all outcomes apart, and equal ones have the same hash.
+// The hash is of the values alone, not of the end: the values tell nearly all outcomes apart, and equal outcomes have the same hash.
 impl Hash for Outcome {
     ghost use Rattle.std.specs.Hash as fed;
     ghost use Rattle.std.specs.Hash.{second_alike, on_Alike, items_Alike};
@@ -111,6 +112,7 @@ impl Drop for Outcomes {
     }
 }
 
+// Contracts see the list `seen`. By the invariant `known` has the same outcomes, each at the same place.
 impl Model for Outcomes {
     ghost use Rattle.std.specs.Prelude.{List};
     ghost use Rattle.orc_orders.specs.declared.seen.Seen.{Seen};
@@ -168,7 +170,7 @@ impl Outcomes {
         }
     }
 
-    // Adds an outcome to which an order came for the first time. If memory is refused nothing changes.
+    // Adds an outcome to which no order came before; `order`, from 0, is the one that has come to it now. If memory is refused nothing changes.
     #[tactic(auto, using(crate::proofs::Counting::counted_first, crate::proofs::Known::known_too))]
     fn add(&mut self, alloc: Global, order: u64, outcome: Outcome) -> Result<(), AllocError>
         requires { All (λ y. IsOf (came_of outcome) y → ⊥) self.old }
@@ -188,7 +190,7 @@ impl Outcomes {
         Ok(())
     }
 
-    /// Counts one more order, which came to this outcome. The error is refused memory.
+    /// Counts one more order, whose run ended so and published these values; `order` is its number, from 0. The error is refused memory.
     #[tactic(auto, using(crate::proofs::Known::counted_at, crate::proofs::Known::counted_as, crate::proofs::Known::known_still))]
     pub(crate) fn count(
         &mut self,

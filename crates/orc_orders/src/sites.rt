@@ -12,7 +12,7 @@ use std::alloc::{AllocError, Global};
 /// Stands for a site that the table doesn't have. No site has this number, since a table has fewer sites.
 const NOWHERE: u32 = u32::MAX;
 
-// A site that claims name, by its number in the table, or `NOWHERE`.
+// A site that claims name, with its number in the program's table of sites, or `NOWHERE` if the table doesn't have it.
 fn claim_site(answers: &Answers, site: &SiteName<'_>) -> ClaimSite
     ensures { result ≡ claim_site answers.now (site_of site.now) }
 {

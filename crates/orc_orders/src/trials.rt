@@ -27,7 +27,7 @@ use std::alloc::{AllocError, Global};
 pub struct Trials<'t, 'a> {
     /// The program, as it is written.
     pub source: &'t [u8],
-    /// The sites that the claims name, in the order of their numbers there.
+    /// The sites that the claims name. In a claim a site's number is its place in this list, from 0.
     pub sites: &'t [SiteName<'a>],
     /// What is judged in each run.
     pub claims: &'t [Claim],
@@ -164,6 +164,7 @@ impl<'w, 'a> Way<'w, 'a> {
         ensures made { IfOk result (IsMade self.now.loaded.program self.now.loaded.answers self.now.sites.items self.now.trials.now.limit) }
         ensures fault { (source : List ℕ) (script : List ℕ) → IfErr result (IsFaultOfWay source script self.now.trials.now.limit) }
     {
+        // `true`: the run keeps its journal, from which the happenings are read below.
         let played = match run_alone(
             self.alloc,
             &self.loaded.program,
@@ -186,7 +187,8 @@ impl<'w, 'a> Way<'w, 'a> {
         Ok(Run { played, happenings })
     }
 
-    // Makes the trial in this order, and gives the verdicts of the way with its verdict added. Faults are as of `run`.
+    // Makes the trial in this order, and gives `told`, the verdicts of the way with the number `way` in the orders before, with those of this run
+    // added. The fault is the engine's, or Memory.
     fn note(&self, way: u64, order: u64, told: &WayTold) -> Result<WayTold, TrialFault>
         requires program { IsProgram (definitions self.now.loaded.program) (source self.now.loaded.program) }
         requires few { told.now.cut + 1 < 2 ^ 64 }
@@ -197,6 +199,7 @@ impl<'w, 'a> Way<'w, 'a> {
         let summary = run.played.summary;
         let state = state_at(summary.end);
         let happenings = run.happenings.as_slice();
+        // What the run says of each claim: `state` is how the run ended, and `summary.now` when.
         let judged = judge(
             self.alloc,
             self.trials.claims,
@@ -231,6 +234,7 @@ pub(crate) fn try_way(
     ensures told { IfOk result (IsToldOfWay trials.now.source.now (sites_of trials.now.sites.now) trials.now.claims.now trials.now.orders trials.now.limit way script.now) }
     ensures fault { IfErr result (IsFaultOfWay trials.now.source.now script.now trials.now.limit) }
 {
+    // The program is loaded once for all orders of the way.
     let its = Way::load(alloc, trials, script)?;
     let mut told = WayTold {
         told: nothing_told(alloc, trials.claims)?,

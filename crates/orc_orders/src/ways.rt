@@ -16,7 +16,7 @@ use std::alloc::{AllocError, Global};
 use std::thread;
 use std::thread::Threads;
 
-/// The ways of a batch, if there are no more workers than this; their verdicts are joined once all of them were tried.
+/// How many ways a batch has; with more workers than this it has as many ways as workers. The verdicts are joined once all of its ways were tried.
 const BATCH: usize = 64;
 
 /// Threads share the ways of a batch if their runs have at least this many entries in all, by the mean of the batch before. A thread that begins may
@@ -101,6 +101,7 @@ impl Batch<'_, '_, '_> {
         ensures tried { IfOk result (λ tried. AreTried self.now tried.items) }
     {
         let mut tried = places(self.alloc, self.scripts.len())?;
+        // The threads share the places among them: each place gets the result of its way.
         thread::for_each_mut(
             rt,
             &mut tried,
@@ -188,10 +189,12 @@ pub fn try_ways<'t, 'a, R: Threads + Sync>(
             first: told.ways,
             scripts: &scripts[next..next + number],
         };
+        // `tell` adds the verdicts to `told`, and gives how many entries all runs of a way have, on average over the batch.
         let mean = batch.tell(rt, threads, told)?;
         next += number;
         // One way at least for each worker.
         number = BATCH.max(workers);
+        // Several threads only where the next batch is likely to have `WORTH` entries or more.
         threads = if mean.saturating_mul(number as u64) < WORTH {
             1
         } else {

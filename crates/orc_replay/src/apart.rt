@@ -199,7 +199,8 @@ fn known_named<P: Run>(
     Some(Known { values, entries })
 }
 
-// `text_named` for a source, without a script. `begin` requires a limit of 1 at least; the rows' limits are 100 at most.
+// The text of the journal after the merge in the program of this source, without a script, or why the merge was refused. None where something before
+// it fails, or the limit isn't 1 to 100: `begin` requires 1 at least, and the rows' limits are 100 at most.
 fn text_of(alloc: Global, source: &[u8], limit: usize) -> Option<Result<Vec<u8>, LedgerFault>> {
     let loaded = load(alloc, source, b"").ok()?;
     let graph = Graph::build(alloc, &loaded.program).ok()?;
@@ -209,7 +210,8 @@ fn text_of(alloc: Global, source: &[u8], limit: usize) -> Option<Result<Vec<u8>,
     text_named::<Brand>(alloc, &graph, &loaded.answers, limit)
 }
 
-// `known_named` for a source, without a script. The limit is in the same range.
+// What is known after the merge in the program of this source, without a script, whose journal isn't kept. None where the merge is refused, something
+// before it fails, or the limit isn't 1 to 100.
 fn known_of(alloc: Global, source: &[u8], limit: usize) -> Option<Known> {
     let loaded = load(alloc, source, b"").ok()?;
     let graph = Graph::build(alloc, &loaded.program).ok()?;
@@ -227,15 +229,17 @@ fn has_text(alloc: Global, source: &[u8], limit: usize, journal: &[u8]) -> bool 
     }
 }
 
-// The call of `f` is the whole run, four entries.
+// A program whose run is the call of `f` alone, four entries: it adds 1 to 4.
 const SOURCE: &[u8] = b"def f(n) = Add(n, 1)\nf(4)";
 
-// The rules allow these entries in this order alone.
+// The journal of `SOURCE`, whose entries the rules allow in this order alone: token 2, on the body, makes call 1, and token 3, on the answer 5,
+// publishes it.
 const JOURNAL: &[u8] = b"orc-journal 2\ndef 1 2\ncall 2 1 Add(4, 1)\nreturn 1 3 5\npublish 3 5\n";
 
 /// Whether the merged journal has the entries of a sub-run in the place of its call, if the limit has room for them; and whether a run that isn't
 /// over gives no sub-run.
 pub(crate) fn stands_in_its_place(alloc: Global) -> bool {
+    // A limit of 4 has room for the four entries, and one of 3 hasn't. The last program calls itself for ever.
     has_text(alloc, SOURCE, 4, JOURNAL)
         && matches!(text_of(alloc, SOURCE, 3), Some(Err(LedgerFault::Limit)))
         && text_of(alloc, b"def f() = f()\nf()", 100).is_none()
@@ -258,11 +262,12 @@ const PLACES: [(&[u8], &[u8]); 5] = [
         b"def f(n) = Add(n, 1)\nf(4) >x> Add(x, 10)",
         b"orc-journal 2\nseq 1 2\ndef 2 3\ncall 3 1 Add(4, 1)\nreturn 1 4 5\n",
     ),
-    // A call that yields nothing in the right side of a pruning, and one in the left side of a `>x>`.
+    // A call that yields nothing, in the right side of a pruning.
     (
         b"def f() = stop\ny <y< f()",
         b"orc-journal 2\nopen 1 1 2 3\ndef 3 4\nend 4\n",
     ),
+    // The same call, in the left side of a `>x>`.
     (
         b"def f() = stop\nf() >x> x",
         b"orc-journal 2\nseq 1 2\ndef 2 3\nend 3\n",
@@ -277,6 +282,7 @@ pub(crate) fn stands_anywhere(alloc: Global) -> bool {
             return false;
         }
     }
+    // The call yields 4 and 1, which the `>x>` takes.
     text_of(alloc, b"def f(n) = n | 1\nf(4) >x> x", 100).is_none()
 }
 
@@ -284,6 +290,7 @@ pub(crate) fn stands_anywhere(alloc: Global) -> bool {
 pub(crate) fn counts_and_publishes(alloc: Global) -> bool {
     match known_of(alloc, SOURCE, 4) {
         Some(known) => {
+            // `f(4)` publishes 5, and has four entries: a limit of 3 has no room for them.
             known.values.as_slice() == [Value::Number(5)].as_slice()
                 && known.entries == 4
                 && known_of(alloc, SOURCE, 3).is_none()

@@ -38,7 +38,7 @@ pub(crate) fn replay_text(
     Ok((journal.len(), state))
 }
 
-// Writes a line on one family of rows.
+// Writes a line on one family of rows, which `what` describes: whether all its rows hold.
 fn tell<R: Print>(rt: &R, what: &str, holds: bool) -> io::Result<()> {
     let word = if holds { "holds" } else { "WRONG" };
     println!(rt; "{word}: {what}")
@@ -46,6 +46,7 @@ fn tell<R: Print>(rt: &R, what: &str, holds: bool) -> io::Result<()> {
 
 // Writes a line for each family of rows; `stdout` in this crate has the lines that the gate wants.
 fn tell_all<R: Print>(rt: &R, alloc: Global) -> io::Result<()> {
+    // Each family: what its line says, and whether its rows hold.
     let told = [
         (
             "tokens wait, and cells are lost",

@@ -52,7 +52,7 @@ const EXPRESSIONS: [&[u8]; 7] = [
     b"(% | % >> signal)",
 ];
 
-// Expressions of level 0: `#` stands for a value, or a variable that is bound. It is there twice, to be taken twice as often.
+// Expressions of level 0: `#` stands for a value, or a variable that is bound. The line `#` is there twice, to be taken twice as often.
 const LEAVES: [&[u8]; 11] = [
     b"stop",
     b"Rwait(0)",
@@ -130,13 +130,16 @@ fn program(alloc: Global, seed: u64) -> Result<Vec<u8>, AllocError> {
     let mut parts = Vec::new(alloc);
     // Three or four levels, so that each operator may be inside each other one.
     let levels = if dice.pick(2) == 0 { 3 } else { 4 };
+    // Around the whole expression no variable is bound: no bit is set.
     put(&mut dice, &mut parts, levels, 0)?;
-    // No program has so many parts.
+    // The bound only makes the loop end: no program has so many parts.
     for _part in 0..1_000_000_u32 {
         let Some(Part { sign, level, names }) = parts.pop() else {
             break;
         };
         let below = level.saturating_sub(1);
+        // `%` stands for an expression of the level below, `^` for one in which this level's variable is bound, too, `$` for that variable, `#` for a
+        // value.
         match sign {
             b'%' => put(&mut dice, &mut parts, below, names)?,
             // `% 9` changes nothing: it shows the prover that the shift is below 32.
@@ -164,6 +167,7 @@ fn fits(end: End, state: State) -> bool {
 fn replayed(alloc: Global, source: &[u8]) -> Option<End> {
     let loaded = load(alloc, source, SCRIPT).ok()?;
     let (program, answers) = (&loaded.program, &loaded.answers);
+    // None and `true`: the run takes the scheduler's own order, and keeps its journal.
     let played = run_alone(alloc, program, answers, None, true, ENTRIES).ok()?;
     let journal = played.journal.as_ref()?;
     let state = replay_journal(alloc, program, answers, journal).ok()?;

@@ -3,8 +3,8 @@
 //! Of an entry the replay looks at the token, call, cell or otherwise that it names, at the value and cell that a token's move takes, and at a tick's
 //! time. Once the replay is over the whole journals are compared.
 //!
-//! `checks/memory` refuses one request for memory in each run. The call is then made again, and has to do what it would have done at first: that shows
-//! that a refused call changes nothing.
+//! `checks/memory` refuses one request for memory in each run. The call is then made again, and has to do what it would have done at first: that
+//! shows that a refused call changes nothing.
 
 ghost use Rattle.std.specs.Prelude.{◌≡◌, ◌<◌, true, IfSome, vec_len};
 
@@ -41,6 +41,7 @@ pub enum Odd {
     Other,
     /// A limit is reached.
     Limit,
+    /// Memory was refused.
     Memory,
 }
 
@@ -74,12 +75,14 @@ struct OpenGroup {
 
 /// A ledger that does entries one after another, and what the replay has to note of them.
 pub struct Replay<P: Run> {
+    /// The state of the run, which each entry changes by a call of the ledger.
     pub ledger: Ledger<P>,
     // The slot in which the ledger keeps each token, by the token's serial (its mark in the journal); there is no serial 0.
     slots: Vec<usize>,
     // The open groups, in any order.
     groups: Vec<OpenGroup>,
-    // Lent to the ledger's calls, and looked at by none of the replay's.
+    // Lent to the ledger's calls, in turn for the scopes of a called definition, the numbers of cancelled calls, and the arguments of a call. The
+    // replay looks at none of them.
     scopes: Vec<StoredScope>,
     cancelled: Vec<u64>,
     args: Args,
@@ -161,7 +164,7 @@ impl<P: Run> Replay<P> {
     }
 
     /// Has the ledger do what an entry says, by the call for its kind, and then closes the groups that end without an entry. A `cancel` is refused as
-    /// Other: the ledger makes it with its bind. Where memory is refused nothing has changed.
+    /// Other: the ledger makes it with its bind. The error says why the entry fails. Where memory is refused nothing has changed.
     pub fn enter(&mut self, inputs: &Inputs<'_, P>, entry: &Entry) -> Result<(), Odd> {
         self.make_room()?;
         match entry {
@@ -236,6 +239,7 @@ impl<P: Run> Replay<P> {
     fn follow(&mut self, entry: &Entry, slot: usize, group: u32, moved: Moved) -> Result<(), Odd> {
         match moved {
             Moved::On => {
+                // The successor's group: the left side's own, if the token has entered an otherwise.
                 let inner = self.stand(slot)?;
                 match entry {
                     Entry::Other(number, _) => self.note(inner, Side::Left(*number), group),
@@ -244,6 +248,7 @@ impl<P: Run> Replay<P> {
             }
             Moved::Forked(right) => {
                 self.stand(slot)?;
+                // The right token's group: the right side's own, if the token has opened a pruning.
                 let inner = self.stand(right)?;
                 match entry {
                     Entry::Open(_, cell, _, _) => self.note(inner, Side::Right(*cell), group),
@@ -251,6 +256,7 @@ impl<P: Run> Replay<P> {
                 }
             }
             Moved::Sent(_) => {
+                // On its way to the `>x>` the value has left the left sides of otherwises between the old token's group and the new one's.
                 let outer = self.stand(slot)?;
                 self.leave(group, outer)
             }
@@ -261,12 +267,13 @@ impl<P: Run> Replay<P> {
                 _ => Ok(()),
             },
             Moved::Bound(cell, _) => self.drop_side(cell),
-            // Not reached: `advance` has taken the first, and `says` accepts no entry for a token that waits.
+            // Not reached: `advance` itself makes the call for `Calls`, and `says` accepts no entry for a token that waits.
             Moved::Calls | Moved::Waits => Err(Odd::Word),
         }
     }
 
-    // Notes that the newest token is in this slot, and gives the number of its group. Other if the token there has another serial than the next one.
+    // Notes that the newest token is in this slot, and gives the number of its group. Gone if no token is there, Other if its serial isn't the next
+    // one, which is the length of `slots`.
     fn stand(&mut self, slot: usize) -> Result<u32, Odd> {
         let Some(token) = self.ledger.held(slot) else {
             return Err(Odd::Gone);
@@ -329,6 +336,7 @@ impl<P: Run> Replay<P> {
         else {
             return Err(Odd::Other);
         };
+        // The right side's own group.
         self.groups.swap_remove(place);
         for _inwards in 0..MOST_GROUPS {
             let Some(place) = self.orphan() else {
@@ -374,22 +382,25 @@ impl<P: Run> Replay<P> {
         Err(Odd::Other)
     }
 
-    // Halts a side: a cell is lost, or the right side of an otherwise starts. Gone if the side isn't open, Live if its group has members.
+    // Halts a side: a cell is lost, or the right side of an otherwise starts. Gone if the side isn't open, Live if its group has members, Other if
+    // its group ends without an entry, else Limit or Memory.
     fn halt(&mut self, side: Side) -> Result<(), Odd> {
         let Some(place) = self.groups.iter().position(|open| open.side == side) else {
             return Err(Odd::Gone);
         };
         match self.ledger.halt(self.groups[place].number) {
+            // The cell is lost. No token comes.
             Ok(Halted::Lost(_, _)) => {
                 self.groups.swap_remove(place);
                 Ok(())
             }
+            // The right side of the otherwise starts: its token is in this slot.
             Ok(Halted::Resumed(slot)) => {
                 self.groups.swap_remove(place);
                 self.stand(slot)?;
                 Ok(())
             }
-            // It had published and ends without an entry.
+            // The side had published, so its group ends without an entry, though the journal has one.
             Ok(Halted::Closed(_)) => Err(Odd::Other),
             Err(HaltFault::Gone) => Err(Odd::Gone),
             Err(HaltFault::Live) => Err(Odd::Live),
@@ -397,7 +408,8 @@ impl<P: Run> Replay<P> {
         }
     }
 
-    // Answers the pending call with this number: with a value, on which a token stands then, or with a halt.
+    // Answers the pending call with this number: with a value, on which a token stands then, or with a halt. Gone if no such call pends, Wrong if the
+    // table has another answer or another due time, else Limit or Memory.
     fn answer(&mut self, number: u64, answer: Answer) -> Result<(), Odd> {
         match self.ledger.returned(number, answer) {
             Ok(Some(slot)) => {
@@ -458,17 +470,18 @@ impl<P: Run> Replay<P> {
     }
 }
 
-// Whether two journals have one text. None if memory is refused.
+// Whether two journals have the same text. None if memory is refused.
 fn are_same(alloc: Global, answers: &Answers, one: &Journal, other: &Journal) -> Option<bool> {
     let mut text = Vec::new(alloc);
     let mut other_text = Vec::new(alloc);
+    // `write_journal` answers false if an entry has no line, since the table lacks its site.
     let whole = write_journal(one, answers, &mut text).ok()?;
     let other_whole = write_journal(other, answers, &mut other_text).ok()?;
     Some(whole && other_whole && text.as_slice() == other_text.as_slice())
 }
 
-// `replay_journal` for a graph that is built. In contracts `P` stands for the run; the caller picks it. If the ledger has written another journal,
-// the error is Other at the last entry.
+// Has a new ledger do the entries of a journal of the program with this graph. Ok, with the state to which they lead, if the ledger writes the same
+// journal; the error is Other at the last entry if it writes another one. In contracts `P` stands for the run; the caller picks it.
 fn replay_named<P: Run>(
     alloc: Global,
     graph: &Graph,
@@ -522,5 +535,6 @@ pub fn replay_journal(
             why: Odd::Memory,
         });
     };
+    // `Brand` is a fresh name for the run, for contracts alone.
     replay_named::<Brand>(alloc, &graph, answers, journal)
 }

@@ -24,7 +24,7 @@ pub(crate) enum Step {
     Does(&'static str),
     /// The token with this mark waits.
     Waits(u64),
-    /// `Ledger::next` gives this.
+    /// `Ledger::next`, which says what comes next in the run, gives this.
     Next(Next),
     /// The least number of a call that is due now is this; None if none is due.
     Due(Option<u64>),
@@ -36,7 +36,7 @@ pub(crate) enum Step {
     Halted(bool),
 }
 
-/// A program, and the steps of its run.
+/// A program, the script that answers its sites, and the steps of its run.
 #[derive(Clone, Copy)]
 pub(crate) struct Row {
     source: &'static str,
@@ -44,6 +44,7 @@ pub(crate) struct Row {
     steps: &'static [Step],
 }
 
+// The value that a wait (`Rwait`) returns.
 const SIGNAL: Answer = Answer::Value(Value::Signal);
 
 // What the token with this mark does next. None if no such token is there. No row has a hundred tokens, so slots from 100 on are empty.
@@ -65,6 +66,7 @@ fn does<P: Run>(replay: &mut Replay<P>, inputs: &Inputs<'_, P>, lines: &str) -> 
     let mut rest = lines.as_bytes();
     // A line has a byte at least, so there are no more lines than bytes.
     for _line in 0..lines.len() {
+        // Reads the first line of `rest` into `entry`, and gives the bytes behind it.
         let Some(behind) = read_entry(rest, inputs.answers, &mut entry) else {
             return rest.is_empty();
         };
@@ -119,8 +121,8 @@ fn has_lines<P: Run>(
     Ok(whole && text.as_slice() == wanted.as_slice())
 }
 
-// The first step that doesn't hold, from 0, or 0 if no run can begin; the number of steps if all hold, but the journal has other lines. None if the
-// row holds. In contracts `P` stands for the run; the caller picks it.
+// The first of these steps that doesn't hold, from 0, or 0 if no run can begin; the number of steps if all hold, but the journal has other lines than
+// their entries. None if the steps and the journal hold. In contracts `P` stands for the run; the caller picks it.
 fn wrong_step<P: Run>(
     alloc: Global,
     graph: &Graph,
@@ -147,7 +149,8 @@ fn wrong_step<P: Run>(
     }
 }
 
-// The step of a row that doesn't hold, as `wrong_step` has it; 0 also where no graph of the program is made. None if all holds.
+// The first step of a row that doesn't hold, from 0, or the number of steps if only the journal is another one; 0 also where no graph of the program
+// is made. None if the row holds.
 fn fault_of(alloc: Global, row: &Row) -> Option<usize> {
     let Ok(loaded) = load(alloc, row.source.as_bytes(), row.script.as_bytes()) else {
         return Some(0);
@@ -169,9 +172,12 @@ pub(crate) fn hold(alloc: Global, rows: &[Row]) -> bool {
 }
 
 /// Tokens wait, and cells are lost. In these rows and those of `CALLS` the entries are those that Orc's rules allow of the program: a token gets the
-/// next mark, a call and a cell the next number, each from 1, and of two tokens that come at once the left one has the lower mark.
+/// next mark, a call and a cell the next number, each from 1, and of two tokens that come at once the left one has the lower mark. A line names the
+/// token that moves (a `return` the call), then a cell or call and the new marks: `open 1 1 2 3` opens cell 1, with token 2 on the left and 3 on the
+/// right.
 pub(crate) const WAITS: [Row; 4] = [
-    // The inner x is bound first, and the call still waits for the outer one.
+    // Token 5 is at the call of `Add`, which waits for both cells: for the outer x, cell 1, as a, and for the inner x, cell 2. The inner x is bound
+    // first, and the call still waits for the outer one.
     Row {
         source: "def g(a) = Add(a, x) <x< 1\ng(x) <x< 10",
         script: "",
@@ -184,7 +190,7 @@ pub(crate) const WAITS: [Row; 4] = [
             Step::Halted(true),
         ],
     },
-    // The cell is lost, so the token that waits for it ends (`void`), and the otherwise goes to its right side.
+    // The cell is lost, since its right side stops. So token 3, which waits for it, ends (`void`), and the otherwise goes to its right side.
     Row {
         source: "(Add(x, 1) <x< stop) ; 7",
         script: "",
@@ -197,12 +203,13 @@ pub(crate) const WAITS: [Row; 4] = [
             Step::Halted(true),
         ],
     },
-    // Either value may be bound.
+    // Either value of the right side may be bound: here that of its left token, 4.
     Row {
         source: "x <x< (1 | 2)",
         script: "",
         steps: &[Step::Does("open 1 1 2 3\nfork 3 4 5\nbind 4 1 1\npublish 2 1\n")],
     },
+    // The same program: here the value of the right token, 5, is bound.
     Row {
         source: "x <x< (1 | 2)",
         script: "",
@@ -210,7 +217,7 @@ pub(crate) const WAITS: [Row; 4] = [
     },
 ];
 
-/// Calls are answered when they are due.
+/// Calls are answered when they are due. A line names the token that moves (a `return` the call), then a cell or call and the new marks.
 pub(crate) const CALLS: [Row; 6] = [
     // An answer is refused before its time, if it isn't the table's, and once the call was answered.
     Row {
@@ -232,7 +239,7 @@ pub(crate) const CALLS: [Row; 6] = [
             Step::Halted(true),
         ],
     },
-    // A call that is cancelled is gone.
+    // The bind by token 5 cancels the call in the right side: it is gone, so no answer is taken.
     Row {
         source: "x <x< (Rwait(0) | 1)",
         script: "",
@@ -273,7 +280,8 @@ pub(crate) const CALLS: [Row; 6] = [
             Step::Halted(true),
         ],
     },
-    // A sequence of answers counts for each list of arguments.
+    // A sequence of answers counts for each list of arguments: each of the calls is the first with its argument. So its answer is 1, and 2 is
+    // refused.
     Row {
         source: "Flip(1) | Flip(2)",
         script: "Flip(_) = 1 then 2",
@@ -329,15 +337,17 @@ fn refused_at<P: Run>(
     Some((ledger.entries(), LedgerFault::Limit))
 }
 
-// What `refused_at` gives of the program of a source, without a script. None also if no graph of the program is made.
+// After how many entries, and why, the ledger refuses a move of the program of this source, without a script; `limit` is its journal's. None also if
+// no graph of the program is made.
 fn refused(alloc: Global, source: &[u8], limit: usize) -> Option<(usize, LedgerFault)> {
     let loaded = load(alloc, source, b"").ok()?;
     let graph = Graph::build(alloc, &loaded.program).ok()?;
     refused_at::<Brand>(alloc, &graph, &loaded.answers, limit)
 }
 
-// Programs, the limits of their journals, how many entries there are when a move is refused, and why: 4,096 left sides of a `>x>` take two entries
-// each, and one more `def` follows; so do 1,023 left sides of a `;`. The limit of 100,000 isn't reached.
+// Programs, the limits of their journals, how many entries there are when a move is refused, and why. The first enters 4,096 left sides of a `>x>`,
+// the most, by a `def` and a `seq` each, and makes one `def` more; the second enters 1,023 left sides of a `;`, the most beside the program's own
+// group, by two entries each. The third, the second again, is cut by its journal's limit.
 const LIMITS: [(&[u8], usize, usize, LedgerFault); 3] = [
     (
         b"def f() = f() >> 1\nf()",
@@ -349,7 +359,7 @@ const LIMITS: [(&[u8], usize, usize, LedgerFault); 3] = [
     (b"def f() = f() ; 1\nf()", 100, 100, LedgerFault::Limit),
 ];
 
-/// Whether limits refuse the entry past them.
+/// Whether in each row of `LIMITS` the ledger refuses the entry past the limit: after so many entries, and for this reason.
 pub(crate) fn limits_refuse(alloc: Global) -> bool {
     for (source, limit, entries, fault) in LIMITS.iter() {
         if refused(alloc, source, *limit) != Some((*entries, *fault)) {
@@ -359,8 +369,9 @@ pub(crate) fn limits_refuse(alloc: Global) -> bool {
     true
 }
 
-// Programs, journals that the rules allow, with an entry before moves of marks that the ledger makes first, and where and why their replay fails: in
-// the first two a side is ended before its token has made its `end`, and in the last time goes on before it.
+// Programs, journals that the rules allow, and where and why their replay fails: each has an entry before an `end`, a move of marks (an entry without
+// a rule), which the ledger makes first. In the first two a side is ended before its token has made its `end`, and in the last time goes on before
+// it.
 const EARLY: [(&[u8], &[u8], Stop); 3] = [
     (
         b"stop <x< stop",
@@ -388,7 +399,7 @@ const EARLY: [(&[u8], &[u8], Stop); 3] = [
     ),
 ];
 
-/// Whether the replay of each of these journals fails at that entry.
+/// Whether the replay of each journal of `EARLY` fails at its entry, for its reason.
 pub(crate) fn marks_move_first(alloc: Global) -> bool {
     for (source, journal, stop) in EARLY.iter() {
         if replay_text(alloc, source, b"", journal) != Err(*stop) {
@@ -400,6 +411,7 @@ pub(crate) fn marks_move_first(alloc: Global) -> bool {
 
 // Programs, scripts, journals that the rules allow, how many entries these have, and the states to which they lead.
 const WRITTEN: [(&[u8], &[u8], &[u8], usize, State); 3] = [
+    // Each of the two values goes through the `>x>`, and is published with 10 added.
     (
         b"(1 | 2) >x> Add(x, 10)",
         b"",
@@ -407,6 +419,7 @@ const WRITTEN: [(&[u8], &[u8], &[u8], usize, State); 3] = [
         10,
         State::Halted,
     ),
+    // The first two calls halt, so the run goes to the right side of an otherwise each time, until the third call answers 5.
     (
         b"Try() ; Try() ; Try() ; 0",
         b"Try() = halt then halt then 5",
@@ -424,7 +437,7 @@ const WRITTEN: [(&[u8], &[u8], &[u8], usize, State); 3] = [
     ),
 ];
 
-/// Whether each of these journals is replayed to its end.
+/// Whether each journal of `WRITTEN` is replayed to its end, with so many entries and to its state.
 pub(crate) fn are_replayed(alloc: Global) -> bool {
     for (source, script, journal, entries, state) in WRITTEN.iter() {
         if replay_text(alloc, source, script, journal) != Ok((*entries, *state)) {

@@ -19,9 +19,11 @@ use std::marker::Model;
 /// The open groups, found by their numbers. Number 0 is the program's own group, which has no record here. The number of a group that is gone is
 /// given out again, so that all numbers stay below `MOST_GROUPS`.
 pub struct Groups {
+    // The open groups, in no order.
     items: Vec<Group>,
-    // By number, 0 included: where its group is among the items, if it is open, and how many members it has.
+    // By number, 0 included: where its group is among the items, if it is open.
     places: Vec<usize>,
+    // By number, 0 included: how many members the group has.
     sizes: Vec<u32>,
     // By number: the step into the side of the group, as `open` was told. A hint, which callers test.
     hints: Vec<usize>,
@@ -48,6 +50,8 @@ impl Drop for Groups {
     }
 }
 
+// What contracts see of the table: the groups, the sizes by number, and for how many more groups there is room. By the invariant `places` leads to
+// each group, each number is one group's or free, and `empty` is right.
 impl Model for Groups {
     ghost use Rattle.std.specs.Prelude.{◌≡◌, ◌-◌, ◌+◌, ◌≤◌, min, length, vec_len, vec_capacity};
     ghost use Rattle.orc_tables.specs.OpenGroups.{GroupTable, AreNumbered, empty_in};
@@ -142,7 +146,7 @@ fn count_at(items: &Vec<Group>, places: &Vec<usize>, number: u32) -> usize
     }
 }
 
-// `count_at` if `asked`, else 0: what `join` subtracts from `empty`, and `leave` adds.
+// If `asked`, how many open groups have this number, 0 or 1; else 0. `join` subtracts that from `empty`, and `leave` adds it.
 #[inline(always)]
 fn count_if(asked: bool, items: &Vec<Group>, places: &Vec<usize>, number: u32) -> usize
     requires lead { LeadTo items.now.items places.now.items }
@@ -182,7 +186,7 @@ fn add_number(
         return Err(AllocError);
     }
     push_within(free, number as u32);
-    // Nothing here counts until `open` gives the number to a group.
+    // The zeros stand for no group yet: `open` writes the place and the hint once it gives the number to one.
     push_within(places, 0);
     push_within(sizes, 0);
     push_within(hints, 0);
@@ -197,12 +201,13 @@ fn take_free(free: &mut Vec<u32>) -> u32
 {
     match free.pop() {
         Some(number) => number,
-        // It doesn't happen: the caller makes sure of a number.
+        // Not reached: the caller makes sure that there is a number.
         None => 0,
     }
 }
 
-// Removes the group at a place; the last one takes its place. Those before it stay where they are (`before`), so a loop can go on.
+// Removes the group at this place among the items, and gives it; the last one takes its place. Those before it stay where they are (`before`), so a
+// loop can go on.
 fn remove_at(
     items: &mut Vec<Group>,
     places: &mut Vec<usize>,
@@ -350,6 +355,7 @@ impl Groups {
         let number = take_free(&mut self.free);
         let place = self.items.len();
         set_place(&mut self.places, number, place);
+        // `hints` is a list by numbers as `places` is, so the same function writes it.
         set_place(&mut self.hints, number, hint);
         push_within(
             &mut self.items,
@@ -359,6 +365,7 @@ impl Groups {
                 number,
             },
         );
+        // Notes for later searches that this place has a group directly in `parent`.
         self.chains.put(place, parent);
         // Nothing in this table says that the members of the group that had the number before are gone, so its size is asked.
         self.empty += none_at(&self.sizes, number);
@@ -404,6 +411,7 @@ impl Groups {
         let group = remove_at(&mut self.items, &mut self.places, &mut self.chains, place);
         // `add_number` has made room for it.
         push_within(&mut self.free, group.number);
+        // The group isn't open any more, so it doesn't count among the open ones without members.
         self.empty -= none_at(&self.sizes, group.number);
         group
     }

@@ -28,6 +28,7 @@ use std::marker::Model;
 
 /// The pending calls, in no order, with the number of calls that were made, and notes of when the pending ones are due.
 pub struct Pending {
+    // The calls that pend, in no order.
     items: Vec<Call>,
     // By the number of a call, less 1: its place in `items`. If the call doesn't pend any more, this may be another call's place.
     places: Vec<usize>,
@@ -49,6 +50,8 @@ impl Drop for Pending {
     }
 }
 
+// What contracts see of the table: the calls, how many were made, for how many more there is room, and the notes. By the invariant `places` leads to
+// each call, and each call that is ever due is noted with its due time.
 impl Model for Pending {
     ghost use Rattle.std.specs.Prelude.{◌-◌, ◌^◌, min, length, vec_len, vec_capacity};
     ghost use Rattle.orc_tables.specs.PendingCalls.{Pendings, ArePlaced, HaveNotes};
@@ -130,7 +133,8 @@ fn find(items: &Vec<Call>, places: &Vec<usize>, number: u64) -> Option<Spot>
     }
 }
 
-// Removes the call at a place; the last one takes its place. Those before it stay where they are (`before`), so a loop can go on.
+// Removes the call at this place among the items, and gives it; the last one takes its place. Those before it stay where they are (`before`), so a
+// loop can go on.
 fn remove_at(
     items: &mut Vec<Call>,
     places: &mut Vec<usize>,
@@ -160,7 +164,7 @@ fn remove_at(
     }
 }
 
-// Takes out the note of when a call is due, if it has one.
+// Takes the note of when this call is due out of `dues`, if it has one.
 fn forget(dues: &mut Dues, call: Call)
     ensures { (t k : ℕ) → IsNoted dues.old t k → IsNoted dues.new t k ⊎ (k ≡ call.number) }
 {
@@ -211,7 +215,7 @@ fn is_due(items: &Vec<Call>, places: &Vec<usize>, time: u64, number: u64) -> boo
     match find(items, places, number) {
         None => false,
         Some(spot) => match due_of(spot.call) {
-            // It pends for good.
+            // The call is never due: it pends until it is cancelled.
             None => false,
             Some(due) => due == time,
         },
@@ -225,6 +229,7 @@ fn next_due(items: &Vec<Call>, places: &Vec<usize>, dues: &mut Dues) -> Option<u
     ensures due { result ≡ next_due items.now.items }
     ensures noted { HaveNotes dues.new items.now.items }
 {
+    // The earliest note that is left: a time, and the number of a call.
     while let Some((time, number)) = dues.first() {
         if is_due(items, places, time, number) {
             return Some(time);
@@ -249,6 +254,7 @@ fn due_beyond(
     ensures due { MatchOption result ((k : ℕ) → IsDueBeyond items.now.items beyond time k → ⊥) (IsLeastBeyond items.now.items beyond time) }
     ensures noted { HaveNotes dues.new items.now.items }
 {
+    // The least number over `beyond` that is noted with this time.
     while let Some(number) = dues.first_at(time, beyond + 1) {
         if is_due(items, places, time, number) {
             return Some(number);
@@ -328,6 +334,7 @@ impl Pending {
         let place = self.items.len();
         push_within(&mut self.items, call);
         push_within(&mut self.places, place);
+        // Notes for later searches that this place has a call of this group.
         self.chains.put(place, group);
     }
 

@@ -16,24 +16,24 @@ pub enum Standing {
 /// A token.
 #[derive(Clone, Copy)]
 pub struct Token {
-    /// Its mark in the journal, from 1. In a slot that is free it is 0.
+    /// The token's mark in the journal, from 1. In a slot that is free it is 0.
     pub serial: u64,
     /// What it is on.
     pub standing: Standing,
-    /// Its innermost step, which it took last; 0 is the program as a whole.
+    /// The innermost step around the token, which it took last; 0 is the program as a whole.
     pub step: usize,
 }
 
 /// A call of a site that pends.
 #[derive(Clone, Copy)]
 pub struct Call {
-    /// Its number in the journal, from 1.
+    /// The call's number in the journal, from 1.
     pub number: u64,
     /// What the table of sites says of it: an answer after a delay from `made_at` on, or none ever.
     pub found: Found,
     /// When it was made, in logical time.
     pub made_at: u64,
-    /// The innermost step around it, as of a token.
+    /// The innermost step around the call, which was that of the token that made it; 0 is the program as a whole.
     pub step: usize,
     /// The place of its `call` entry in the journal, from 0; cancels count.
     pub row: usize,
@@ -55,14 +55,15 @@ pub enum Frame {
 /// One step inwards from another one.
 #[derive(Clone, Copy)]
 pub struct Step {
+    /// What the step enters.
     pub entered: Frame,
     /// The number of the step around it, which is less than its own; 0 is the program as a whole.
     pub outer: usize,
     /// The number of the group of a token whose innermost step this is; the program's own is 0.
     pub group: u32,
-    /// How many left sides of a `>x>` are around such a token, out to the innermost right side of a cell.
+    /// How many left sides of a `>x>` are around a token whose innermost step this is, out to the innermost right side of a cell.
     pub depth: u32,
-    /// Of a left side of an otherwise: whether it has published, so that the right side never runs. False for the others.
+    /// Whether the left side of an otherwise that the step enters has published, so that the right side never runs. False for other steps.
     pub published: bool,
 }
 
@@ -78,9 +79,10 @@ pub enum Side {
 /// An open group.
 #[derive(Clone, Copy)]
 pub struct Group {
+    /// The side whose members it has.
     pub side: Side,
     /// The step around the whole `f <x< g` or `f ; g`, not the one into the side.
     pub outer: usize,
-    /// From 1; 0 is the program's own group, which has no record.
+    /// The group's number, from 1; 0 is the program's own group, which has no record.
     pub number: u32,
 }

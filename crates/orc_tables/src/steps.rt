@@ -15,11 +15,15 @@ use std::marker::Model;
 /// step notes what takes it, and an otherwise is marked only once.
 #[derive(Drop)]
 pub struct Steps {
+    // Step n is item n - 1.
     items: Vec<Step>,
-    // For each step the nearest one outwards, itself included, that enters no otherwise, and so takes a publication; 0 where there is none.
+    // Item n - 1: the number of the nearest step from step n outwards, itself included, that enters no otherwise, and so takes a publication; 0 where
+    // there is none.
     takers: Vec<usize>,
 }
 
+// What contracts see of the table: the steps, and for how many more each list has room. By the invariant each step is inside an earlier one or none,
+// and `takers` has the right step for each.
 impl Model for Steps {
     ghost use Rattle.std.specs.Prelude.{◌-◌, vec_len, vec_capacity};
     ghost use Rattle.orc_tables.specs.Steps.{StepTable, AreLinked};
@@ -150,7 +154,7 @@ impl Steps {
         push_within(&mut self.items, step);
     }
 
-    /// Removes the last step, of which there has to be one. The caller sees to it that nothing is in it any more. Its room is kept.
+    /// Removes the last step; there has to be one. The caller sees to it that no token, call or group is in it any more. Its room is kept.
     #[inline(always)]
     pub fn drop_last(&mut self)
         requires { 1 ≤ length self.old.items }

@@ -46,6 +46,8 @@ impl Drop for Tokens {
     }
 }
 
+// What contracts see of the table: the slots, for how many more there is room, and the notes of parked tokens. By the invariant `count` is right, and
+// a slot whose flag is set holds a token.
 impl Model for Tokens {
     ghost use Rattle.std.specs.Prelude.{◌≡◌, ◌-◌, length, vec_len, vec_capacity};
     ghost use Rattle.orc_tables.specs.Tokens.{Slots, AreHeld, live};
@@ -71,7 +73,7 @@ fn nobody(free: usize) -> Token
     }
 }
 
-// Writes into a slot that is there; else nothing changes.
+// Writes what is in the slot with this number, if there is such a slot; else nothing changes.
 #[inline(always)]
 fn put(slots: &mut Vec<Token>, slot: usize, token: Token)
     ensures items { slots.new.items ≡ slice_set slots.old.items slot token }
@@ -109,7 +111,7 @@ fn is_there(slots: &Vec<Token>, note: Note) -> bool
     }
 }
 
-// Clears the flag of a note's token, if that is still in its slot.
+// Clears the flag that says that a note's token is parked, if that token is still in its slot.
 fn rouse(slots: &Vec<Token>, parking: &mut Parking, note: Note)
     ensures flags { (k : ℕ) → is_set parking.new.flags k ≡ true → is_set parking.old.flags k ≡ true }
     ensures gone { (t : Its) → slice_get slots.now.items note.slot ≡ Some t → t.serial ≡ note.serial → is_set parking.new.flags note.slot ≡ true → ⊥ }
@@ -121,7 +123,7 @@ fn rouse(slots: &Vec<Token>, parking: &mut Parking, note: Note)
     parking.clear(note.slot);
 }
 
-// Takes out all notes of a cell, and clears the flags of the tokens that they name.
+// Takes out all notes of a cell, and clears the flags of the tokens that they name: these tokens aren't parked any more.
 fn wake(slots: &Vec<Token>, parking: &mut Parking, cell: u64)
     ensures flags { (k : ℕ) → is_set parking.new.flags k ≡ true → is_set parking.old.flags k ≡ true }
     ensures gone { (k : ℕ) (t : Its) → IsHeld slots.now.items k t → is_set parking.new.flags k ≡ true → IsNoted parking.old cell k t.serial → ⊥ }
@@ -157,7 +159,7 @@ impl Tokens {
         ensures parked { IfOk result (λ t. t.parked ≡ record { flags = []; notes = [] }) }
     {
         let mut chains = Chains::begin(alloc)?;
-        // Slot 0, group 0.
+        // Slot 0 has a token of group 0, the program's own.
         chains.put(0, 0);
         let mut slots = Vec::new(alloc);
         if slots.push(token).is_err() {
@@ -274,6 +276,7 @@ impl Tokens {
         ensures room { self.new.room ≡ self.old.room }
         ensures parked { StayParked self.old self.new }
     {
+        // The new token isn't parked, whatever the old one was.
         self.parking.clear(slot);
         put(&mut self.slots, slot, token);
         self.chains.put(slot, group);
@@ -294,9 +297,12 @@ impl Tokens {
         ensures room { self.new.room ≡ self.old.room }
         ensures parked { StayParked self.old self.new }
     {
+        // No flag says any more that the slot's token is parked.
         self.parking.clear(slot);
+        // The slot comes first in the list of free slots, and names the one that was first before.
         put(&mut self.slots, slot, nobody(self.free));
         self.free = slot;
+        // The slot isn't listed for its group any more.
         self.chains.take(slot);
         self.count -= 1;
     }
@@ -316,7 +322,8 @@ impl Tokens {
         ensures items { self.new.items ≡ self.old.items }
         ensures parked { StayWith slot serial cells.now.items self.old self.new }
     {
-        // The flag is set last, when the token is noted with each of its cells: a token whose flag is set and that lacks a note would miss its cell.
+        // `reach` gives the slot a flag, if it has none. The flag is set last, when the token is noted with each of its cells: a token whose flag is
+        // set and that lacks a note would miss its cell.
         self.parking.reach(slot)?;
         note_all(&mut self.parking, slot, serial, cells)?;
         self.parking.set(slot);
