@@ -34,6 +34,7 @@ pub(crate) fn begin<P: Run + Naming>(
     requires words { words ≡ P.table.words }
 {
     let idle = supply.take(setup.groups)?;
+    // The first token is in the program's own group, whose word is 0. `true` has the book keep its journal.
     let pass = setup.groups.open(idle, 0).ok()?;
     let (book, token) = Book::<P>::new(alloc, setup.inputs, true, limit, words, pass).ok()?;
     let passes = Passes::new(alloc, supply);

@@ -13,7 +13,7 @@ use orc_rules::value::{Answer, Value};
 use orc_word::{Bit, Naming, Pass};
 use std::alloc::Global;
 
-/// Leaves a pass that isn't the last one to its group, or an idle one.
+/// Leaves a pass that isn't the last one to its group, or an idle one. None if it was the last one.
 pub(crate) fn leave_one<P: Run + Naming>(
     setup: &Setup<'_, P>,
     replay: &mut Replay<P>,
@@ -30,6 +30,7 @@ fn leave_last<P: Run + Naming>(
     pass: Pass<P>,
     leave: &mut Vec<Pass<P>>,
 ) -> Option<Ended<P>> {
+    // `leave` gives true for the last pass to a group, and puts the group among `lasts`.
     so(replay.passes.leave(setup.groups, pass).ok()?)?;
     let last = replay.passes.lasts.pop()?;
     let entries = replay.book.entries();
@@ -38,7 +39,7 @@ fn leave_last<P: Run + Naming>(
     Some(ended)
 }
 
-// Leaves the last pass to a killed group, the only one, which ends without an entry. No killed group's word is taken then.
+// Leaves the last pass to the only killed group, which the book closes without an entry. After that no killed group uses a word (`dying`).
 fn leave_killed<P: Run + Naming>(
     setup: &Setup<'_, P>,
     replay: &mut Replay<P>,
@@ -80,13 +81,14 @@ fn binds_not<P: Run + Naming>(
     }
 }
 
-// In `x <x< (Rwait(0) | 1)` the second token of the right side binds while the first one's call pends. Two passes are to be left, that of the token
-// and that of the call; call 1 is cancelled, and so is gone.
+// In `x <x< (Rwait(0) | 1)` token 5, at the 1, binds while call 1, that of `Rwait(0)`, pends. Two passes are to be left, that of the token and that
+// of the call. The bind cancels call 1, so the book refuses its answer as Gone.
 fn kill<P: Run + Naming>(
     setup: &Setup<'_, P>,
     replay: &mut Replay<P>,
     leave: &mut Vec<Pass<P>>,
 ) -> Option<()> {
+    // Token 1 opens cell 1, with token 2 in the left side and 3 in the right one. Token 3 forks to 4 and 5, and token 4 makes call 1.
     enter_all(
         setup,
         replay,
@@ -120,8 +122,10 @@ pub(crate) fn ends_after_a_kill<P: Run + Naming>(
     so(leave.len() == 1)?;
     let owed = leave.pop()?;
     so(owed.group() == Some(0))?;
+    // Token 2, in the left side, has waited for cell 1. Now it can publish.
     replay.wake(1).ok()?;
     let token = replay.take_token(2)?;
+    // The token's pass, to the program's own group.
     let own = replay.book.publish(setup.inputs, token).ok()?;
     leave_one(setup, &mut replay, owed)?;
     leave_run(setup, &mut replay, own, &mut leave)?;
@@ -141,12 +145,14 @@ fn won<P: Run + Naming>(setup: &Setup<'_, P>, token: Token<P>) -> Option<Token<P
         slot,
         mut pass,
     } = token;
+    // `mark` asks for a pass that names a group: an idle one ends the row here. Which group it names doesn't matter.
     pass.group()?;
     so(setup.groups.mark(&mut pass, Bit::Killed))?;
     Some(Token { serial, slot, pass })
 }
 
-/// The book refuses a bind as Gone if the group's mark *killed* was won before: it adds nothing, and the token comes back.
+/// In `x <x< 1` token 3, at the 1, is to bind. The book refuses the bind as Gone if the group's mark *killed* was won before: it adds nothing, and
+/// the token comes back.
 pub(crate) fn gives_a_lost_mark_back<P: Run + Naming>(
     alloc: Global,
     setup: &Setup<'_, P>,
@@ -154,6 +160,7 @@ pub(crate) fn gives_a_lost_mark_back<P: Run + Naming>(
 ) -> Option<()>
     requires { P.keeps ≡ true }
 {
+    // Token 1 opens cell 1, with token 2 in the left side and 3 in the right one.
     enter_all(setup, &mut replay, "open 1 1 2 3\n")?;
     let token = replay.take_token(3)?;
     let word = token.pass.group();
@@ -174,10 +181,12 @@ pub(crate) fn keeps_words_of_the_killed<P: Run + Naming>(
     requires { P.keeps ≡ true }
 {
     let mut leave = Vec::new(alloc);
-    // The first pruning of `(x <x< 1) >y> (z <z< 2)` takes word 1, the only one beside the program's own, and is bound.
+    // The first pruning of `(x <x< 1) >y> (z <z< 2)` takes word 1, the only one beside the program's own. Token 3 is in its left side. Token 4, at
+    // the 1, binds its cell.
     enter_all(setup, &mut replay, "seq 1 2\nopen 2 1 3 4\n")?;
     let token = replay.take_token(4)?;
     replay.bind_only(setup, token, &mut leave).ok()?;
+    // Token 3 has waited for cell 1, and sends its value into the `>y>`. Token 5 is at the second pruning, for which no word is free.
     replay.wake(1).ok()?;
     enter_all(setup, &mut replay, "send 3 5 1\n")?;
     let token = replay.take_token(5)?;
@@ -191,7 +200,8 @@ pub(crate) fn keeps_words_of_the_killed<P: Run + Naming>(
     has_written(alloc, setup, replay, lines)
 }
 
-/// A token that was out in a killed group is refused as Gone, and comes back with its pass. The group's word stays taken until that pass is left.
+/// In `x <x< (1 | 2)` token 4 binds while token 5 is out. The book refuses a bind of token 5 as Gone, and the token comes back with its pass. The
+/// killed group's word stays taken until that pass is left.
 pub(crate) fn tells_killed_tokens<P: Run + Naming>(
     alloc: Global,
     setup: &Setup<'_, P>,
@@ -200,9 +210,11 @@ pub(crate) fn tells_killed_tokens<P: Run + Naming>(
     requires { P.keeps ≡ true }
 {
     let mut leave = Vec::new(alloc);
+    // Token 1 opens cell 1, with token 2 in the left side and 3 in the right one, which forks to 4 and 5.
     enter_all(setup, &mut replay, "open 1 1 2 3\nfork 3 4 5\n")?;
     let token = replay.take_token(5)?;
     enter_all(setup, &mut replay, "bind 4 1 1\n")?;
+    // The bind has dropped the record of token 5, which the replay took out before.
     so(
         replay
             .book

@@ -66,5 +66,6 @@ fn main(rt: HostRuntime) -> io::Result<()> {
     let source = fs::read(&rt, source.as_str())?;
     let script = fs::read(&rt, script.as_str())?;
     let journal = fs::read(&rt, journal.as_str())?;
+    // The name of this program is the first word, so the journal is the fourth.
     tell_journal(&rt, alloc, &source, &script, &journal, words.len() > 4)
 }

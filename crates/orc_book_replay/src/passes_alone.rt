@@ -41,13 +41,14 @@ fn one_wins<P: Run + Naming>(
 
 // Whether a pass wins the mark that its group is killed. None of an idle pass.
 fn wins<P: Naming>(groups: &Groups<P>, pass: &mut Pass<P>) -> Option<bool> {
-    // `mark` requires that the pass names a group, and `look` below does too.
+    // `mark` requires that the pass names a group.
     pass.group()?;
     Some(groups.mark(pass, Bit::Killed))
 }
 
 // Whether a pass's group has the mark *killed*. None of an idle pass.
 fn is_killed<P: Naming>(groups: &Groups<P>, pass: &mut Pass<P>) -> Option<bool> {
+    // `look` requires that the pass names a group.
     pass.group()?;
     Some(groups.look(pass).killed)
 }

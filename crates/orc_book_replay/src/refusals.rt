@@ -25,6 +25,7 @@ fn leaves_early<P: Run + Naming>(
     requires { 2 ≤ P.table.words }
 {
     let Token { serial, slot, pass } = token;
+    // `leave` gives true for the last pass to a group, and adds the group to `lasts`.
     so(replay.passes.leave(setup.groups, pass).ok()?)?;
     let last = replay.passes.lasts.pop()?;
     let entries = replay.book.entries();
@@ -40,8 +41,8 @@ fn leaves_early<P: Run + Naming>(
     Some(Token { serial, slot, pass })
 }
 
-/// The left side of an otherwise yields nothing, since its cell is lost. The book doesn't close the program's own group while a token is in it, and
-/// does once the token has published.
+/// In `(Add(x, 1) <x< stop) ; 7` the left side of the otherwise yields nothing, since cell 1 is lost: token 3 has waited for it. The book doesn't
+/// close the program's own group while token 5, at the 7, is in it, and does once that token has published.
 pub(crate) fn is_live<P: Run + Naming>(
     alloc: Global,
     setup: &Setup<'_, P>,
@@ -50,6 +51,7 @@ pub(crate) fn is_live<P: Run + Naming>(
     requires keeps { P.keeps ≡ true }
     requires words { 2 ≤ P.table.words }
 {
+    // Token 3 is at `Add(x, 1)` and waits for cell 1, until token 4, at `stop`, has ended and the cell is lost. Then token 3 can't get a value.
     enter_all(setup, &mut replay, "other 1 2\nopen 2 1 3 4\n")?;
     so(replay.keeps(setup, 3))?;
     enter_all(setup, &mut replay, "end 4\n")?;
@@ -95,7 +97,8 @@ fn forks_not<P: Run + Naming>(
     }
 }
 
-/// A token at a `>x>` can only enter it: the book refuses each other call as Wrong, adds nothing, and gives the token back. Then the token goes on.
+/// In `(1 | 2) >x> Add(x, 10)` token 1 is at the `>x>` and can only enter it: the book refuses each other call as Wrong, adds nothing, and gives the
+/// token back. Then the token goes on.
 pub(crate) fn refuses_other_moves<P: Run + Naming>(
     alloc: Global,
     setup: &Setup<'_, P>,
@@ -106,6 +109,7 @@ pub(crate) fn refuses_other_moves<P: Run + Naming>(
     let mut leave = Vec::new(alloc);
     let mut args = Args::new();
     let token = replay.take_token(1)?;
+    // `wrong` gives the refused token back, for the next call. `args` and `leave` are lent.
     let token = wrong(replay.book.end(setup.inputs, token))?;
     let token = wrong(replay.book.publish(setup.inputs, token))?;
     let token = wrong(replay.book.call(setup.inputs, token, &mut args))?;
@@ -142,8 +146,8 @@ pub(crate) fn prunes_not<P: Run + Naming>(
     }
 }
 
-/// A pass that no record has names word 1, which the book would take next: a pruning is refused as Live then, and is done once that pass was left.
-/// `halt` of that word is refused as Gone, since the word stands for no group.
+/// In `x <x< 1` a pass that no record has, `stranger`, names word 1, which the book would take next for a group. The book refuses the pruning as Live
+/// then, and does it once that pass was left. `halt` of that word is refused as Gone, since the word stands for no group.
 pub(crate) fn refuses_words_that_are_named<P: Run + Naming>(
     alloc: Global,
     setup: &Setup<'_, P>,
@@ -157,6 +161,7 @@ pub(crate) fn refuses_words_that_are_named<P: Run + Naming>(
     let token = replay.take_token(1)?;
     let token = prunes_not(setup, &mut replay, token, BookFault::Live)?;
     so(replay.book.entries() == 0)?;
+    // `stranger` is the last pass of its word, so `leave` gives true and adds the word to `lasts`.
     so(replay.passes.leave(setup.groups, stranger).ok()?)?;
     let mut leave = Vec::new(alloc);
     match replay.book.halt(replay.passes.lasts.pop()?, &mut leave) {

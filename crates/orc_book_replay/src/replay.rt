@@ -170,6 +170,7 @@ impl<P: Run + Naming> Replay<P> {
         match entry {
             Entry::Return(number, _, value) => self.answer(*number, Answer::Value(*value))?,
             Entry::ReturnHalt(number) => self.answer(*number, Answer::Halt)?,
+            // `lost` ends a cell's right side. `right` ends the left side of the otherwise that `mark` names, and starts its right side.
             Entry::Lost(cell) => self.halt(setup, Side::Right(*cell))?,
             Entry::Right(mark, _) => self.halt(setup, Side::Left(*mark))?,
             Entry::Tick(time) => self.tick(setup, *time)?,
@@ -247,6 +248,7 @@ impl<P: Run + Naming> Replay<P> {
 
     /// Takes a new token, which has to have the next mark; else the error is Other.
     pub(crate) fn stand(&mut self, token: Token<P>) -> Result<(), Odd> {
+        // `slots` has an item for mark 0 too, so its length is the next mark.
         if token.serial != self.slots.len() as u64 {
             return Err(Odd::Other);
         }
@@ -368,7 +370,8 @@ impl<P: Run + Naming> Replay<P> {
         }
     }
 
-    // The entry `open`: an idle pass opens the word of the right side's group, and the book holds a pass to the token's group for that one.
+    // The entry `open`: `idle` opens the word of the right side's group. For that group the book holds `same`, a pass to the token's group, in which
+    // the right side's group is. `cell` is the cell that the entry names.
     fn prune(&mut self, setup: &Setup<'_, P>, token: Token<P>, cell: u64) -> Result<(), Odd> {
         let around = token.pass.group();
         let Some(same) = self.passes.same(setup.groups, &token.pass) else {
@@ -390,7 +393,8 @@ impl<P: Run + Naming> Replay<P> {
         }
     }
 
-    // The entry `other`: an idle pass opens the word of the group of the otherwise's left side, which this mark names.
+    // The entry `other`: an idle pass opens the word of the group of the otherwise's left side. `mark` is the token's: a later entry `right` names
+    // the left side by it.
     fn other(&mut self, setup: &Setup<'_, P>, token: Token<P>, mark: u64) -> Result<(), Odd> {
         let around = token.pass.group();
         let Some(idle) = self.passes.idle(setup.groups) else {
@@ -441,6 +445,7 @@ impl<P: Run + Naming> Replay<P> {
         {
             return Err(Odd::Memory);
         }
+        // The book adds what comes of the move to `self.step`, from which `sent` takes it.
         match self.book.step(
             setup.groups,
             setup.inputs,
@@ -453,7 +458,7 @@ impl<P: Run + Naming> Replay<P> {
         }
     }
 
-    // Takes what has come out of a step in which a token of the group with this word published into a `>x>`.
+    // Takes what has come out of a step in which a token of the group with the word `inside` published into a `>x>`: a new token, and maybe a pass.
     fn sent(&mut self, inside: Option<u32>) -> Result<(), Odd> {
         let Some(token) = self.step.born.pop() else {
             return Err(Odd::Other);
@@ -478,6 +483,7 @@ impl<P: Run + Naming> Replay<P> {
 
     // The entry `call`: the book has to give the call the number `wanted`, by which later entries name it.
     fn call(&mut self, setup: &Setup<'_, P>, token: Token<P>, wanted: u64) -> Result<(), Odd> {
+        // The book writes the call's arguments over `args`, which nobody reads here.
         match self.book.call(setup.inputs, token, &mut self.args) {
             Ok(number) if number == wanted => Ok(()),
             Ok(_) => Err(Odd::Other),
@@ -503,6 +509,7 @@ impl<P: Run + Naming> Replay<P> {
         let Some(word) = self.sides.right_side(inside, cell) else {
             return Err(Odd::Other);
         };
+        // The book adds the passes of all that goes to `leave`, and writes the numbers of the calls that go over `cancelled`.
         let leave = &mut self.leave;
         let cancelled = &mut self.cancelled;
         if let Err(refused) = self
@@ -511,9 +518,12 @@ impl<P: Run + Naming> Replay<P> {
         {
             return Err(Odd::from(refused.why));
         }
+        // The journal's next entries have to be the cancels of these calls.
         self.owed = self.cancelled.len();
+        // From now on the side's group and those inside it end without an entry.
         self.sides.kill(word);
         self.wake(cell)?;
+        // As long as killed groups use few words, tokens that went with them may keep their passes.
         if self.book.dying() < self.most_dying() {
             return Ok(());
         }
@@ -548,7 +558,7 @@ impl<P: Run + Naming> Replay<P> {
 
     // Compares a `cancel` entry with the next of the calls that the last bind has cancelled. Other if it is another one, or no more follow.
     fn cancel(&mut self, number: u64) -> Result<(), Odd> {
-        // Not reached: no more cancels are owed than there are.
+        // `at` is the place of the first cancel that the journal still owes. It never owes more cancels than there are.
         let Some(at) = self.cancelled.len().checked_sub(self.owed) else {
             return Err(Odd::Other);
         };
@@ -619,7 +629,8 @@ impl<P: Run + Naming> Replay<P> {
         Some(self.passes.lasts.swap_remove(place))
     }
 
-    // Takes the group of this side out of those whose last pass was left. None if it still has a pass, or isn't open.
+    // Takes the group of this side out of those whose last pass was left, so that the caller can close it. None if it still has a pass, or isn't
+    // open.
     fn last_of(&mut self, side: Side) -> Option<Last<P>> {
         let sides = &self.sides;
         let place = self
@@ -643,8 +654,8 @@ impl<P: Run + Naming> Replay<P> {
         }
     }
 
-    // Closes the group of a side that an entry ends: tokens that wait for its cell come out, or a token starts the right side of its otherwise. Other
-    // if the group ends without an entry.
+    // Closes the group of a side that an entry ends: tokens that wait for its cell come out, or a token starts the right side of its otherwise. The
+    // book may add to `leave` a pass to the group outside, which it held for the closed one. Other if the group ends without an entry.
     fn close(&mut self, last: Last<P>) -> Result<(), Odd> {
         match self.book.halt(last, &mut self.leave) {
             Ok(Ended::Lost(cell)) => self.wake(cell),

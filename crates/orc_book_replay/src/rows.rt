@@ -51,19 +51,28 @@ pub(crate) enum Step {
     HasEnded(bool),
 }
 
-/// What a row shows of a book. `show_with` has the function for each; the comments on these functions say what they show.
+/// What a row shows of a book. `show_with` has the function for each.
 #[derive(Clone, Copy)]
 pub(crate) enum Shows {
     /// These steps hold, one after another, on one book.
     Steps(&'static [Step]),
+    /// A supply gives the passes that it has, and those that come back.
     GivesPassesAgain,
+    /// Of two passes to a group one wins the mark *killed*, once, and so again when the group's word is opened anew.
     IsKilledOnce,
+    /// A killed group ends with its last pass, and the run with the last pass to the program's own group.
     EndsAfterAKill,
+    /// A bind is refused if the group's mark *killed* was won before.
     GivesALostMarkBack,
+    /// A killed group's word is taken until its last pass is left.
     KeepsWordsOfTheKilled,
+    /// A token that was out in a killed group is refused, and comes back with its pass.
     TellsKilledTokens,
+    /// The program's own group isn't closed while a token is in it.
     IsLive,
+    /// A token is refused every call of the book but that for its next move.
     RefusesOtherMoves,
+    /// A pruning is refused if a pass still names the word that its group would take.
     RefusesWordsThatAreNamed,
     /// If the token that has waited longest always moves next: the number of entries before a move is refused, the reason, and how many of the lent
     /// passes to the program's group (one, for a fork) remain then.
@@ -120,6 +129,7 @@ pub(crate) fn has_written<P: Run + Naming>(
 ) -> Option<()>
     requires { P.keeps ≡ true }
 {
+    // The first line says that the journal is of the second version, the one with cancels.
     let mut wanted = Vec::from_slice(alloc, b"orc-journal 2\n").ok()?;
     wanted.extend_from_slice(lines.as_bytes()).ok()?;
     let journal = replay.into_ledger().into_journal();

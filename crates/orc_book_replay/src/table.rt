@@ -75,8 +75,8 @@ const WAITS_FOR_TWO: [Step; 9] = [
     Step::HasEnded(true),
 ];
 
-// `Rwait(3)` is due at time 3 and answers a signal: before that, with 5, and a second time its answer is refused. `Ift(false)` halts, so the
-// otherwise goes to its right side, 9.
+// The program is `(Rwait(3) >> Ift(false)) ; 9`. Call 1, `Rwait(3)`, is due at time 3 and answers a signal: before that, with 5, and a second time
+// its answer is refused. `Ift(false)` halts, so the otherwise goes to its right side, 9.
 const IS_DUE: [Step; 13] = [
     Step::Does("other 1 2\nseq 2 3\ncall 3 1 Rwait(3)\n"),
     Step::Refuses(1, SIGNAL, BookFault::Wrong),
@@ -93,7 +93,7 @@ const IS_DUE: [Step; 13] = [
     Step::HasEnded(true),
 ];
 
-// The left value goes through the `>x>` whole before the right one. The rules allow this order.
+// In `(1 | 2) >x> Add(x, 10)` the 1 goes through the `>x>` and is published as 11 before the 2 is sent. The rules allow this order.
 const TWO_VALUES: [Step; 2] = [
     Step::Does(
         "seq 1 2\nfork 2 3 4\nsend 3 5 1\ncall 5 1 Add(1, 10)\nreturn 1 6 11\npublish 6 11\nsend 4 7 2\ncall 7 2 Add(2, 10)\nreturn 2 8 12\npublish 8 12\n",
@@ -101,27 +101,29 @@ const TWO_VALUES: [Step; 2] = [
     Step::HasEnded(true),
 ];
 
-// Token 4 has the value 1, token 5 the value 2: either may bind cell 1, for which token 2 waits. The one that binds decides what is published.
+// In `x <x< (1 | 2)` token 4 has the value 1, token 5 the value 2: either may bind cell 1, for which token 2 waits. Here token 4 does, so token 2
+// publishes 1.
 const BINDS_LEFT: [Step; 2] = [
     Step::Does("open 1 1 2 3\nfork 3 4 5\nbind 4 1 1\npublish 2 1\n"),
     Step::HasEnded(true),
 ];
 
-// The other one binds (`BINDS_LEFT`).
+// In `x <x< (1 | 2)` token 5 binds cell 1, with the value 2. Token 2, which waits for the cell, publishes 2.
 const BINDS_RIGHT: [Step; 2] = [
     Step::Does("open 1 1 2 3\nfork 3 4 5\nbind 5 1 2\npublish 2 2\n"),
     Step::HasEnded(true),
 ];
 
-// The 1 is published by token 3, in the left side of the otherwise, and so its right side never starts: no entry says that the side ends.
+// In `(1 ; 2) >x> Add(x, 1)` token 3, in the left side of the otherwise, publishes the 1. So the right side never starts, and no entry says that the
+// left side ends.
 const LEAVES_LEFT_SIDE: [Step; 2] = [
     Step::Does("seq 1 2\nother 2 3\nsend 3 4 1\ncall 4 1 Add(1, 1)\nreturn 1 5 2\npublish 5 2\n"),
     Step::HasEnded(true),
 ];
 
-// Call 1 is outside the pruning of cell 1. Inside its right side are calls 3 (beside), 4 (in an otherwise) and 2 (in a pruning), made in another
-// order than they stand in the program. The bind cancels these three in the order of their numbers. Without the cancels the journal has 13 entries.
-// Call 1 is never answered, so the run is quiet in the end and hasn't halted.
+// In `N() | (x <x< (N() | ((N() ; 2) | ((y <y< N()) | 1))))` call 1 is outside the pruning of cell 1. Inside its right side are calls 3 (beside), 4
+// (in an otherwise) and 2 (in a pruning), made in another order than they stand in the program. The bind cancels these three in the order of their
+// numbers. Without the cancels the journal has 13 entries. Call 1 is never answered, so the run is quiet in the end and hasn't halted.
 const CANCELS: [Step; 6] = [
     Step::Does("fork 1 2 3\ncall 2 1 N()\nopen 3 1 4 5\nfork 5 6 7\nfork 7 8 9\nfork 9 10 11\n"),
     Step::Does("other 8 12\nopen 10 2 13 14\ncall 14 2 N()\ncall 6 3 N()\ncall 12 4 N()\n"),
@@ -131,7 +133,8 @@ const CANCELS: [Step; 6] = [
     Step::Next(Next::Quiet),
 ];
 
-// The journal has 11 entries and one cancel, and its row's limit is 11.
+// In `x <x< (Rwait(2) >> 20 | Rwait(1) >> 10)` the second wait is over first: its token binds 10, which cancels call 1. The journal has 11 entries
+// and that cancel, and its row's limit is 11.
 const CANCELS_AT_THE_LIMIT: [Step; 4] = [
     Step::Does(
         "open 1 1 2 3\nfork 3 4 5\nseq 4 6\nseq 5 7\ncall 6 1 Rwait(2)\ncall 7 2 Rwait(1)\n",
@@ -141,7 +144,7 @@ const CANCELS_AT_THE_LIMIT: [Step; 4] = [
     Step::HasEnded(true),
 ];
 
-// Call 1, of `Add(2, 3)`, is due at once, until the bind of the other token cancels it.
+// In `x <x< (1 | Add(2, 3))` call 1, of `Add(2, 3)`, is due at once, until token 4, at the 1, binds and so cancels it.
 const IS_CANCELLED: [Step; 6] = [
     Step::Does("open 1 1 2 3\nfork 3 4 5\ncall 5 1 Add(2, 3)\n"),
     Step::Due(Some(1)),

@@ -153,6 +153,7 @@ impl Chains {
             self.links.push_reserved(ALONE);
         }
         self.take(place);
+        // The place that is the first of the group's chain so far, and comes to stand after this one.
         let Some(first) = reach_first(&mut self.firsts, group) else {
             // Group 0 isn't chained; for any other the place stays out of a chain, which costs time alone.
             return;

@@ -17,6 +17,7 @@ pub struct Dues {
     others: BTreeSet<(u64, u64)>,
 }
 
+// Contracts see one list of all notes. The first one is before all others, and without it there are no others.
 impl Model for Dues {
     ghost use Rattle.std.specs.Prelude.{ℕ, List};
     ghost use Rattle.orc_indexes.specs.Dues.{notes_of, IsFirst};
@@ -56,6 +57,7 @@ impl Dues {
         let note = (time, number);
         match self.first {
             None => self.first = Some(note),
+            // The earlier of the two is kept as the first, and the other one goes into the tree. If both are the same, nothing changes.
             Some(first) => {
                 if is_before(note, first) {
                     self.others.insert(first)?;
@@ -87,6 +89,7 @@ impl Dues {
         if first.0 == time && first.1 >= from {
             return Some(first.1);
         }
+        // The earliest of the other notes that isn't before this time and number. It counts if it has this time.
         match self.others.range((time, from)..).next() {
             Some(next) if next.0 == time => Some(next.1),
             // The next note has a later time, or there is none.
@@ -100,6 +103,7 @@ impl Dues {
         ensures gone { IsNoted self.old time number → length self.new < length self.old }
     {
         match self.first {
+            // The earliest of the others takes its place.
             Some(first) if first.0 == time && first.1 == number => {
                 self.first = self.others.pop_first();
             }

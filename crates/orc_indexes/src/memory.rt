@@ -15,7 +15,7 @@ pub fn push_within<T: Drop>(items: &mut Vec<T>, item: T)
     items.push_reserved(item);
 }
 
-// Not inlined, since a list seldom grows.
+// Has a list that is full grow by one item at least. The error is refused memory. Not inlined, since a list seldom grows.
 #[cold]
 #[inline(never)]
 fn grow<T: Drop>(items: &mut Vec<T>) -> Result<(), AllocError>

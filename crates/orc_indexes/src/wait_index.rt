@@ -43,6 +43,7 @@ impl Drop for Parking {
     }
 }
 
+// Contracts see the flags, and by cell the notes. `count` is how many flags are set.
 impl Model for Parking {
     ghost use Rattle.std.specs.Prelude.{◌≡◌, map, vec_items};
     ghost use Rattle.orc_indexes.specs.Same.{weight};

@@ -55,7 +55,7 @@ const NO_MEMORY: ScopeFault = ScopeFault {
     span: Span { start: 0, end: 0 },
 };
 
-// The program of a tree, with the sites of this table.
+// The program of a source's tree, with the sites of this table. The error is a fault of the source's names, or refused memory.
 fn checked(alloc: Global, ast: &Ast, answers: &Answers) -> Result<Program, ScopeFault>
     ensures { (s : Source) → IsAst ast.now s → Checks answers.now.names s result }
 {

@@ -39,7 +39,7 @@ pub struct Log<P: Run> {
     // The entries that aren't held, for contracts alone; and how many they are.
     past: GhostList<Entry>,
     passed: usize,
-    // The values that those publish, in order.
+    // The values that the entries which aren't held publish, in order.
     published: Vec<Value>,
     // Whether all entries that aren't held are known to be local. True while there are none.
     is_local: bool,
@@ -47,6 +47,8 @@ pub struct Log<P: Run> {
     program: PhantomData<P>,
 }
 
+// Contracts see the version and all entries, those of the past before those that are held. By `IsKnown` the fields are right about the past, which is
+// empty where the run keeps its journal; where it doesn't, nothing is held.
 impl<P: Run> Model for Log<P> {
     ghost use Rattle.std.specs.Prelude.{◌≡◌, length, ◌++◌};
     ghost use Rattle.orc_log.specs.Logs.{Logged, IsKnown};
@@ -58,8 +60,7 @@ impl<P: Run> Model for Log<P> {
     ghost invariant = { λ c. (c.keeps ≡ P.keeps) × IsKnown P.sites c.keeps c.past.items c.passed c.published.items c.is_local (length c.held.entries) };
 }
 
-// The past with an entry behind it. At run time the arguments aren't used: the caller's proof names them where it picks the items. The four
-// functions below do likewise.
+// The past with an entry behind it. At run time the arguments aren't used: the caller's proof names them where it picks the items.
 fn past_with_entry(past: &GhostList<Entry>, entry: &Entry) -> GhostList<Entry>
     ghost items: { List EntryOf }
     ensures { result.items ≡ items }
@@ -69,7 +70,7 @@ fn past_with_entry(past: &GhostList<Entry>, entry: &Entry) -> GhostList<Entry>
     ghost_list_of::<Entry>()
 }
 
-// The past with a call behind it.
+// The past with a call behind it. At run time the arguments aren't used: the caller's proof names them where it picks the items.
 fn past_with_call(
     past: &GhostList<Entry>,
     token: u64,
@@ -86,7 +87,7 @@ fn past_with_call(
     ghost_list_of::<Entry>()
 }
 
-// The past with a bind and its cancels behind it.
+// The past with a bind and its cancels behind it. At run time the arguments aren't used: the caller's proof names them where it picks the items.
 fn past_with_bind(
     past: &GhostList<Entry>,
     token: u64,
@@ -104,7 +105,7 @@ fn past_with_bind(
     ghost_list_of::<Entry>()
 }
 
-// The first `len` entries of the past.
+// The first `len` entries of the past. At run time the arguments aren't used: the caller's proof names them where it picks the items.
 fn first_of_past(past: &GhostList<Entry>, len: usize) -> GhostList<Entry>
     ghost items: { List EntryOf }
     ensures { result.items ≡ items }
@@ -114,7 +115,8 @@ fn first_of_past(past: &GhostList<Entry>, len: usize) -> GhostList<Entry>
     ghost_list_of::<Entry>()
 }
 
-// The past with a part's entries behind it, under the numbers that they have in this run.
+// The past with a part's entries behind it, under the numbers that they have in this run. At run time the arguments aren't used: the caller's proof
+// names them where it picks the items.
 fn past_with_part<P: Run>(
     past: &GhostList<Entry>,
     part: &Log<P>,
@@ -180,8 +182,8 @@ fn add_published(values: &mut Vec<Value>, entry: &Entry) -> Result<(), AllocErro
     }
 }
 
-// Appends a part's entries under the numbers that they have in this run, and has `calls` skip the numbers of the part's calls of sites, of which
-// there are `made`. If memory is refused, nothing changes.
+// Appends the entries of `part`, the journal of a sub-run, under the numbers that they have in this run, and has `calls` skip the numbers of the
+// part's calls of sites, of which there are `made`. If memory is refused, nothing changes.
 fn append_held(
     held: &mut Journal,
     part: &Journal,
@@ -350,8 +352,8 @@ impl<P: Run> Log<P> {
         self.published.is_empty() && self.held.is_silent()
     }
 
-    /// Appends the entries of a part under the numbers that they have in this run, and has `calls` skip the numbers of the part's calls of sites:
-    /// there are `made` of them, and none pends. The error is refused memory, and then nothing changes.
+    /// Appends the entries of `part`, the log of a sub-run, under the numbers that they have in this run, and has `calls` skip the numbers of its
+    /// calls of sites: there are `made` of them, and none pends. The error is refused memory, and then nothing changes.
     pub fn append(
         &mut self,
         part: &Log<P>,
@@ -372,8 +374,8 @@ impl<P: Run> Log<P> {
         }
     }
 
-    // `append` for a log that holds no entries: it adds the part's count and its published values. It doesn't follow whether the part's entries are
-    // local, so this isn't known any more.
+    // Appends the part, the log of a sub-run, to a log that holds no entries: adds its count and its published values, and has `calls` skip the
+    // numbers of the `made` calls of sites. It doesn't follow whether the part's entries are local, so this isn't known any more.
     fn append_known(
         &mut self,
         part: &Log<P>,
@@ -388,7 +390,7 @@ impl<P: Run> Log<P> {
         ensures made { OnOk result (calls.new.made ≡ calls.old.made + made) }
         ensures refused { OnErr result ((self.new ≡ self.old) × (calls.new.made ≡ calls.old.made)) }
     {
-        // Count, values and numbers in turn. If one is refused, those before it are put back.
+        // Count, values and numbers in turn. If one is refused, those before it are put back: `passed` and `known` are what the counts were before.
         let passed = self.passed;
         count_more(&mut self.passed, part.passed)?;
         let known = self.published.len();

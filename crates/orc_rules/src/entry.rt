@@ -106,7 +106,7 @@ pub enum RuleFault {
     Form,
     /// A new number that isn't the next one.
     Number,
-    /// A return with another answer than the table's, or where it says never.
+    /// A return with another answer than the table's, or of a call that by the table is never answered.
     Answer,
     /// A return not at its due time, or a tick that isn't allowed.
     Time,
@@ -136,7 +136,7 @@ impl RuleFault {
         }
     }
 
-    /// The process's status where an entry is refused for this reason.
+    /// The process's exit status where an entry is refused for this reason. Memory has a status of its own, since it says nothing of the entry.
     pub fn status(self) -> u8
         ensures { result ≡ reason_status self }
     {

@@ -173,6 +173,7 @@ impl Patterns {
         self.len += 1;
     }
 
+    // The patterns in their order, without the filling.
     fn as_slice(&self) -> &[Option<Value>]
         ensures { result.now ≡ self.now }
     {

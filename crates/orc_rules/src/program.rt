@@ -63,7 +63,8 @@ impl Terms {
         self.nodes.len()
     }
 
-    /// Adds a node and gives its number. Its parts must be there. The error is refused memory, and then nothing changes.
+    /// Adds a node and gives its number, from 0. The nodes that it names as its parts must be there. The error is refused memory, and then nothing
+    /// changes.
     pub fn push(&mut self, node: TermNode) -> Result<usize, AllocError>
         requires { HasParts (length self.old.nodes) node }
         ensures number { IfOk result (λ at. at ≡ length self.old.nodes) }
@@ -75,7 +76,7 @@ impl Terms {
         Ok(at)
     }
 
-    /// Adds a list of operands and gives its number. The error is refused memory, and then nothing changes.
+    /// Adds a list of operands and gives its number among the lists, from 0. The error is refused memory, and then nothing changes.
     pub fn push_list(&mut self, operands: Operands) -> Result<usize, AllocError>
         ensures number { IfOk result (λ at. at ≡ length self.old.lists) }
         ensures added { OnOk result (self.new ≡ record { nodes = self.old.nodes; lists = self.old.lists ++ operands ∷ [] }) }
@@ -123,7 +124,7 @@ impl Program {
         }
     }
 
-    // What `node` gives, with only the first clause of its contract; `node` adds the second one.
+    // The node of that number, `stop` if there is none. `node` gives the same, and adds the second clause of its contract.
     fn node_or_stop(&self, id: usize) -> TermNode
         ensures { result ≡ node_of self.now.nodes id }
     {

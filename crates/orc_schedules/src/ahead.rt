@@ -46,14 +46,16 @@ impl Tables {
     {
         let made = self.counts.after(alloc, answers, from.made, happening)?;
         let seen = self.lists.after(from.seen, sieve, happening)?;
+        // Another list of calls: some call to come may be answered otherwise.
         if made != from.made {
             return Ok(false);
         }
+        // The same list of what was seen: the sieve keeps nothing of the step.
         Ok(seen == from.seen)
     }
 
-    // The number of the term to which the first early step of the state leads that nobody sees; None if it has no such step. The errors are those of
-    // `next_early` and of `is_unseen`.
+    // The number of the term to which the first early step of the state leads that nobody sees; None if it has no such step. The error is refused
+    // memory, a count past its type, or one of the sieve's.
     fn early_term(
         &mut self,
         alloc: Global,
@@ -73,7 +75,7 @@ impl Tables {
         ensures ends { OnOk result (self.new.ends ≡ self.old.ends) }
     {
         let mut parts = Parts::of_term(alloc, from.term)?;
-        // The loop ends with the term's parts: the bound shows that it ends.
+        // The loop ends with the term's parts; its bound is for the prover, and the error behind it isn't reached.
         for _early in 0..u64::MAX {
             let made = self.counts.made(from.made);
             let Some(step) = parts.next_early(&mut self.terms, alloc, source, made)? else {

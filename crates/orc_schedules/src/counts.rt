@@ -42,6 +42,7 @@ impl Drop for Counts {
     }
 }
 
+// Contracts see the lists by their numbers, and nothing of the places.
 impl Model for Counts {
     ghost use Rattle.std.specs.Prelude.{List, map};
     ghost use Rattle.orc_search.specs.declared.made.Made.{Made};
@@ -54,9 +55,9 @@ impl Model for Counts {
 // Where the entry for some calls is in a list, or is to be put.
 #[derive(Clone, Copy)]
 struct Place {
-    // From 0, the list's length at most.
+    // The place in the list: from 0, the list's length at most.
     at: usize,
-    // Whether there is one for the same calls at this place; if not, the entry is to be put before what is there.
+    // Whether an entry for the same calls is at this place, which the new one replaces; if not, the new one is to be put before what is there.
     again: bool,
 }
 
@@ -283,9 +284,9 @@ impl Counts {
         Ok(to)
     }
 
-    /// The number of the list after one call more of the site with these arguments: calls to come are answered as before, but for the next one of
-    /// such calls, which is made now. A count goes no higher than to where all later calls are answered alike, so that a loop comes back to the same
-    /// list. The error is refused memory, or that no call can have so many arguments. The lists that were there stay, in both cases.
+    /// The number of the list after the list `at` and one call more of the site with these arguments: calls to come are answered as before, but for
+    /// the next one of such calls, which is made now. A count goes no higher than to where all later calls are answered alike, so that a loop comes
+    /// back to the same list. The error is refused memory, or that no call can have so many arguments. The lists that were there stay, in both cases.
     pub fn called(
         &mut self,
         alloc: Global,
@@ -305,6 +306,7 @@ impl Counts {
         };
         // After so many calls all further ones are answered alike: a script's last answer comes again and again.
         let last = answers.last_answer(site, &placed);
+        // How often the list says that such calls were made.
         let times = times_of(self.made(at), site, args);
         if times >= last {
             return Ok(at);
@@ -318,8 +320,8 @@ impl Counts {
         Ok(to)
     }
 
-    /// The number of the list after this happening: after a call as `called` has it, and the same list after anything else. The errors are those of
-    /// `called`. The lists that were there stay, in both cases.
+    /// The number of the list after the list `at` and this happening: after a call that of the list with the call counted (`called`), and `at` itself
+    /// after anything else. The error is refused memory, or that no call can have so many arguments. The lists that were there stay, in both cases.
     pub fn after(
         &mut self,
         alloc: Global,

@@ -136,7 +136,9 @@ impl<'p> Explorer<'p> {
         })
     }
 
-    // Begins a search and looks at up to `most` states: whether these were all. The error is refused memory, or one of the sieve's.
+    // Begins a search, looks at up to `most` states, and says whether these were all. `IsExplorer` says that what the searches share is right; after
+    // an error it may not be. The error is refused memory, or that a count is past its type: a call has too many arguments, say, or the test names
+    // 2^32 sites.
     fn explore(&mut self, alloc: Global, sieve: &Sieve, most: usize) -> Result<bool, AllocError>
         requires { IsExplorer self.old }
         ensures ready { OnOk result (IsExplorer self.new) }

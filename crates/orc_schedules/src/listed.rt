@@ -47,6 +47,7 @@ impl Drop for Moves {
     }
 }
 
+// Contracts see a list of what is kept, and nothing of the places.
 impl Model for Moves {
     ghost use Rattle.std.specs.Prelude.{List};
     ghost use Rattle.orc_schedules.specs.declared.listed.Listed.{Listed};
@@ -92,7 +93,7 @@ impl Moves {
         }
     }
 
-    // Whether what is kept there is that of this state's term after its list of calls.
+    // Whether the steps that are kept at the place `at` are those of this state's term after its list of calls.
     fn stands_at(&self, at: usize, from: Key) -> bool
         ensures { result ≡ true → IsOf self.now from at }
     {
@@ -112,7 +113,7 @@ impl Moves {
         }
     }
 
-    // Keeps one more behind the others: its place. The error is refused memory.
+    // Keeps one more behind the others, and gives its place, from 0. The error is refused memory.
     fn push(&mut self, listed: Listed) -> Result<usize, AllocError>
         ensures number { IfOk result (λ at. at ≡ length self.old) }
         ensures added { OnOk result (self.new ≡ self.old ++ listed ∷ []) }
@@ -122,7 +123,7 @@ impl Moves {
         Ok(at)
     }
 
-    // Notes that what has this hash is there. The error is refused memory.
+    // Notes that what is kept at the place `at` has this hash. The error is refused memory.
     fn remember(&mut self, hash: u64, at: usize) -> Result<(), AllocError>
         ensures { self.new ≡ self.old }
     {

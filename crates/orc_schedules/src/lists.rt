@@ -50,7 +50,7 @@ pub struct Longer {
 /// Lists of what was seen by their numbers, each with the time to which it comes; the empty list at time 0 has the number 0. A list that is asked for
 /// again has the same number again, unless one with an equal hash came between.
 pub struct Lists {
-    // What became of calls, each once, as the lists name it.
+    // What became of calls, each once. A list names it by its place here, from 0.
     calls: Once<Occurrence>,
     // The list of number n is at place n - 1. The empty one, of number 0, is at none.
     longer: Vec<Longer>,
@@ -69,6 +69,7 @@ impl Drop for Lists {
     }
 }
 
+// Contracts see what became of calls and the longer lists. Each list is longer than one with a lower number, and names only calls that are there.
 impl Model for Lists {
     ghost use Rattle.orc_schedules.specs.Lists.{AreBehind, AreMade, Linked};
 
@@ -135,6 +136,7 @@ impl Lists {
         if at == 0 {
             return None;
         }
+        // The empty list has the number 0 and no place, so each other one stands a place before its number.
         longer_at(&self.longer, at - 1)
     }
 
@@ -159,8 +161,8 @@ impl Lists {
         }
     }
 
-    // Pushes what was seen last in this list, with its time, unless only time passed. In clauses `what_of` gives that as claims have it, in a list of one
-    // or none, and `all_at` gives it the time. The error is refused memory.
+    // Pushes what was seen last in this list, with its time, unless only time passed. In clauses `what_of` gives that as claims have it, in a list of
+    // one or none, and `all_at` gives it the time. The error is refused memory.
     fn push(&self, happened: &mut Vec<Happened>, longer: Longer) -> Result<(), AllocError>
         ensures { OnOk result (happened.new.items ≡ happened.old.items ++ all_at longer.now (what_of self.now.calls longer.what)) }
     {
@@ -209,7 +211,7 @@ impl Lists {
     pub fn values(&self, alloc: Global, at: usize) -> Result<Vec<Value>, AllocError>
         ensures { IfOk result (λ v. v.items ≡ values_of (list_at (lists self.now) at)) }
     {
-        // From the end to the beginning, as in `happened`.
+        // From the end to the beginning, since a list knows the one before it; `rest` is the list that is left.
         let mut values = Vec::new(alloc);
         let mut rest = at;
         while let Some(longer) = self.made_of(rest) {
@@ -283,7 +285,8 @@ impl Lists {
         Ok(at)
     }
 
-    // The number of the list after a publication: the same list if the sieve doesn't keep it. The error is refused memory.
+    // The number of the list `at` with a publication of this value behind it: `at` itself if the sieve doesn't keep the publication. The error is
+    // refused memory.
     fn after_value(&mut self, at: usize, sieve: &Sieve, value: Value) -> Result<usize, AllocError>
         requires { at < length (lists self.old) }
         ensures there { IfOk result (λ to. to < length (lists self.new)) }
@@ -302,8 +305,8 @@ impl Lists {
         Ok(to)
     }
 
-    // The number of the list after what became of a call of the site with this number in the program's table: the same list if the sieve doesn't keep
-    // it. The error is refused memory, or one of the sieve's.
+    // The number of the list `at` with what became of a call behind it: `at` itself if the sieve doesn't keep that. `site` is the site's number in
+    // the program's table, `phase` what became of its call. The error is refused memory, or one of `Sieve::call`.
     fn after_call(
         &mut self,
         at: usize,
@@ -321,6 +324,7 @@ impl Lists {
         let Some(what) = sieve.call(site, args, phase)? else {
             return Ok(at);
         };
+        // A list names what became of a call by its place in `calls`.
         let number = self.number_of(what)?;
         let to = self.find(Longer {
             before: at,
@@ -330,8 +334,8 @@ impl Lists {
         Ok(to)
     }
 
-    /// The number of the list after so much time more: the same list if the sieve doesn't tell the times apart. The error is refused memory. The
-    /// lists that were there stay, in both cases.
+    /// The number of the list after the list `at` and `by` more units of logical time: `at` itself if the sieve doesn't tell the two times apart. The
+    /// error is refused memory. The lists that were there stay, in both cases.
     pub(crate) fn wait(&mut self, at: usize, sieve: &Sieve, by: u64) -> Result<usize, AllocError>
         requires { at < length (lists self.old) }
         ensures there { IfOk result (λ to. to < length (lists self.new)) }
@@ -353,8 +357,8 @@ impl Lists {
         Ok(to)
     }
 
-    /// The number of the list after this happening: one with that behind it if the sieve keeps it, and otherwise the same list. The error is refused
-    /// memory, or one of the sieve's. The lists that were there stay, in both cases.
+    /// The number of the list after the list `at` and this happening: one with the happening behind it if the sieve keeps it, and else `at` itself.
+    /// The error is refused memory, or one of `Sieve::call`. The lists that were there stay, in both cases.
     pub(crate) fn after(
         &mut self,
         at: usize,

@@ -32,6 +32,7 @@ impl<T: Drop> Drop for Once<T> {
     }
 }
 
+// Contracts see a list of items, and nothing of the places.
 impl<T> Model for Once<T> {
     ghost use Rattle.std.specs.Prelude.{List};
 

@@ -104,7 +104,7 @@ impl Tables {
         Ok(())
     }
 
-    // Adds the state that `from` becomes by a step of its term, unless it is there.
+    // Adds the state that `from` becomes by the step `successor` of its term, unless the state is there.
     fn follow(
         &mut self,
         alloc: Global,
@@ -125,6 +125,7 @@ impl Tables {
         ensures ends { OnOk result (self.new.ends ≡ self.old.ends) }
     {
         let happening = &successor.happening;
+        // The numbers of the two lists after the step: of the calls that were made, and of what was seen.
         let made = self.counts.after(alloc, answers, from.made, happening)?;
         let seen = self.lists.after(from.seen, sieve, happening)?;
         self.states.add(Key {
@@ -174,6 +175,7 @@ impl Tables {
         ensures added { OnOk result ((sites : List Site) → AddsOnly sites (IsWaited (kept_by sieve.now) sites self.old from self.new.longest) self.old self.new) }
         ensures ends { OnOk result (self.new.ends ≡ self.old.ends) }
     {
+        // The time that the pending call which is due first has left.
         let Some(by) = self.terms.summary(from.term).left else {
             return Ok(());
         };
@@ -181,6 +183,7 @@ impl Tables {
         if by == 0 {
             return Ok(());
         }
+        // The number of what the term becomes as `by` units of time pass.
         let term = changed(&mut self.terms, alloc, Change::Pass(by), from.term)?;
         let seen = self.lists.wait(from.seen, sieve, by)?;
         self.states.add(Key {
@@ -207,6 +210,7 @@ impl Tables {
     {
         let summary = self.terms.summary(from.term);
         let seen = from.seen;
+        // The term has halted.
         if summary.over {
             let halted = Told {
                 end: End::Halted,
@@ -229,8 +233,8 @@ impl Tables {
         Ok(())
     }
 
-    // Adds all that may come of `from`, and its end, if it is one. `from` is what early steps make of a state, and need not be one of the states
-    // itself.
+    // Adds all that may come of `from`, and its end, if it is one. `IsReady` says that each node of the program has the number of its term. `from` is
+    // what early steps make of a state, and need not be one of the states itself.
     fn expand(
         &mut self,
         alloc: Global,
@@ -243,7 +247,7 @@ impl Tables {
         requires from { IsKnown self.old from }
         requires ready { IsReady (smalls self.old.terms) source.now }
         requires listed { AreListed (small_definitions source.now.program.now) source.now.answers.now.sites (smalls self.old.terms) self.old.counts moves.old }
-        // What `moves` keeps stays right. The same holds below.
+        // What `moves` keeps stays right.
         ensures listed { OnOk result (AreListed (small_definitions source.now.program.now) source.now.answers.now.sites (smalls self.new.terms) self.new.counts moves.new) }
         ensures all { OnOk result (AreKnown self.new) }
         ensures kept { OnOk result (Keeps self.old self.new) }
@@ -252,6 +256,7 @@ impl Tables {
         // If the states before came one from another, so do they now: `from` is ahead of one that is there.
         ensures found { OnOk result ((begin : State) (behind : ℕ) → IsIn (record { term = behind; made = from.made; seen = from.seen }) self.old.states → LeadsTo (small_definitions source.now.program.now) (kept_by sieve.now) source.now.answers.now.sites self.old (record { term = behind; made = from.made; seen = from.seen }) from.term → AreFound (small_definitions source.now.program.now) (kept_by sieve.now) begin source.now.answers.now.sites self.old → AreFound (small_definitions source.now.program.now) (kept_by sieve.now) begin source.now.answers.now.sites self.new) }
     {
+        // `at` is the place in `moves` of all steps of the term after these calls. They are worked out unless they are kept there.
         let at = moves.find(&mut self.terms, alloc, source, &self.counts, from)?;
         let next = moves.next(at);
         self.follow_all(alloc, source.answers, sieve, from, next)?;
@@ -280,6 +285,7 @@ impl Tables {
         requires from { IsKnown self.old from }
         requires ready { IsReady (smalls self.old.terms) source.now }
         requires listed { AreListed (small_definitions source.now.program.now) source.now.answers.now.sites (smalls self.old.terms) self.old.counts moves.old }
+        // What `moves` keeps stays right.
         ensures listed { OnOk result (AreListed (small_definitions source.now.program.now) source.now.answers.now.sites (smalls self.new.terms) self.new.counts moves.new) }
         ensures all { OnOk result (AreKnown self.new) }
         ensures kept { OnOk result (Keeps self.old self.new) }
@@ -311,6 +317,7 @@ impl Tables {
         requires all { AreKnown self.old }
         requires ready { IsReady (smalls self.old.terms) source.now }
         requires listed { AreListed (small_definitions source.now.program.now) source.now.answers.now.sites (smalls self.old.terms) self.old.counts moves.old }
+        // What `moves` keeps stays right.
         ensures listed { OnOk result (AreListed (small_definitions source.now.program.now) source.now.answers.now.sites (smalls self.new.terms) self.new.counts moves.new) }
         ensures kept { OnOk result (Keeps self.old self.new) }
         // If these were all, each state was looked at.
@@ -332,7 +339,7 @@ impl Tables {
         Ok(self.states.len() <= most)
     }
 
-    // An end, with what was published. The error is refused memory.
+    // The end `told`, with the values that were published on the path to it. The error is refused memory.
     fn ended_of(&self, alloc: Global, told: Told) -> Result<Ended, AllocError>
         ensures { IfOk result (λ e. outcome_of e ≡ shown_of (outcome_at self.now told)) }
     {
@@ -355,7 +362,7 @@ impl Tables {
         Ok(ended)
     }
 
-    // An end, with when it was and what was seen. The error is refused memory.
+    // The end `told`, with its time and what was seen on the path to it. The error is refused memory.
     fn seen_of(&self, alloc: Global, told: Told) -> Result<Seen, AllocError>
         ensures { IfOk result (λ s. end_seen s ≡ outcome_at self.now told) }
     {
@@ -367,7 +374,8 @@ impl Tables {
         })
     }
 
-    // The end, with when it was and what was seen, if the claim fails there; None if it holds there. The error is refused memory.
+    // The end `told`, with its time and what was seen on the path to it, if the claim fails there; None if the claim holds there. The error is
+    // refused memory.
     fn failing_at(
         &self,
         alloc: Global,

@@ -18,12 +18,13 @@ use std::marker::Model;
 /// neither its calls nor its halts; and if the claim names a publication, the search keeps all of them.
 #[derive(Drop)]
 pub struct Watch {
-    // What the claim's events name, one after another; their slots are left out.
+    // What the claim's events name, one after another, without what they ask of the arguments.
     names: Vec<Simple>,
     // The latest time that is told apart: every later one counts as this one.
     latest: u64,
 }
 
+// Contracts see both fields.
 impl Model for Watch {
     ghost use Rattle.orc_schedules.specs.Watch.{Watched};
 
@@ -127,7 +128,7 @@ fn latest_of(plain: &Plain) -> u64
     }
 }
 
-// A copy of a name without the slots of its arguments: it names the same, and an empty vector needs no memory.
+// A copy of a name without what it asks of the arguments, at which a watch doesn't look: the copy names the same. Its empty vector needs no memory.
 fn outline(alloc: Global, name: &Simple) -> Simple
     ensures names { (w : What) → names_it result w ≡ names_it name.now w }
     ensures seen { sees result ≡ sees name.now }
@@ -149,14 +150,14 @@ impl Watch {
         }
     }
 
-    // Has it tell times apart up to this one.
+    // Has the watch tell times apart up to this one: every later time counts as this one.
     fn tell_until(&mut self, latest: u64)
         ensures { self.new ≡ record { names = self.old.names; latest = latest } }
     {
         self.latest = latest;
     }
 
-    // Has it keep what this names too. The error is refused memory, here and below.
+    // Has the watch keep what this name names too. The error is refused memory.
     fn add(&mut self, alloc: Global, name: &Simple) -> Result<(), AllocError>
         ensures names { OnOk result (NameSame self.new.names (self.old.names ++ name.now ∷ [])) }
         ensures seen { OnOk result (all_seen self.new.names ≡ all_seen (self.old.names ++ name.now ∷ [])) }
@@ -165,7 +166,7 @@ impl Watch {
         Ok(())
     }
 
-    // Has it keep what an event names too.
+    // Has the watch keep too what any of an event's alternatives names. The error is refused memory.
     fn add_event(&mut self, alloc: Global, event: &Event) -> Result<(), AllocError>
         ensures names { OnOk result (NameSame self.new.names (self.old.names ++ event.now.alternatives.items)) }
         ensures seen { OnOk result (all_seen self.new.names ≡ all_seen (self.old.names ++ event.now.alternatives.items)) }
@@ -182,7 +183,7 @@ impl Watch {
         }
     }
 
-    // Has it keep what two events name too.
+    // Has the watch keep what two events name too. The error is refused memory.
     fn add_events(&mut self, alloc: Global, event: &Event, other: &Event) -> Result<(), AllocError>
         ensures names { OnOk result (NameSame self.new.names (self.old.names ++ (event.now.alternatives.items ++ other.now.alternatives.items))) }
         ensures seen { OnOk result (all_seen self.new.names ≡ all_seen (self.old.names ++ (event.now.alternatives.items ++ other.now.alternatives.items))) }
@@ -192,8 +193,8 @@ impl Watch {
         Ok(())
     }
 
-    // Has it keep what a claim without its conditions names too. One on values needs all publications, one on the end nothing. `AtOnce` has its
-    // event kept, though `of_claim` gives no watch for it.
+    // Has the watch keep what a claim without its conditions names too. The error is refused memory. A claim on values needs all publications, one on
+    // the end nothing. `AtOnce` has its event kept, though `of_claim` gives no watch for it.
     fn add_plain(&mut self, alloc: Global, plain: &Plain) -> Result<(), AllocError>
         ensures names { OnOk result (NameSame self.new.names (self.old.names ++ watched_plain plain.now)) }
         ensures seen { OnOk result (all_seen self.new.names ≡ all_seen (self.old.names ++ watched_plain plain.now)) }
@@ -210,7 +211,7 @@ impl Watch {
         }
     }
 
-    // Has it keep what conditions name too.
+    // Has the watch keep what the events of these conditions name too. The error is refused memory.
     fn add_conditions(&mut self, alloc: Global, conditions: &[Condition]) -> Result<(), AllocError>
         ensures names { OnOk result (NameSame self.new.names (self.old.names ++ watched_conditions conditions.now)) }
         ensures seen { OnOk result (all_seen self.new.names ≡ all_seen (self.old.names ++ watched_conditions conditions.now)) }
@@ -227,7 +228,7 @@ impl Watch {
         }
     }
 
-    // A watch for all that a claim names, be it something that a search can see or not.
+    // A watch for all that a claim names, be it something that a search can see or not. The error is refused memory.
     fn of_all(alloc: Global, claim: &Claim) -> Result<Watch, AllocError>
         ensures names { IfOk result (λ w. NameSame w.names (watched claim.now)) }
         ensures seen { IfOk result (λ w. all_seen w.names ≡ all_seen (watched claim.now)) }

@@ -80,7 +80,7 @@ impl<P: Naming> Local<P> {
         if self.word == word {
             return;
         }
-        // The prover asks for a bound, here and in `settle`. Each round takes a pass.
+        // The prover asks for a bound. Each round takes a pass.
         for _ in 0..u64::MAX {
             match self.births.same.pop() {
                 Some(pass) => self.put(pass),
@@ -142,6 +142,7 @@ impl<P: Naming> Local<P> {
 
     /// Leaves the passes that are to be left, but some to the group in which the worker is: they are for births. No lock is needed.
     pub(crate) fn settle(&mut self, groups: &Groups<P>) {
+        // The prover asks for a bound. Each round takes a pass.
         for _ in 0..u64::MAX {
             match self.out.leave.pop() {
                 Some(pass) => self.settle_one(groups, pass),

@@ -33,7 +33,7 @@ impl<P: Run + Naming, C: Drop> Shared<P, C> {
         token: Token<P>,
     ) -> Step {
         let view = self.book.view(setup.inputs, token.slot, token.serial);
-        // A bind has dropped the token's record meanwhile.
+        // Without a view a bind has dropped the token's record meanwhile: the worker has to leave the pass.
         let Some(view) = view else {
             local.put(token.pass);
             return Step::On;
@@ -54,6 +54,7 @@ impl<P: Run + Naming, C: Drop> Shared<P, C> {
                     return Step::On;
                 }
                 let step = self.move_on(setup, local, token);
+                // The token that moves next is the last one: after a fork that is to be the left side's.
                 if let Action::Fork = what {
                     turn_last_two(local);
                 }
@@ -62,7 +63,8 @@ impl<P: Run + Naming, C: Drop> Shared<P, C> {
         }
     }
 
-    // A move by the book's `step`: it makes no call and binds no cell. The passes for its births were prepared.
+    // A move by the book's `step`: it makes no call and binds no cell. The passes for its births were prepared. The book adds the tokens and the
+    // passes to leave that come of it to `local.out`.
     fn move_on(&mut self, setup: &Setup<'_, P>, local: &mut Local<P>, token: Token<P>) -> Step {
         match self.book.step(
             setup.groups,
@@ -97,7 +99,7 @@ impl<P: Run + Naming, C: Drop> Shared<P, C> {
         }
     }
 
-    // A publication of the program.
+    // A publication of the program. The token ends with it, and the worker has to leave its pass.
     fn publish(&mut self, setup: &Setup<'_, P>, local: &mut Local<P>, token: Token<P>) -> Step {
         match self.book.publish(setup.inputs, token) {
             Ok(pass) => {
@@ -116,6 +118,7 @@ impl<P: Run + Naming, C: Drop> Shared<P, C> {
         token: Token<P>,
         cell: u64,
     ) -> Step {
+        // The book adds the passes of all that goes to `leave`, and writes the numbers of the calls that go over `cancelled`.
         let leave = &mut local.out.leave;
         let cancelled = &mut self.cancelled;
         match self
@@ -152,6 +155,7 @@ impl<P: Run + Naming, C: Drop> Shared<P, C> {
 
     // A call of a site: it is recorded here, and made outside the lock.
     fn call(&mut self, setup: &Setup<'_, P>, local: &mut Local<P>, token: Token<P>) -> Step {
+        // The book writes the call's arguments over `args`. Nobody reads them here: `request` gives them again.
         let args = &mut self.args;
         match self.book.call(setup.inputs, token, args) {
             Ok(number) => Step::Calls(number),

@@ -62,7 +62,7 @@ impl Poller {
         }
     }
 
-    /// Hands the time to a call and polls it once.
+    /// Hands the logical time `now` to a call and polls it once. Late if the call doesn't answer though it is due by then.
     pub(crate) fn ask<C: SiteFuture>(&self, call: &mut C, now: u64) -> Polled {
         call.at(now);
         match self.poll(call) {

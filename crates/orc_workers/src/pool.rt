@@ -136,8 +136,8 @@ where
     )
 }
 
-// Does what `run_graph` does, once the words of the groups are made. The type P names the run, whose program and sites the caller picks, and the
-// table of words. Faults are as of `run_graph`.
+// Runs a program with workers, once its graph is built and the words of the groups are made. In contracts `P` stands for the run, with its program
+// and sites, and for the table of words; the caller picks it. The faults are those of `run_pool` but Range.
 fn run_named<'x, P, R, S, G>(
     rt: &'x R,
     alloc: Global,
@@ -173,6 +173,7 @@ where
         // Never so: the supply is new, and so is word 0 below. No contract says so.
         return Err(EngineFault::Broken);
     };
+    // The first token is in the program's own group, whose word is 0.
     let Ok(pass) = groups.open(idle, 0) else {
         return Err(EngineFault::Broken);
     };
@@ -207,8 +208,8 @@ where
     }
 }
 
-// Lets all workers work until the run has stopped. The fault is Memory if memory for them was refused, or Broken if there are too few passes or no
-// workers.
+// Lets all workers work until the run has stopped. The first worker, on the calling thread, begins with `token`, the run's first. `why` is bound once
+// the run stops, to the reason. The fault is Memory if memory for the workers was refused, or Broken if there are too few passes or no workers.
 fn play<'x, P, R, S, G>(
     rt: &'x R,
     alloc: Global,
@@ -232,7 +233,7 @@ where
     let Ok(mut queues) = worker_queues::<Token<P>>(alloc, workers) else {
         return Err(EngineFault::Memory);
     };
-    // There is a queue for each worker, and one worker at least.
+    // The first worker's queue. It is there, since each worker has a queue and there is one worker at least. The others' queues stay in the list.
     let Some(queue) = queues.pop() else {
         return Err(EngineFault::Broken);
     };
@@ -273,6 +274,7 @@ fn local_of<P: Naming>(
 ) -> Result<Local<P>, EngineFault>
     ensures range { IfErr result (λ fault. fault ≡ EngineFault.Range → ⊥) }
 {
+    // Moves passes of the run's supply into one of the worker's own.
     match supply.part(groups, PASSES) {
         Some(part) => Ok(Local::new(alloc, part)),
         None => Err(EngineFault::Broken),

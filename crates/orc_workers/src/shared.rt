@@ -22,7 +22,7 @@ const MOVES: u32 = 16;
 /// The most moves in a turn, if all other workers rest.
 const MOVES_ALONE: u32 = 64;
 
-/// The result of a call that a worker has made or polled outside the lock.
+/// The result of a call that a worker has made or polled outside the lock. `C` is the sites' own type of a call, which is polled for its answer.
 #[derive(Drop)]
 pub(crate) enum CallEvent<C: Drop> {
     /// The worker has made and polled no call since its last turn.
@@ -209,12 +209,12 @@ impl<P: Run + Naming, C: Drop> Shared<P, C> {
 
     // Keeps a call that waits until it is due, if it still pends.
     fn park(&mut self, answers: &Answers, number: u64, due: Due, call: Box<C>) {
-        // The call was cancelled meanwhile, and is dropped.
+        // A call that doesn't pend was cancelled meanwhile, and is dropped.
         let Some(request) = self.request(number) else {
             return;
         };
+        // What the table says of this call. The call says itself when it is due (`due`), and that has to be when the table has it answered.
         let found = answers.find(request.site, &request.args, request.nth);
-        // The call says itself when it is due, and that has to be what the table says.
         if due != due_after(request.made_at, found) {
             self.stop(Stop::Site(number));
             return;
@@ -239,7 +239,7 @@ impl<P: Run + Naming, C: Drop> Shared<P, C> {
     // What the call with this number asks; None if it doesn't pend.
     fn request(&self, number: u64) -> Option<Request> {
         let asked = self.book.request(number)?;
-        // It counts from 1, as a `Request` asks. The book's contract doesn't say so.
+        // `nth` counts from 1, as a `Request` asks. That it does isn't in the book's contract, so it is tested here.
         if asked.nth < 1 {
             return None;
         }
@@ -252,7 +252,7 @@ impl<P: Run + Naming, C: Drop> Shared<P, C> {
         })
     }
 
-    /// The groups that a worker was the last to leave are closed.
+    /// Closes the groups that a worker was the last to leave; none once the run has stopped.
     pub(crate) fn close_groups(&mut self, local: &mut Local<P>) {
         // The prover asks for a bound. Each round closes a group.
         for _ in 0..u64::MAX {

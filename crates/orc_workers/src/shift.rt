@@ -100,6 +100,7 @@ impl<'h, P: Run + Naming, R: Wait, S: Sites, G: Gate> Shift<'h, P, R, S, G> {
 
     /// Gives the work that the worker has to do outside the lock next. The call blocks while other workers have all that is left.
     pub(crate) fn next_work(&mut self) -> OutsideWork<S::Call> {
+        // If memory was refused since the last turn, the run stops here.
         self.tell_lost();
         if self.finds_end() {
             OutsideWork::Over
@@ -150,6 +151,7 @@ impl<'h, P: Run + Naming, R: Wait, S: Sites, G: Gate> Shift<'h, P, R, S, G> {
         let context = self.context;
         let mut shared = context.shared.lock(self.rt);
         let work = shared.work(&context.setup, &mut self.local, event, begins_round);
+        // Wakes workers at rest: all if the run has stopped, and one for a due call if this worker goes outside and may wait there.
         context.tell(&mut shared, &work);
         work
     }
@@ -253,7 +255,7 @@ impl<'h, P: Run + Naming, R: Wait, S: Sites, G: Gate> Shift<'h, P, R, S, G> {
         }
     }
 
-    // Memory was refused.
+    // Stops the run, since memory was refused, and wakes the workers at rest. It takes the lock.
     fn stop_for_memory(&self) {
         self.context
             .stop(self.rt, Stop::Refused(LedgerFault::Memory));
@@ -273,8 +275,9 @@ impl<'h, P: Run + Naming, R: Wait, S: Sites, G: Gate> Shift<'h, P, R, S, G> {
 
     // Leaves all its passes, and closes the groups that it is the last to leave.
     fn leave_groups(&mut self) {
+        // In no group from now on: the passes for births are put among those to leave.
         self.local.go_to(None);
-        // The prover asks for a bound, here and below. A group that is closed may have passes to leave again.
+        // The prover asks for a bound. To close a group may give passes to leave, so this is repeated.
         for _ in 0..u64::MAX {
             self.settle();
             if self.local.is_settled() || self.finds_end() {
@@ -290,6 +293,7 @@ impl<'h, P: Run + Naming, R: Wait, S: Sites, G: Gate> Shift<'h, P, R, S, G> {
     // Frees words: a killed group uses its word until the tokens that were in it have left. Takes all tokens that it finds in the queues, and drops
     // those that have no record any more.
     fn make_room(&mut self) {
+        // The prover asks for a bound. Each round takes a token from some queue.
         for _ in 0..u64::MAX {
             match self.queue.next() {
                 Some(token) => self.local.hold(token),
@@ -311,7 +315,8 @@ impl<'h, P: Run + Naming, R: Wait, S: Sites, G: Gate> Shift<'h, P, R, S, G> {
         shared.drop_gone(context.alloc, &context.setup, &mut self.local);
     }
 
-    // Makes a call, and asks for its answer. A call that was recorded is made even if the run has stopped meanwhile: the journal has it.
+    // Makes a call once it has passed the gate, and polls it once at the time at which it is made. A call that was recorded is made even if the run
+    // has stopped meanwhile: the journal has it.
     fn make(&self, request: Request) -> CallEvent<S::Call> {
         self.context.gate.pass(request.number);
         let Ok(mut call) = self.context.sites.call(&request) else {
@@ -327,7 +332,7 @@ impl<'h, P: Run + Naming, R: Wait, S: Sites, G: Gate> Shift<'h, P, R, S, G> {
         }
     }
 
-    // Asks a call again, which is due.
+    // Polls the call with this number again, which is due at the time `now`. It has to answer: if it waits even so, it is late.
     fn ask(&self, number: u64, now: u64, mut call: Box<S::Call>) -> CallEvent<S::Call>
         requires { has_read self.now.why ≡ None }
     {
@@ -342,10 +347,11 @@ impl<'h, P: Run + Naming, R: Wait, S: Sites, G: Gate> Shift<'h, P, R, S, G> {
     fn rest(&mut self) -> OutsideWork<S::Call> {
         self.local.go_to(None);
         self.settle();
-        // It was the last to leave a group, or a pass is to be left. The next turn closes the group.
+        // The worker was the last to leave a group, or a pass is to be left. The next turn closes the group.
         if !self.local.is_settled() {
             return OutsideWork::None;
         }
+        // `seen` is the number of offers so far: an offer after this look keeps the worker from resting.
         let (work, seen) = self.context.look(self.rt);
         if !matches!(&work, OutsideWork::Rest) {
             return work;
