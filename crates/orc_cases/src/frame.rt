@@ -233,7 +233,8 @@ impl Frame {
         Ok(text)
     }
 
-    // The script of the way with this number: the lines of its services, those that are handed in, and last the halts. The error is refused memory.
+    // The script of the way with this number: the lines of its services, then those that the caller hands in (`behind`), and last a line
+    // `NAME() = halt` for each name that the test's services have and the case's haven't (`halts`). The error is refused memory.
     fn script(&self, alloc: Global, number: usize, behind: &[u8]) -> Result<Vec<u8>, AllocError>
         requires counted { IsCounted self.now }
         requires within { number < self.now.count }

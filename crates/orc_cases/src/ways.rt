@@ -106,6 +106,7 @@ impl Ways {
     ) -> Result<Vec<Vec<u8>>, AllocError>
         ensures { IfOk result (λ ts. map (λ t. t.items) ts.items ≡ scripts self.now most behind.now) }
     {
+        // The number that each way has in the frame, in the order of the ways.
         let numbers = self.numbers.as_slice();
         let tried = numbers.len().min(most as usize);
         let scripts = self.frame.scripts(alloc, &numbers[..tried], behind)?;

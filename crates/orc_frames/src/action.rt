@@ -56,8 +56,8 @@ pub enum Action {
     Wait(u64),
 }
 
-/// What a token on this value does: it depends on what takes the value, from step `from` outwards. If nothing does, or if there is no step `from`,
-/// the program publishes the value.
+/// What a token on this value does: it depends on what takes the value, from step `from` outwards. Each step enters the left side of a `>x>` or a
+/// `;`, or the right side of a `<x<`. If nothing takes the value, or if there is no step `from`, the program publishes it.
 pub fn publish_action(steps: &Steps, from: usize, value: Value) -> Action
     requires { AreOutwards steps.now.items }
     ensures { (code : ℕ → Term) (env : ℕ → Env) (left : ℕ → Bool) → result ≡ taken value (seen left (path code env steps.now.items from)) }
@@ -72,8 +72,8 @@ pub fn publish_action(steps: &Steps, from: usize, value: Value) -> Action
     }
 }
 
-/// Whether each operand of a call has a value in the scope with the number `scope`; `cells` says what each cell has become. The contract promises it
-/// of `true` alone.
+/// Whether each operand of a call has a value in the scope with the number `scope`; `cells` says what each cell has become. The contract promises of
+/// `true` alone that `site_call_action`, begun with all these operands, gives `Call`.
 pub fn are_values(
     scopes: &[StoredScope],
     cells: &[Bound],

@@ -1,5 +1,6 @@
-//! Which places of a table hold the members of a group. A *chain* is a doubly linked list of these places, so that a place is added and removed in
-//! constant time. It is proved only that a listing names no place twice. Otherwise chains are hints: a wrong one costs time, nothing else.
+//! Which places of a table hold the members of a group. A *group* is what runs in one branch: a right side of `<x<`, a left side of `;`, or the whole
+//! program. A *chain* is a doubly linked list of these places, so that a place is added and removed in constant time. It is proved only that a
+//! listing names no place twice. Otherwise chains are hints: a wrong one costs time, nothing else.
 
 ghost use Rattle.std.specs.Prelude.{◌≡◌, ◌≤◌, ℕ, slice_get};
 ghost use Rattle.orc_indexes.specs.Same.{weight};
@@ -12,7 +13,7 @@ use std::alloc::{AllocError, Global};
 // A place in the chain of its group. The members of group 0, the program's own, aren't chained, since that group is never dropped.
 #[derive(Clone, Copy)]
 struct Link {
-    // The group; 0 for a place in no chain.
+    // The number of the group in whose chain the place is; 0 for a place in no chain.
     group: u32,
     // The place before it in the chain, whose member was put in later; `NOWHERE` for the first.
     before: usize,

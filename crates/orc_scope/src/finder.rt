@@ -129,8 +129,9 @@ pub fn number_fault(number: usize, span: Span) -> Option<ScopeFault>
     }
 }
 
-// How many nodes of the written-out term a node makes, as an argument of that number, from 1, or, at 0, as no argument. A literal or a variable stays
-// in the call's list of arguments and makes none; any other argument, `stop` too, makes its own and that of the pruning of its new variable.
+// How many nodes a node makes in the written-out term, where a call `f(G)` is `f(x) <x< G` with a new variable x. `number` is that of an argument,
+// from 1, and 0 for any other part. An argument that is a literal or a variable stays in the call's list and makes none; any other one, `stop` too,
+// makes two: its own and that of the pruning. Any other part makes one.
 fn weight(number: usize, part: Part) -> usize
     ensures value { result ≡ weight_of number (sort part.entry) }
 {

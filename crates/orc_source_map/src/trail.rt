@@ -236,7 +236,7 @@ impl Trail {
         Ok(())
     }
 
-    // `return` with a value: the token `first` stands on it, in the call's step.
+    // `return` with a value: the token `first` stands on that value, in the call's step. A value is at no spot, so the token has the call's number.
     fn answer(&mut self, call: u64, first: u64) -> Result<(), AllocError> {
         if let Some(step) = self.calls.remove(&call) {
             let token = Token {

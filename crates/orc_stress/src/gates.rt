@@ -62,6 +62,7 @@ impl Gate for Turnstile {
         self.ran_out.fetch_add(1, Ordering::SeqCst);
     }
 
+    // False: then `run_pool` passes the gate with each call.
     fn is_open(&self) -> bool {
         false
     }

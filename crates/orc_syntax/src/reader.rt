@@ -373,7 +373,8 @@ impl<'a> Reader<'a> {
         }
     }
 
-    // Takes the word `def`. Definitions stand before the main expression, and nowhere inside another expression: there the error is Wanted.
+    // Takes the word `def`. Definitions stand before the main expression, where no frame waits on the stack. Inside another expression one does:
+    // there the error is Wanted.
     #[inline(always)]
     fn begin_definition(&self) -> Result<Mode<'a>, StepError>
         ensures { Leaves result self.now (if machine.takes_def (stack self.now) then Ok (machine.state (machine.Heads machine.DefWord) (context self.now) (nodes self.now) (stack self.now)) else Err expression) }

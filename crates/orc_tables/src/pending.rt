@@ -206,7 +206,7 @@ fn drop_inside(
     }
 }
 
-// Whether the call with this number pends and is due at this time.
+// Whether the call with this number pends and is due at this time. `places` has to lead to each call (`ArePlaced`), or a call could be missed.
 fn is_due(items: &Vec<Call>, places: &Vec<usize>, time: u64, number: u64) -> bool
     requires { ArePlaced items.now.items places.now.items }
     ensures due { result ≡ true → (c : Its) × IsIn c items.now.items × (c.number ≡ number) × (due_of c ≡ Some time) }

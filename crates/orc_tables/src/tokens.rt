@@ -289,7 +289,8 @@ impl Tokens {
         self.chains.list(group, slots);
     }
 
-    /// Removes the token in this slot, which has to hold one. The slot is free then.
+    /// Removes the token in this slot, which has to hold one. The slot is free then. A token that is parked afterwards was so before, and has kept
+    /// its notes.
     #[inline(always)]
     pub fn remove(&mut self, slot: usize)
         requires { (t : Its) × IsHeld self.old.items slot t }
