@@ -18,7 +18,8 @@ use std::marker::Model;
 pub struct Counts {
     // The counts of the calls without arguments, for which nothing has to be hashed.
     bare: BareCounts,
-    // The calls with arguments, by the key of a site with its arguments: which such call is the next one, from 1; the first, if the key isn't there.
+    // The calls with arguments. The key is the site with its arguments (`Key`), and the value is which such call is the next one, from 1; 1, if the
+    // key isn't there.
     next: HashMap<Vec<u64>, u64, BuildHasherDefault<FoldHasher>>,
     // Where memory comes from.
     alloc: Global,
@@ -46,7 +47,7 @@ pub struct NextCall {
 }
 
 impl Counts {
-    /// No call is counted yet.
+    /// Counts in which no call is counted yet.
     pub fn new(alloc: Global) -> Counts
         ensures { result ≡ [] }
     {
@@ -57,7 +58,7 @@ impl Counts {
         }
     }
 
-    /// A copy. The error is refused memory.
+    /// A copy of these counts. The error is refused memory.
     pub fn copy(&self) -> Result<Counts, AllocError>
         ensures { IfOk result (λ c. c ≡ self.now) }
     {
@@ -70,17 +71,18 @@ impl Counts {
         })
     }
 
-    // Which call of a site without arguments the next one is, from 1.
+    // Which call without arguments of the site with this number the next one is, from 1.
     #[inline(always)]
     fn nth_bare(&self, site: u32) -> u64
         ensures nth { result ≡ nth_in self.now site [] }
         ensures from_1 { 1 ≤ result }
     {
         let next = self.bare.get(site);
+        // 0: no such call was counted.
         if next == 0 { 1 } else { next }
     }
 
-    // Which call of a site with these arguments, of which there are some, the next one is, from 1.
+    // Which call of a site with these arguments, of which there are some, the next one is, from 1. `site` is the site's number.
     // Not inlined: a caller would clear the key's 272 bytes at each call of a site, counted or not.
     #[inline(never)]
     fn nth_by_key(&self, site: u32, args: &Args) -> u64
@@ -96,7 +98,7 @@ impl Counts {
         }
     }
 
-    // Which call of a site with these arguments the next one is, from 1; 1 for a site whose calls aren't counted.
+    // Which call of the site with this number and these arguments the next one is, from 1; 1 for a site whose calls aren't counted.
     #[inline(always)]
     fn nth(&self, site: u32, args: &Args) -> u64
         ensures nth { result ≡ nth_in self.now site args.now }
@@ -109,8 +111,9 @@ impl Counts {
         }
     }
 
-    /// The next call of a site with these arguments: which one it is and what the table of sites says of it. The counts are looked into once
-    /// where a script answers the site, and else not at all.
+    /// The next call of the site with this number and these arguments: which one it is and what the table of sites says of it. The counts are looked
+    /// into once where a script answers the site, and else not at all. The clauses hold where the counts are those of the calls that were made
+    /// (`AreCounted`).
     #[inline(always)]
     pub fn next_call(&self, answers: &Answers, site: u32, args: &Args) -> NextCall
         ensures nth { NextNth answers.now.sites self.now site args.now result.nth }
@@ -128,8 +131,8 @@ impl Counts {
         }
     }
 
-    /// Counts a call of a site with these arguments if a script answers the site; else nothing changes. The error is refused memory, and then nothing
-    /// changes either.
+    /// Counts a call of the site with this number and these arguments if a script answers the site; else nothing changes, since no other site's
+    /// answers depend on how many calls there were. The error is refused memory, and then nothing changes either.
     pub fn add(&mut self, answers: &Answers, site: u32, args: &Args) -> Result<(), AllocError>
         ensures added { OnOk result (CountsCall answers.now.sites site args.now self.old self.new) }
         ensures refused { OnErr result (self.new ≡ self.old) }
@@ -140,7 +143,7 @@ impl Counts {
         Ok(())
     }
 
-    // One more call of a site with these arguments. Where memory is refused nothing changes.
+    // Counts one more call of the site with this number and these arguments. The error is refused memory, and then nothing changes.
     fn add_one(&mut self, site: u32, args: &Args) -> Result<(), AllocError>
         ensures added { OnOk result (CountsOne site args.now self.old self.new) }
         ensures refused { OnErr result (self.new ≡ self.old) }
@@ -152,7 +155,7 @@ impl Counts {
         }
     }
 
-    // One more call of a site without arguments. Where memory is refused nothing changes.
+    // Counts one more call without arguments of the site with this number. The error is refused memory, and then nothing changes.
     fn add_bare(&mut self, site: u32) -> Result<(), AllocError>
         ensures added { OnOk result (CountsOne site [] self.old self.new) }
         ensures refused { OnErr result (self.new ≡ self.old) }
@@ -165,7 +168,8 @@ impl Counts {
         Ok(())
     }
 
-    // One more call of a site with these arguments, of which there are some. Where memory is refused nothing changes.
+    // Counts one more call of the site with this number and these arguments, of which there are some. The error is refused memory, and then nothing
+    // changes.
     #[inline(never)]
     fn add_by_key(&mut self, site: u32, args: &Args) -> Result<(), AllocError>
         requires { 1 ≤ length args.now }

@@ -6,8 +6,8 @@ ghost use Rattle.orc_calls.specs.Counting.{kind_of, amount_of, key};
 use orc_rules::value::{Args, Value};
 use std::marker::Model;
 
-/// The site, and two numbers for each argument: its kind, and which value of its kind it is. Two calls have one key exactly if their sites and
-/// arguments are the same.
+/// The number of a site, and two numbers for each argument of a call of it: the argument's kind, and which value of its kind it is. Two calls have
+/// one key exactly if their sites and arguments are the same.
 #[derive(Drop)]
 pub(crate) struct Key {
     // 33: the site, and two numbers for each of 16 arguments (`MOST_ARGUMENTS`). From `len` on there is only filling.
@@ -15,7 +15,7 @@ pub(crate) struct Key {
     len: usize,
 }
 
-// Contracts see a list of numbers.
+// Contracts see the first `len` numbers as a list.
 impl Model for Key {
     ghost use Rattle.std.specs.Prelude.{ℕ, ◌≤◌, List, take};
 
@@ -37,7 +37,7 @@ fn kind_of(value: Value) -> u64
     }
 }
 
-// Which value of its kind it is: a number without its sign, or 1 for `true`.
+// Which value of its kind a value is: a number without its sign, 1 for `true`, and 0 for `false` and `signal`.
 fn amount_of(value: Value) -> u64
     ensures { result ≡ amount_of value }
 {
@@ -60,7 +60,7 @@ impl Key {
         }
     }
 
-    /// Becomes the key of a site with these arguments.
+    /// Becomes the key of the site with this number and these arguments. What was there before is overwritten.
     // `&mut self` and no result: a key that is returned would be copied twice, all of its 272 bytes.
     pub(crate) fn write(&mut self, site: u32, args: &Args)
         ensures { self.new ≡ key site args.now }
@@ -73,7 +73,7 @@ impl Key {
         }
     }
 
-    // Adds a number at the end.
+    // Adds a number at the end, for which there has to be room.
     fn push(&mut self, word: u64)
         requires { length self.old < 33 }
         ensures { self.new ≡ self.old ++ word ∷ [] }

@@ -12,11 +12,12 @@ use orc_rules::value::{Answer, Found};
 use orc_ways::test::{Reply, Service};
 use std::alloc::{AllocError, Global};
 
-/// What a service does in a way.
+/// What a service does in a way: its answers to one call after the other. A test gives each service alternatives, of which the first is the usual
+/// one.
 pub(crate) struct Choice {
     /// How many of its calls don't take the first alternative. Without `in each of N calls` the line's one alternative counts as one call.
     pub(crate) off: u64,
-    /// Whether a range is in what they take.
+    /// Whether one of the alternatives that the calls take has a range of delays.
     pub(crate) is_ranged: bool,
     /// What it answers to the first call with the same arguments, the second one and so on; the last one answers all further calls too.
     pub(crate) answers: Vec<Found>,
@@ -56,7 +57,7 @@ impl Choice {
         }
     }
 
-    // The choice that answers first as this one does, and further calls as the other one. The error is refused memory.
+    // The choice that answers its first calls as this one does, and further calls as the other one. The error is refused memory.
     fn followed_by(&self, alloc: Global, other: &Choice) -> Result<Choice, AllocError>
         ensures { IfOk result (λ c. choice_of c ≡ followed_by (choice_of self.now) (choice_of other.now)) }
     {
@@ -72,7 +73,7 @@ impl Choice {
     }
 }
 
-// The choice of one answer, with no unusual call: `histories` counts that for the whole alternative.
+// The choice of one answer, in which no call counts as off (unusual): `histories` counts that for the whole alternative. The error is refused memory.
 fn one_answer(alloc: Global, is_ranged: bool, answer: Found) -> Result<Choice, AllocError>
     ensures { IfOk result (λ c. choice_of c ≡ one_answer is_ranged answer) }
 {
@@ -85,7 +86,7 @@ fn one_answer(alloc: Global, is_ranged: bool, answer: Found) -> Result<Choice, A
     })
 }
 
-// Pushes a choice of one answer for each delay from `low` to `high`, both included.
+// Pushes a choice of one answer for each delay from `low` to `high`, both included. The error is refused memory.
 #[tactic(auto, using(crate::proofs::Lists::range_end, crate::proofs::Lists::range_none))]
 fn add_delays(
     alloc: Global,
@@ -112,7 +113,7 @@ fn add_delays(
     }
 }
 
-// The answers that a reply stands for, each as a choice, from the low end of its range.
+// The answers that a reply stands for, each as a choice, from the low end of its range. The error is refused memory.
 fn answers_of(alloc: Global, reply: Reply) -> Result<Vec<Choice>, AllocError>
     ensures { IfOk result (λ cs. choices_from cs.items ≡ answers_of reply) }
 {
@@ -124,7 +125,7 @@ fn answers_of(alloc: Global, reply: Reply) -> Result<Vec<Choice>, AllocError>
     Ok(all)
 }
 
-// Pushes the first choice followed by each of the others.
+// Pushes the choice `first` followed by each of the others. The error is refused memory.
 fn add_followed(
     alloc: Global,
     all: &mut Vec<Choice>,
@@ -145,7 +146,7 @@ fn add_followed(
     }
 }
 
-// All pairs of a choice of `some` followed by one of `others`: for each of `some` in turn, all of `others`.
+// All pairs of a choice of `some` followed by one of `others`: for each of `some` in turn, all of `others`. The error is refused memory.
 fn each_followed(
     alloc: Global,
     some: &[Choice],
@@ -187,11 +188,13 @@ fn histories(alloc: Global, off: u64, replies: &[Reply]) -> Result<Vec<Choice>, 
     }
 }
 
-// What the alternatives stand for, in their order. The first one is the usual one; each other one has one call off (unusual).
+// What the alternatives of a service stand for, each as choices, in their order. The first alternative is the usual one; in a choice of each other
+// one a call is off (unusual). The error is refused memory.
 fn options(alloc: Global, alternatives: &[Vec<Reply>]) -> Result<Vec<Choice>, AllocError>
     ensures { IfOk result (λ cs. choices_from cs.items ≡ options 0 (histories_of alternatives.now)) }
 {
     let mut all = Vec::new(alloc);
+    // How many calls are off in a choice of the alternative that comes next: 0 for the first alternative, 1 for each other.
     let mut off = 0;
     let mut rest = alternatives;
     loop {
@@ -207,7 +210,8 @@ fn options(alloc: Global, alternatives: &[Vec<Reply>]) -> Result<Vec<Choice>, Al
     }
 }
 
-// What a service may do: with `in each of N calls` each of N calls takes an alternative of its own, and otherwise the line takes one.
+// What a service may do: with `in each of N calls` each of N calls takes an alternative of its own, and otherwise the line takes one. The error is
+// refused memory.
 fn all_choices(alloc: Global, service: &Service<'_>) -> Result<Vec<Choice>, AllocError>
     ensures { IfOk result (λ cs. choices_from cs.items ≡ all_choices (service_of service.now)) }
 {
@@ -223,7 +227,7 @@ fn all_choices(alloc: Global, service: &Service<'_>) -> Result<Vec<Choice>, Allo
     Ok(all)
 }
 
-// The choices in which a call is off (unusual) first, and behind them the usual ones. Both keep their order.
+// The choices in which a call is off (unusual) first, and behind them the usual ones. Both keep their order. The error is refused memory.
 fn off_first(alloc: Global, choices: Vec<Choice>) -> Result<Vec<Choice>, AllocError>
     ensures { IfOk result (λ cs. choices_from cs.items ≡ off_first (choices_from choices.items)) }
 {
@@ -240,8 +244,8 @@ fn off_first(alloc: Global, choices: Vec<Choice>) -> Result<Vec<Choice>, AllocEr
     Ok(off)
 }
 
-/// What a service may do: the choices that are off, and then the usual ones, each in the order of the alternatives and of their ranges from the low
-/// end. The error is refused memory.
+/// What a service may do: first the choices in which a call is off (doesn't take the first alternative), and then the usual ones, each in the order
+/// of the alternatives and of their ranges from the low end. The error is refused memory.
 #[tactic(auto, unfolding(crate::specs::Choices::choices))]
 pub(crate) fn choices(alloc: Global, service: &Service<'_>) -> Result<Vec<Choice>, AllocError>
     ensures { IfOk result (λ cs. choices_from cs.items ≡ choices (service_of service.now)) }

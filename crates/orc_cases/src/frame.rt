@@ -22,12 +22,12 @@ use crate::text::{push_answers, push_call, push_end, push_halts};
 use orc_ways::test::{Service, ServiceLine};
 use std::alloc::{AllocError, Global};
 
-/// A line of a service, which is in the script of each way.
+/// A line of a service, which is in the script of each way. A way is one choice among what the services of a case may do.
 #[derive(Drop)]
 pub(crate) struct Line {
     /// What stands before its `=`, such as `Pay(_, 1)`.
     pub(crate) call: Vec<u8>,
-    /// What may stand from its `=` on.
+    /// What may stand from its `=` on: one choice for each thing that the service may do in a way.
     pub(crate) choices: Vec<Choice>,
 }
 
@@ -43,7 +43,7 @@ pub(crate) struct Frame {
     pub(crate) count: usize,
 }
 
-// The line of a service, with all that it may do. The error is refused memory.
+// The line of a service, with all that the service may do. The error is refused memory.
 fn line_of(alloc: Global, service: &Service<'_>) -> Result<Line, AllocError>
     ensures { IfOk result (λ l. line_from l ≡ line_of (service_of service.now)) }
 {
@@ -77,7 +77,8 @@ pub(crate) fn lines_of(
     }
 }
 
-/// The text of a line `NAME() = halt` for each name that a service of the test has, but none at these places. The error is refused memory.
+/// The text of a line `NAME() = halt` for each name that services of the test have, but none of the services at these places. The error is refused
+/// memory.
 pub(crate) fn halts_of(
     alloc: Global,
     services: &[ServiceLine<'_>],
@@ -92,14 +93,14 @@ pub(crate) fn halts_of(
 }
 
 // Whether a way's text has a line with this choice. With `only_telling` it has only the lines that tell the way from others: those that are off (a
-// call doesn't take the first alternative) or whose alternative has a range. Otherwise it has every line.
+// call doesn't take the first alternative) or whose alternative has a range of delays. Otherwise it has every line.
 fn is_shown(only_telling: bool, choice: &Choice) -> bool
     ensures { result ≡ is_shown only_telling (choice_of choice.now) }
 {
     !only_telling || choice.off > 0 || choice.is_ranged
 }
 
-// Writes a line with this choice, if `is_shown` says so.
+// Writes a line with this choice, if `is_shown` says so: what stands before its `=`, and the answers behind. The error is refused memory.
 fn push_line(
     text: &mut Vec<u8>,
     line: &Line,
@@ -116,7 +117,7 @@ fn push_line(
 }
 
 // Writes the lines of the way with this number, from 0; with `only_telling` those alone that tell it from other ways. `count` is the number of all
-// ways of these lines.
+// ways of these lines, and `way_at` is the way of a number. The error is refused memory.
 fn push_way(
     text: &mut Vec<u8>,
     lines: &[Line],
@@ -136,6 +137,7 @@ fn push_way(
         let choices = line.choices.as_slice();
         // `left` is how many ways the lines behind this one have: no length here is 0, since their product `count` is over `number`.
         left /= choices.len();
+        // The first of the digits is the place of this line's choice.
         let choice = &choices[digits / left];
         push_line(text, line, choice, only_telling)?;
         digits %= left;
@@ -157,6 +159,7 @@ fn choice_at(lines: &[Line], count: usize, number: usize, place: usize) -> Optio
     let mut before = place;
     for line in lines {
         let choices = line.choices.as_slice();
+        // `left` is then how many ways the lines behind this one have, and the first of the digits is the place of this line's choice.
         left /= choices.len();
         let choice = &choices[digits / left];
         if before == 0 {
@@ -168,7 +171,7 @@ fn choice_at(lines: &[Line], count: usize, number: usize, place: usize) -> Optio
     None
 }
 
-// Whether there is a choice and it takes an alternative with a range.
+// Whether there is a choice and it takes an alternative with a range of delays.
 fn is_ranged(choice: Option<&Choice>) -> bool
     ensures { result ≡ is_ranged (option_map (λ c. choice_of c.now) choice.entry) }
 {
@@ -179,7 +182,8 @@ fn is_ranged(choice: Option<&Choice>) -> bool
 }
 
 impl Frame {
-    /// The choice of the line at a place, from 0, in the way with this number; None where there is no such line.
+    /// The choice of the line at a place, from 0, in the way with this number in the frame, from 0; None where there is no such line. `counted` asks
+    /// that the frame's `count` is the number of ways.
     pub(crate) fn choice(&self, number: usize, place: usize) -> Option<&Choice>
         requires counted { IsCounted self.now }
         requires within { number < self.now.count }
@@ -188,12 +192,13 @@ impl Frame {
         choice_at(self.lines.as_slice(), self.count, number, place)
     }
 
-    /// Whether a line takes an alternative with a range in the way of this number.
+    /// Whether a line takes an alternative with a range of delays in the way with this number in the frame, from 0.
     pub(crate) fn has_range(&self, number: usize) -> bool
         requires counted { IsCounted self.now }
         requires within { number < self.now.count }
         ensures { result ≡ has_ranged 0 (lines_from self.now.lines.items) (way_at (all_choices_of self.now.lines.items) number) }
     {
+        // The line's place, from 0.
         let mut place = 0;
         let mut rest = self.lines.as_slice();
         loop {
@@ -210,8 +215,8 @@ impl Frame {
         }
     }
 
-    /// The text of the lines of the way with this number; with `only_telling` of those alone that are off (a call doesn't take the first alternative)
-    /// or take an alternative with a range. The error is refused memory.
+    /// The text of the lines of the way with this number in the frame, from 0; with `only_telling` of those alone that are off (a call doesn't take
+    /// the first alternative) or take an alternative with a range of delays. The error is refused memory.
     pub(crate) fn way(
         &self,
         alloc: Global,
@@ -233,13 +238,14 @@ impl Frame {
         Ok(text)
     }
 
-    // The script of the way with this number: the lines of its services, then those that the caller hands in (`behind`), and last a line
-    // `NAME() = halt` for each name that the test's services have and the case's haven't (`halts`). The error is refused memory.
+    // The script of the way with this number in the frame, from 0: the lines of its services, then those that the caller hands in (`behind`), and
+    // last a line `NAME() = halt` for each name that the test's services have and the case's haven't (`halts`). The error is refused memory.
     fn script(&self, alloc: Global, number: usize, behind: &[u8]) -> Result<Vec<u8>, AllocError>
         requires counted { IsCounted self.now }
         requires within { number < self.now.count }
         ensures { IfOk result (λ t. t.items ≡ script_text (ways_from self.now) behind.now (way_at (all_choices_of self.now.lines.items) number)) }
     {
+        // `false`: all lines of the way, and not only those that tell it from others.
         let mut text = self.way(alloc, number, false)?;
         text.extend_from_slice(behind)?;
         // The caller's text may lack its last LF.
@@ -248,8 +254,8 @@ impl Frame {
         Ok(text)
     }
 
-    /// The scripts of the ways with these numbers, in that order, each with the lines `behind` after those of its services. The error is refused
-    /// memory.
+    /// The scripts of the ways with these numbers in the frame, in that order, each with the lines `behind` after those of its services. The error is
+    /// refused memory.
     pub(crate) fn scripts(
         &self,
         alloc: Global,

@@ -29,7 +29,7 @@ fn same_pattern(a: Slot, b: Slot) -> bool
     }
 }
 
-// Whether both have the same patterns, as many and in the same order.
+// Whether two services have the same patterns, as many and in the same order.
 fn same_patterns(a: &[Slot], b: &[Slot]) -> bool
     ensures { result ≡ slots_eq a.now b.now }
 {
@@ -52,7 +52,7 @@ fn same_patterns(a: &[Slot], b: &[Slot]) -> bool
     }
 }
 
-// Whether both have the same name and the same patterns.
+// Whether two services have the same name and the same patterns: then one of a case overrides one of `given`.
 fn is_same(a: &Service<'_>, b: &Service<'_>) -> bool
     ensures { result ≡ is_same (service_of a.now) (service_of b.now) }
 {
@@ -69,7 +69,8 @@ fn is_own(case: usize, of: Option<usize>) -> bool
     }
 }
 
-/// The service of the line at a place; None if the list has no such place, which no caller hands in: `case_places` finds all places.
+/// The service of the line at a place, from 0, in the list of the test; None if the list has no such place. No caller hands in such a place:
+/// `case_places` finds all places.
 pub(crate) fn service_at<'s, 'a>(
     services: &'s [ServiceLine<'a>],
     place: usize,
@@ -82,7 +83,7 @@ pub(crate) fn service_at<'s, 'a>(
     }
 }
 
-// Whether one of the services at these places has the name and the patterns of this one.
+// Whether one of the services at these places has the name and the patterns of this one, and so overrides it.
 fn is_overridden(services: &[ServiceLine<'_>], places: &[usize], service: &Service<'_>) -> bool
     ensures { result ≡ list_any (is_same (service_of service.now)) (services_at services.now places.now) }
 {
@@ -102,7 +103,7 @@ fn is_overridden(services: &[ServiceLine<'_>], places: &[usize], service: &Servi
     }
 }
 
-// The places of the own services of the case at place `case`, from 0; they ascend. The error is refused memory.
+// The places, in the test's list of services, of the own services of the case at place `case`, from 0; they ascend. The error is refused memory.
 fn own_places(
     alloc: Global,
     services: &[ServiceLine<'_>],
@@ -119,7 +120,8 @@ fn own_places(
     Ok(places)
 }
 
-// Whether a line is one of `given`, and none of the case's own services, which are at these places, has its name and its patterns.
+// Whether a service's line is one of `given` that the case keeps: none of the case's own services, which are at the places `own`, has the line's name
+// and patterns.
 fn is_kept(services: &[ServiceLine<'_>], own: &[usize], line: &ServiceLine<'_>) -> bool
     ensures { result ≡ is_kept (services_at services.now own.now) (service_line_of line.now) }
 {
@@ -143,8 +145,8 @@ fn add_kept(
     Ok(())
 }
 
-/// The places of the services of the case at place `case`, from 0: its own in their order, then those of `given` that don't have the name and the
-/// patterns of one of its own. The error is refused memory.
+/// The places, in the test's list of services, of the services of the case at place `case`, from 0: its own in their order, then those of `given`
+/// that don't have the name and the patterns of one of its own. The error is refused memory.
 pub(crate) fn case_places(
     alloc: Global,
     services: &[ServiceLine<'_>],
@@ -159,7 +161,7 @@ pub(crate) fn case_places(
     Ok(places)
 }
 
-// Whether the name is among these.
+// Whether the name is one of `names`.
 fn has_name(names: &[&[u8]], name: &[u8]) -> bool
     ensures { result ≡ has_name (map (λ n. n.now) names.now) name.now }
 {
@@ -200,7 +202,8 @@ fn names_at<'a>(
     }
 }
 
-/// The names that services of the test have, but none at these places, each once and in the order of the test. The error is refused memory.
+/// The names that services of the test have, but none of the services at these places, each once and in the order of the test. The error is refused
+/// memory.
 pub(crate) fn other_names<'a>(
     alloc: Global,
     services: &[ServiceLine<'a>],

@@ -19,7 +19,7 @@ use crate::text::{push_intervals, push_mark, push_reply};
 use orc_rules::value::{Answer, Found};
 use std::alloc::{AllocError, Global};
 
-/// The ways of a case that fail.
+/// The ways of a case that fail. A way is one choice for each line of the case's services, and its number in the frame stands for it.
 #[derive(Clone, Copy)]
 pub(crate) struct Failing<'f> {
     /// What the scripts of all ways have in common. In it each way has a number.
@@ -32,8 +32,8 @@ pub(crate) struct Failing<'f> {
 
 impl Failing<'_> {
     // The delays after which a line gives this answer to the call at `place`, one for each way that fails and in which the line takes a range. `line`
-    // is the line's place in the frame and `place` that of the call among those that it answers, both from 0, here and below. The error is refused
-    // memory.
+    // is the line's place in the frame and `place` that of the call among those that it answers, both from 0, here and below. The clauses ask that
+    // the numbers of the ways are numbers in the frame, which has the lines of all ways. The error is refused memory.
     fn delays(
         &self,
         alloc: Global,
@@ -46,6 +46,7 @@ impl Failing<'_> {
         ensures { IfOk result (λ ds. ds.items ≡ delays line place answer (map (way_at (all_choices_of self.now.frame.now.lines.items)) self.now.numbers.now) self.now.fails.now) }
     {
         let mut delays = Vec::new(alloc);
+        // What is left of both lists: of each way its number in the frame, and whether it fails.
         let mut numbers = self.numbers;
         let mut fails = self.fails;
         loop {
@@ -70,8 +71,9 @@ impl Failing<'_> {
         }
     }
 
-    // The delays after which a line gives this answer to the call at `place`, as `delays` has them, each once, as ascending intervals. The error is
-    // refused memory. `line` is the line's place in the frame, and `place` the call's among those that the line answers, both from 0.
+    // The delays after which a line gives this answer to the call at `place`, as `delays` has them, each once, as ascending intervals. The clauses
+    // ask that the numbers of the ways are numbers in the frame, which has the lines of all ways. The error is refused memory. `line` is the line's
+    // place in the frame, and `place` the call's among those that the line answers, both from 0.
     fn intervals(
         &self,
         alloc: Global,
@@ -89,8 +91,9 @@ impl Failing<'_> {
         Ok(found)
     }
 
-    // Writes the answer `found` to the call at `place`, with all delays with which some way fails in place of its own delay. `line` is the line's
-    // place in the frame, and `place` the call's among those that the line answers, both from 0. The error is refused memory.
+    // Writes the answer `found` to the call at `place`, with all delays with which some way fails in place of its own delay. The clauses ask that the
+    // numbers of the ways are numbers in the frame, which has the lines of all ways. `line` is the line's place in the frame, and `place` the call's
+    // among those that the line answers, both from 0. The error is refused memory.
     fn write_answer(
         &self,
         alloc: Global,
@@ -115,7 +118,8 @@ impl Failing<'_> {
     }
 
     // Writes the rest of a line from its `=` on, with the LF. `line` is the line's place in the frame, from 0. `answers` are its answers in the way
-    // that is shown, to one call after the other. The error is refused memory.
+    // that is shown, to one call after the other; each delay in them is replaced by all those with which some way fails. The clauses ask that the
+    // numbers of the ways are numbers in the frame, which has the lines of all ways. The error is refused memory.
     fn write_answers(
         &self,
         alloc: Global,
@@ -127,6 +131,7 @@ impl Failing<'_> {
         requires below { AreBelow self.now.frame.now.count self.now.numbers.now }
         ensures { OnOk result (text.new.items ≡ text.old.items ++ failing_answers line 0 answers.now (map (way_at (all_choices_of self.now.frame.now.lines.items)) self.now.numbers.now) self.now.fails.now) }
     {
+        // The call's place among those that the line answers.
         let mut place = 0;
         let mut rest = answers;
         loop {
@@ -144,7 +149,7 @@ impl Failing<'_> {
     }
 
     // Writes the line at a place in the frame, from 0, if its choice has a range; in place of each delay stand all those with which some way fails.
-    // The error is refused memory.
+    // The clauses ask that the numbers of the ways are numbers in the frame, which has the lines of all ways. The error is refused memory.
     fn write_line(
         &self,
         alloc: Global,
@@ -170,8 +175,8 @@ impl Failing<'_> {
         }
     }
 
-    /// The lines whose choice has a range in the way with this number in the frame, each with all delays with which some way fails. The error is
-    /// refused memory.
+    /// The lines whose choice has a range of delays in the way with this number in the frame, each with all delays with which some way fails. The
+    /// clauses ask that this number and those of the ways are numbers in the frame, which has the lines of all ways. The error is refused memory.
     pub(crate) fn lines(&self, alloc: Global, number: usize) -> Result<Vec<u8>, AllocError>
         requires counted { IsCounted self.now.frame.now }
         requires below { AreBelow self.now.frame.now.count self.now.numbers.now }
@@ -179,6 +184,7 @@ impl Failing<'_> {
         ensures { IfOk result (λ t. t.items ≡ failing_lines 0 (lines_from self.now.frame.now.lines.items) (way_at (all_choices_of self.now.frame.now.lines.items) number) (map (way_at (all_choices_of self.now.frame.now.lines.items)) self.now.numbers.now) self.now.fails.now) }
     {
         let mut text = Vec::new(alloc);
+        // The line's place in the frame.
         let mut place = 0;
         let mut rest = self.frame.lines.as_slice();
         loop {
@@ -195,7 +201,7 @@ impl Failing<'_> {
     }
 }
 
-// Whether both halt, or answer with the same value.
+// Whether two answers are the same: both halt, or both have the same value.
 fn is_same_answer(a: Answer, b: Answer) -> bool
     ensures { result ≡ answer_eq a b }
 {
@@ -206,7 +212,7 @@ fn is_same_answer(a: Answer, b: Answer) -> bool
     }
 }
 
-// The delay of what is found, if it is this answer; None for another answer, for `never`, and where nothing is found.
+// The delay of what the table says (`found`), if that is this answer; None for another answer, for `never`, and where there is nothing.
 fn delay_among(answer: Answer, found: Option<Found>) -> Option<u64>
     ensures { result ≡ delay_among answer found }
 {
@@ -222,7 +228,8 @@ fn delay_among(answer: Answer, found: Option<Found>) -> Option<u64>
     }
 }
 
-// The delay after which a choice gives this answer to the call at a place, from 0; None if the choice has no range or answers otherwise there.
+// The delay after which a line with this choice gives this answer to the call at a place, from 0; None if the choice has no range or answers
+// otherwise there.
 fn delay_in(place: usize, answer: Answer, choice: Option<&Choice>) -> Option<u64>
     ensures { result ≡ delay_in place answer (option_map (λ c. choice_of c.now) choice.entry) }
 {

@@ -15,7 +15,7 @@ use orc_ways::test::{Reply, Service, ServiceLine};
 /// Stands for every number above `MOST_WAYS`.
 const MANY: u64 = MOST_WAYS + 1;
 
-// The product, or `MANY` if it is over `MOST_WAYS`.
+// The product of two counts, or `MANY` if it is over `MOST_WAYS`.
 #[tactic(auto, unfolding(crate::specs::Sizes::capped, crate::specs::Sizes::times))]
 fn times(a: u64, b: u64) -> u64
     ensures { result ≡ times a b }
@@ -23,7 +23,7 @@ fn times(a: u64, b: u64) -> u64
     a.saturating_mul(b).min(MANY)
 }
 
-// The sum, or `MANY` if it is over `MOST_WAYS`.
+// The sum of two counts, or `MANY` if it is over `MOST_WAYS`.
 #[tactic(auto, unfolding(crate::specs::Sizes::capped, crate::specs::Sizes::plus))]
 fn plus(a: u64, b: u64) -> u64
     ensures { result ≡ plus a b }
@@ -43,7 +43,7 @@ fn reply_size(reply: Reply) -> u64
     }
 }
 
-// How many choices one alternative stands for: the product over its answers.
+// How many choices one alternative, an answer for each call, stands for: the product over its answers. `MANY` for more than `MOST_WAYS`.
 fn history_size(replies: &[Reply]) -> u64
     ensures { result ≡ history_from 1 replies.now }
 {
@@ -60,7 +60,7 @@ fn history_size(replies: &[Reply]) -> u64
     }
 }
 
-// How many choices the alternatives stand for together: the sum over them.
+// How many choices the alternatives of a service stand for together: the sum over them. `MANY` for more than `MOST_WAYS`.
 fn options_size(alternatives: &[Vec<Reply>]) -> u64
     ensures { result ≡ options_from 0 (histories_of alternatives.now) }
 {
@@ -77,7 +77,8 @@ fn options_size(alternatives: &[Vec<Reply>]) -> u64
     }
 }
 
-// How many choices a service has: each of its calls, or the line as a whole, takes any one of what its alternatives stand for.
+// How many choices a service has: each of its calls, or the line as a whole, takes any one of what its alternatives stand for. `MANY` for more than
+// `MOST_WAYS`.
 fn service_size(service: &Service<'_>) -> u64
     ensures { result ≡ service_capped (service_of service.now) }
 {
@@ -97,6 +98,7 @@ fn service_size(service: &Service<'_>) -> u64
 pub(crate) fn ways_size(services: &[ServiceLine<'_>], places: &[usize]) -> u64
     ensures { result ≡ ways_from_size 1 (services_at services.now places.now) }
 {
+    // Without a service there is one way.
     let mut size = 1;
     let mut rest = places;
     loop {

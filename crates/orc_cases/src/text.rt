@@ -12,7 +12,7 @@ use orc_claims::claim::Slot;
 use orc_rules::value::{Answer, Found, Value};
 use std::alloc::AllocError;
 
-// A value: a number in decimal, `true`, `false` or `signal`.
+// Appends a value: a number in decimal, `true`, `false` or `signal`. The error is refused memory.
 fn push_value(out: &mut Vec<u8>, value: Value) -> Result<(), AllocError>
     ensures { OnOk result (out.new.items ≡ out.old.items ++ value_text value) }
 {
@@ -27,7 +27,7 @@ fn push_value(out: &mut Vec<u8>, value: Value) -> Result<(), AllocError>
     }
 }
 
-// A value, or `_`. A service has no variables, so the case for one is never met.
+// Appends a pattern of a service: a value, or `_`. A service has no variables, so the case for one is never met. The error is refused memory.
 fn push_pattern(out: &mut Vec<u8>, pattern: Slot) -> Result<(), AllocError>
     ensures { OnOk result (out.new.items ≡ out.old.items ++ pattern_text pattern) }
 {
@@ -37,7 +37,7 @@ fn push_pattern(out: &mut Vec<u8>, pattern: Slot) -> Result<(), AllocError>
     }
 }
 
-// The patterns behind the first one, each after a comma, and the bracket that closes.
+// Appends the patterns behind the first one, each after a comma, and the bracket that closes. The error is refused memory.
 fn push_closing(out: &mut Vec<u8>, patterns: &[Slot]) -> Result<(), AllocError>
     ensures { OnOk result (out.new.items ≡ out.old.items ++ closing patterns.now) }
 {
@@ -54,7 +54,7 @@ fn push_closing(out: &mut Vec<u8>, patterns: &[Slot]) -> Result<(), AllocError>
     }
 }
 
-// The patterns of a service in brackets: `(_, 1)`, or `()` for none.
+// Appends the patterns of a service in brackets: `(_, 1)`, or `()` for none. The error is refused memory.
 fn push_patterns(out: &mut Vec<u8>, patterns: &[Slot]) -> Result<(), AllocError>
     ensures { OnOk result (out.new.items ≡ out.old.items ++ patterns_text patterns.now) }
 {
@@ -68,7 +68,7 @@ fn push_patterns(out: &mut Vec<u8>, patterns: &[Slot]) -> Result<(), AllocError>
     }
 }
 
-// ` after N`, or nothing for a delay of 0.
+// Appends ` after N`, or nothing for a delay of 0. The error is refused memory.
 fn push_after(out: &mut Vec<u8>, delay: u64) -> Result<(), AllocError>
     ensures { OnOk result (out.new.items ≡ out.old.items ++ after_text delay) }
 {
@@ -90,7 +90,7 @@ pub(crate) fn push_reply(out: &mut Vec<u8>, answer: Answer) -> Result<(), AllocE
     }
 }
 
-// A number in decimal.
+// Appends a number in decimal. The error is refused memory.
 fn push_number(out: &mut Vec<u8>, number: u64) -> Result<(), AllocError>
     ensures { OnOk result (out.new.items ≡ out.old.items ++ decimal number) }
 {
@@ -98,7 +98,7 @@ fn push_number(out: &mut Vec<u8>, number: u64) -> Result<(), AllocError>
     out.extend_from_slice(buffer.format(number).as_bytes())
 }
 
-// `3..7`, or `12` for one number.
+// Appends an interval: `3..7`, or `12` for one number. The error is refused memory.
 fn push_interval(out: &mut Vec<u8>, interval: Interval) -> Result<(), AllocError>
     ensures { OnOk result (out.new.items ≡ out.old.items ++ interval_text interval) }
 {
@@ -142,7 +142,7 @@ pub(crate) fn push_mark(out: &mut Vec<u8>, place: usize) -> Result<(), AllocErro
     }
 }
 
-// One answer with its delay.
+// Appends one answer with its delay, or `never`. The error is refused memory.
 fn push_answer(out: &mut Vec<u8>, answer: Found) -> Result<(), AllocError>
     ensures { OnOk result (out.new.items ≡ out.old.items ++ answer_text answer) }
 {
@@ -159,7 +159,7 @@ fn push_answer(out: &mut Vec<u8>, answer: Found) -> Result<(), AllocError>
     }
 }
 
-// The answers behind the first one, each after a `then`, and the LF.
+// Appends the answers behind the first one, each after a `then`, and the LF. The error is refused memory.
 fn push_more_answers(out: &mut Vec<u8>, answers: &[Found]) -> Result<(), AllocError>
     ensures { OnOk result (out.new.items ≡ out.old.items ++ more_answers answers.now) }
 {

@@ -22,12 +22,13 @@ use std::marker::Model;
 /// ranges run from their low ends.
 #[derive(Drop)]
 pub struct Ways {
-    /// What the scripts of all ways have in common. In it each way has a number.
+    /// What the scripts of all ways have in common. In the frame each way has a number, from 0.
     frame: Frame,
-    /// The number that each way has in the frame, in the order of the ways.
+    /// The number that each way has in the frame (what the scripts of all ways have in common), in the order of the ways.
     numbers: Vec<usize>,
 }
 
+// Contracts see the lines of the frame, whose choices make the ways, and its last lines `NAME() = halt`.
 impl Model for Ways {
     ghost Value = { CaseWays };
 
@@ -37,7 +38,8 @@ impl Model for Ways {
     ghost invariant = { λ w. IsOrdered w.frame w.numbers.items };
 }
 
-// The numbers that the ways have in the frame, in the order of the ways. The error is refused memory.
+// The numbers that the ways have in the frame, in the order of the ways (`IsOrdered`). `IsCounted` asks that the frame's `count` is the number of
+// ways. The error is refused memory.
 fn numbers_of(alloc: Global, frame: &Frame) -> Result<Vec<usize>, AllocError>
     requires { IsCounted frame.now }
     ensures { IfOk result (λ ns. IsOrdered frame.now ns.items) }
@@ -50,7 +52,7 @@ fn numbers_of(alloc: Global, frame: &Frame) -> Result<Vec<usize>, AllocError>
     Ok(numbers)
 }
 
-// The ways of the services at these places of the test's list; `count` is how many ways there are. The error is refused memory.
+// The ways of the services at these places of the test's list; `count` has to be how many ways there are. The error is refused memory.
 fn of_places(
     alloc: Global,
     services: &[ServiceLine<'_>],
@@ -106,7 +108,7 @@ impl Ways {
     ) -> Result<Vec<Vec<u8>>, AllocError>
         ensures { IfOk result (λ ts. map (λ t. t.items) ts.items ≡ scripts self.now most behind.now) }
     {
-        // The number that each way has in the frame, in the order of the ways.
+        // The number that each way has in the frame (what the scripts of all ways have in common), in the order of the ways.
         let numbers = self.numbers.as_slice();
         let tried = numbers.len().min(most as usize);
         let scripts = self.frame.scripts(alloc, &numbers[..tried], behind)?;
@@ -114,27 +116,29 @@ impl Ways {
     }
 
     /// Those lines of the script of the way with this number, from 0 in the order of the ways, that tell it from other ways: they are off (a call
-    /// doesn't take the first alternative), or take an alternative with a range. The text is empty if there is no such way. The error is refused
-    /// memory.
+    /// doesn't take the first alternative), or take an alternative with a range of delays. The text is empty if there is no such way. The error is
+    /// refused memory.
     pub fn unusual(&self, alloc: Global, number: u64) -> Result<Vec<u8>, AllocError>
         ensures { IfOk result (λ t. t.items ≡ unusual self.now number) }
     {
+        // The number that each way has in the frame (what the scripts of all ways have in common), in the order of the ways.
         let numbers = self.numbers.as_slice();
         let place = number as usize;
         if place >= numbers.len() {
             return Ok(Vec::new(alloc));
         }
-        // `numbers[place]` is the way's number in the frame. `true`: only the lines that tell it from other ways.
+        // `numbers[place]` is the way's number in the frame. `true`: only the lines that tell the way from others.
         let way = self.frame.way(alloc, numbers[place], true)?;
         Ok(way)
     }
 
-    /// Whether the way with this number, from 0 in the order of the ways, takes an alternative with a range. If not, or if there is no such way, then
-    /// `failing_ranges` is empty whatever fails.
+    /// Whether the way with this number, from 0 in the order of the ways, takes an alternative with a range of delays. If not, or if there is no such
+    /// way, then `failing_ranges` is empty whatever fails.
     pub fn has_range(&self, number: u64) -> bool
         ensures exact { result ≡ has_range self.now number }
         ensures none { result ≡ false → (fails : List Bool) → failing_ranges self.now number fails ≡ [] }
     {
+        // The number that each way has in the frame (what the scripts of all ways have in common), in the order of the ways.
         let numbers = self.numbers.as_slice();
         let place = number as usize;
         if place >= numbers.len() {
@@ -144,10 +148,10 @@ impl Ways {
         self.frame.has_range(numbers[place])
     }
 
-    /// Those lines of the way with this number, from 0 in the order of the ways, that take an alternative with a range. In place of each delay stand
-    /// all those with which the line gives this answer to that call in a way that fails, as intervals: `Pay(_) = 1 after 3..7, 12`. `fails` says of
-    /// each of the first ways whether it fails; the others count as not failing. The text is empty if there is no such way. The error is refused
-    /// memory.
+    /// Those lines of the way with this number, from 0 in the order of the ways, that take an alternative with a range of delays. In place of each
+    /// delay stand all those with which the line gives this answer to that call in a way that fails, as intervals: `Pay(_) = 1 after 3..7, 12`.
+    /// `fails` says of each of the first ways whether it fails; the others count as not failing. The text is empty if there is no such way. The error
+    /// is refused memory.
     pub fn failing_ranges(
         &self,
         alloc: Global,
@@ -156,6 +160,7 @@ impl Ways {
     ) -> Result<Vec<u8>, AllocError>
         ensures { IfOk result (λ t. t.items ≡ failing_ranges self.now number fails.now) }
     {
+        // The number that each way has in the frame (what the scripts of all ways have in common), in the order of the ways.
         let numbers = self.numbers.as_slice();
         let place = number as usize;
         if place >= numbers.len() {

@@ -37,14 +37,14 @@ pub enum Unanswered {
     Unwritten,
 }
 
-/// A journal that was checked, and how its run ended.
+/// A journal that was checked, and how its run ended, Halted or Quiet.
 #[derive(Drop)]
 struct Certificate {
     journal: Journal,
     end: End,
 }
 
-// How a run ended whose journal leads to this state. None where the run goes on.
+// How a run ended whose journal leads to this state. None where the run goes on: then its journal isn't that of a whole run.
 fn end_of(state: State) -> Option<End>
     ensures { IfSome result (IsEndOf state) }
 {
@@ -67,9 +67,11 @@ fn check(
     ensures { IfSome result (λ c. IsCertified source.now script.now limit text.now c.journal c.end) }
 {
     let Ok(loaded) = load(alloc, source, script) else {
+        // The source or the script is at fault, or memory was refused.
         return None;
     };
     let Ok(journal) = read_journal(alloc, text, &loaded.answers) else {
+        // The text is no journal of this program's sites, or memory was refused.
         return None;
     };
     // Journals of the first version have no cancels, and a run's journal has them. The length counts cancels, though the limit of a run doesn't.
@@ -77,6 +79,7 @@ fn check(
         return None;
     }
     let Ok(verdict) = check_journal(alloc, &loaded.program, &loaded.answers, &journal) else {
+        // The check refuses an entry, or memory was refused.
         return None;
     };
     let end = end_of(verdict.state)?;
@@ -84,7 +87,7 @@ fn check(
 }
 
 // Writes what `form` asks for of a run: the values that `journal` publishes, or `text`, which is the text of that journal. The error is that the
-// output couldn't be written whole, or refused memory; a prefix was written then.
+// output couldn't be written whole, or refused memory; a prefix, perhaps an empty one, was written then.
 fn write_answer<W: Write>(
     alloc: Global,
     form: Form,

@@ -24,19 +24,22 @@ const UNWRITTEN: u8 = 6;
 /// The status if the command line is wrong.
 const WRONG_WORDS: u8 = 2;
 
-/// What a command line asks for. The texts are paths of files.
+/// What a command line asks for.
 #[derive(Drop)]
 struct Asked<'a> {
     /// What to write: the values that the run published, or its journal.
     form: Form,
+    /// The path of the program's source.
     source: &'a str,
+    /// The path of the journal.
     journal: &'a str,
+    /// The path of the script.
     script: &'a str,
     /// The most entries that the journal may have, cancels counted.
     limit: u64,
 }
 
-// The form of that name. None where there is none.
+// What to write, by the word FORM of the command line. None for another word than `values` and `journal`.
 fn form_of(word: &str) -> Option<Form> {
     match word {
         "values" => Some(Form::Values),
@@ -45,7 +48,8 @@ fn form_of(word: &str) -> Option<Form> {
     }
 }
 
-// The limit that a word says, or the default of `orc run` where there is no word. None where the word is no number below 2^64.
+// The most entries that the journal may have, by the word LIMIT of the command line; the default of `orc run` where that word is missing. None where
+// the word is no number below 2^64.
 fn limit_of(word: Option<&String>) -> Option<u64> {
     match word {
         Some(word) => word.parse::<u64>().ok(),
@@ -53,7 +57,8 @@ fn limit_of(word: Option<&String>) -> Option<u64> {
     }
 }
 
-// What the words of the command line ask for; the first is the program's name. None if they are wrong.
+// What the words of the command line ask for; the first is the program's name. None if there are too few or too many, FORM is none, or LIMIT is no
+// number.
 fn read_words(words: &[String]) -> Option<Asked<'_>> {
     let [_, form, source, journal, script, rest @ ..] = words else {
         return None;
@@ -70,8 +75,8 @@ fn read_words(words: &[String]) -> Option<Asked<'_>> {
     })
 }
 
-// Reads the files, writes the answer to standard output, and gives the status. The error is that of a file which can't be read; nothing was written
-// then.
+// Reads the files, writes the answer to standard output, and gives the process's status. The error is that of a file which can't be read, or refused
+// memory for it; nothing was written then.
 fn answer(rt: &HostRuntime, asked: &Asked) -> io::Result<u8> {
     let source = fs::read(rt, asked.source)?;
     let script = fs::read(rt, asked.script)?;
@@ -86,13 +91,14 @@ fn answer(rt: &HostRuntime, asked: &Asked) -> io::Result<u8> {
         &mut rt.stdout(),
     );
     match answered {
-        // 0 if the run halted, 3 if it is quiet.
+        // 0 if the run halted, 3 if it is quiet: a run that was cut has no certificate.
         Ok(end) => Ok(end.status()),
         Err(Unanswered::Uncertified) => Ok(UNCERTIFIED),
         Err(Unanswered::Unwritten) => Ok(UNWRITTEN),
     }
 }
 
+// Reads the words of the command line and the files that they name, and exits with the status of the answer.
 fn main(rt: HostRuntime) -> ExitCode {
     let Ok(args) = env::args(&rt) else {
         // A word isn't UTF-8, or memory for the words was refused.
@@ -105,6 +111,6 @@ fn main(rt: HostRuntime) -> ExitCode {
     let Some(asked) = read_words(words.as_slice()) else {
         return ExitCode::from(WRONG_WORDS);
     };
-    // An error is a file that couldn't be read.
+    // An error is a file that couldn't be read: then nothing was written, as where the journal proves no answer.
     ExitCode::from(answer(&rt, &asked).unwrap_or(UNCERTIFIED))
 }

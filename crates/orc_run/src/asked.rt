@@ -11,11 +11,12 @@ use orc_ways::test::{Service, ServiceLine, SiteName, Test};
 use std::alloc::{AllocError, Global};
 use std::thread::Threads;
 
-/// How many ways are run between two looks at whether a service is still unasked; if none is, the other ways aren't run. So many ways give several
-/// workers work, and few are run in vain.
+/// How many ways (choices of what a case's services answer) are run between two looks at whether a service is still unasked; if none is, the other
+/// ways aren't run. So many ways give several workers work, and few are run in vain.
 const BATCH: usize = 64;
 
-// The place, from 0, of a service's site among those of its test. It is there: a test's sites are all that its lines name.
+// The place, from 0, of a service's site among those of its test, by which claims name the site. It is always found: a test's sites are all that its
+// lines name.
 fn site_of(sites: &[SiteName<'_>], service: &Service<'_>) -> u32 {
     let mut place: u32 = 0;
     for site in sites {
@@ -28,7 +29,7 @@ fn site_of(sites: &[SiteName<'_>], service: &Service<'_>) -> u32 {
 }
 
 // The claim that is put to the test where a run makes a call that the service's patterns match: that there are any number of such calls. It always
-// holds; 0 is its least count, and the two None are that it has no greatest count and no time.
+// holds; 0 is its least count, and the two None are that it has no greatest count and no time. The error is refused memory.
 fn claim_of(
     alloc: Global,
     sites: &[SiteName<'_>],
@@ -65,12 +66,15 @@ pub(crate) fn is_of(line: &ServiceLine<'_>, case: usize) -> bool {
 /// The services of a test, and for each of them, in their order, whether a run has asked it.
 #[derive(Drop)]
 struct Services<'s, 'a> {
+    /// The lines of the services, in the order of the test.
     lines: &'s [ServiceLine<'a>],
+    /// For each of these lines, whether a run has asked the service.
     asked: Vec<bool>,
 }
 
+// A place is that of a service in these lists, and a case is its place in the test, both from 0.
 impl<'s, 'a> Services<'s, 'a> {
-    // Before the first run: none was asked.
+    // The services before the first run: none was asked. The error is refused memory.
     fn new(alloc: Global, lines: &'s [ServiceLine<'a>]) -> Result<Services<'s, 'a>, AllocError> {
         let mut asked = Vec::new(alloc);
         for _line in lines {
@@ -79,12 +83,12 @@ impl<'s, 'a> Services<'s, 'a> {
         Ok(Services { lines, asked })
     }
 
-    // A place without a service counts as asked, so that nothing is said of it.
+    // Whether a run has asked the service at this place, from 0. A place without a service counts as asked, so that nothing is said of it.
     fn is_asked(&self, place: usize) -> bool {
         self.asked.get(place).copied().unwrap_or(true)
     }
 
-    // Whether a service of the case wasn't asked yet.
+    // Whether a service of the case, or of `given`, wasn't asked yet.
     fn has_unasked(&self, case: usize) -> bool {
         for (place, line) in self.lines.iter().enumerate() {
             if is_of(line, case) && !self.is_asked(place) {
@@ -94,8 +98,8 @@ impl<'s, 'a> Services<'s, 'a> {
         false
     }
 
-    // Notes which services the runs of a case have asked: those whose claim was put to the test. `told` has what is reported of each service's claim,
-    // in the order of the services. A service of another case isn't noted.
+    // Notes which services the runs of a case have asked: those whose claim was put to the test (`tested`). `told` has what is reported of each
+    // service's claim, in the order of the services. A service of another case isn't noted.
     fn note(&mut self, case: usize, told: &[Told]) {
         for (place, line) in self.lines.iter().enumerate() {
             let is_tested = match told.get(place) {
@@ -124,6 +128,7 @@ impl<'s, 'a> Services<'s, 'a> {
         // What is reported of each service's claim, over all runs of the case that were made so far.
         let mut told = CaseTold::new(alloc, trials.claims)?;
         for some in scripts.chunks(BATCH) {
+            // Each service was asked, so the other ways need no run.
             if !self.has_unasked(case) {
                 return Ok(());
             }
@@ -136,7 +141,7 @@ impl<'s, 'a> Services<'s, 'a> {
         Ok(())
     }
 
-    // A head, and a line for each service that wasn't asked; empty if each was.
+    // The text on these services: a head, and a line for each service that wasn't asked; empty if each was. The error is refused memory.
     fn text(&self, alloc: Global, test: &Test<'_>) -> Result<String, AllocError> {
         let mut page = Page::new(alloc);
         for (place, line) in self.lines.iter().enumerate() {
@@ -151,7 +156,7 @@ impl<'s, 'a> Services<'s, 'a> {
     }
 }
 
-// Writes a service as a call of its patterns, in backquotes: `Pay(_, 2)`.
+// Writes a service as a call of its patterns, in backquotes: `Pay(_, 2)`. A pattern is a value, or `_` for any.
 fn say_call(page: &mut Page, service: &Service<'_>) {
     page.say_word("`", service.name, "(");
     for (place, pattern) in service.patterns.iter().enumerate() {
@@ -166,7 +171,7 @@ fn say_call(page: &mut Page, service: &Service<'_>) {
     page.say(")`");
 }
 
-// Writes the line of a service that wasn't asked, with its case if it belongs to one.
+// Writes the line of a service that wasn't asked, with its case if it belongs to one, and not to `given`.
 fn say_service(page: &mut Page, test: &Test<'_>, line: &ServiceLine<'_>) {
     page.note("no run ");
     if let Some(case) = line.case {

@@ -19,7 +19,7 @@ pub struct Names<'n> {
     pub script: Option<&'n str>,
 }
 
-// Writes the option that names the script, as a shell takes it, if there is one. The error is refused memory.
+// Writes the option that names the script, as a shell takes it; nothing if the command line names no script. The error is refused memory.
 fn write_script(script: Option<&str>, text: &mut Vec<u8>) -> Result<(), AllocError>
     ensures { OnOk result (text.new.items ≡ text.old.items ++ script_text (option_map (λ p. p.now) script.entry)) }
 {

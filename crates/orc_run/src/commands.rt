@@ -47,7 +47,8 @@ use std::sync::Wait;
 use std::thread::Threads;
 
 /// Reports a command line that asks for help or for the version, or was refused, and gives the status: 0 where help or version was written, 2 where
-/// the line was refused, 5 where memory was, 6 where standard output failed. `clap` hands over all of these as an error.
+/// the line was refused, 5 where memory was, 6 where standard output failed. `clap` hands over all of these as an error. `out` is standard output and
+/// `err` standard error. A line that was refused (status 2) leaves standard output as it was.
 fn refuse<W: Write, V: Write>(error: &clap::Error, out: &mut W, err: &mut V) -> u8
     ensures status { result < 7 × result ≢ 1 × result ≢ 3 × result ≢ 4 }
     ensures refused { result ≡ 2 → Keeps (W.contents out.old) (W.contents out.new) }
@@ -73,7 +74,8 @@ fn refuse<W: Write, V: Write>(error: &clap::Error, out: &mut W, err: &mut V) -> 
     }
 }
 
-// All bytes of the file at a path. The failure names the path.
+// All bytes of the file at a path. If the file can't be read, the failure names the path. What the files hold stays as it was; where that is known,
+// the bytes are those (`IsHeld`).
 fn read<'a, F: Files>(path: &'a str, files: &mut F) -> Result<Vec<u8>, Failure<'a>>
     ensures held { IfOk result (λ bytes. IsHeld (F.holds files.old path.now) bytes.items) }
     ensures unread { IfErr result IsUnread }
@@ -85,7 +87,8 @@ fn read<'a, F: Files>(path: &'a str, files: &mut F) -> Result<Vec<u8>, Failure<'
     }
 }
 
-// The bytes of a script; none where there is no script, which reads as a script without lines.
+// The bytes of the script at a path. None is that the command line names no script: then there are no bytes, which read as a script without lines. If
+// the file can't be read, the failure names the path.
 fn read_script_text<'a, F: Files>(
     alloc: Global,
     path: Option<&'a str>,
@@ -100,8 +103,9 @@ fn read_script_text<'a, F: Files>(
     }
 }
 
-// `orc run`: runs the program of a file. The status says how the run ended. Its journal is kept if an explanation is asked for, which reads it. It
-// hands how the run ended, or a fault, to `explained`, with the names and texts of the files (`subject`).
+// `orc run`: runs the program of a file and writes what the options want of the run. The result is the status that says how the run ended. The
+// failure is a file that can't be read, or a fault of the texts, the engine or the output; the failure's status is 7, which blames the engine, only
+// if the options' numbers are out of range. `explained` gets the fault, or how the run ended, with the names and texts of the files (`subject`).
 #[tactic(auto, using(crate::proofs::Statuses::unread, crate::proofs::Causing::unread_run, crate::proofs::Statuses::cut_or_kept, crate::proofs::Sound::unread_sound))]
 fn run_file<'a, R: Threads + Wait + Sync, F: Files, W: Write>(
     rt: &R,
@@ -119,6 +123,7 @@ fn run_file<'a, R: Threads + Wait + Sync, F: Files, W: Write>(
 {
     let source = read(program.file, files)?;
     let script_text = read_script_text(alloc, program.script, files)?;
+    // If an explanation is asked for, the run keeps its journal, since the explanation reads that.
     match run_source(
         rt,
         alloc,
@@ -129,6 +134,7 @@ fn run_file<'a, R: Threads + Wait + Sync, F: Files, W: Write>(
         out,
     ) {
         Ok((loaded, played)) => {
+            // `loaded` is the program, and `played` its run.
             let subject = subject_of(program, source.as_slice(), script_text.as_slice());
             explained.ended(alloc, &subject, &loaded, &played);
             Ok(played.summary.end.status())
@@ -141,8 +147,9 @@ fn run_file<'a, R: Threads + Wait + Sync, F: Files, W: Write>(
     }
 }
 
-// `orc outcomes`: runs the program of a file in many orders, and writes each outcome that came up. It hands a fault to `explained`, with the names
-// and texts of the files (`subject`).
+// `orc outcomes`: runs the program of a file in many orders, and writes each outcome that came up. The status is 0. The failure is a file that can't
+// be read, or a fault of the texts, the engine or the output; the failure's status is 7, which blames the engine, only if the options' numbers are
+// out of range. `explained` gets the fault, with the names and texts of the files (`subject`).
 #[tactic(auto, using(crate::proofs::Statuses::unread, crate::proofs::Causing::unread_run, crate::proofs::Statuses::cut_or_kept, crate::proofs::Sound::unread_sound))]
 fn survey_file<'a, R: Threads + Sync, F: Files, W: Write>(
     rt: &R,
@@ -177,16 +184,17 @@ fn survey_file<'a, R: Threads + Sync, F: Files, W: Write>(
     }
 }
 
-// The status of a search: 0 if it found all outcomes, 4 (cut) if not.
+// The status of a search through all schedules: 0 if it found all outcomes, 4 (cut) if not.
 fn search_status(all: bool) -> u8
     ensures { result ≡ cond all 0 4 }
 {
     if all { 0 } else { 4 }
 }
 
-// `orc outcomes --all`: runs the program of a file in many orders, and searches all its schedules, through so many states at most as the options say.
-// It writes each outcome. The status says whether the search found all outcomes. It hands a fault to `explained`, with the names and texts of the
-// files (`subject`).
+// `orc outcomes --all`: runs the program of a file in many orders, searches all its schedules through so many states at most as the options say, and
+// writes each outcome. The status says whether the search found all outcomes. The failure is a file that can't be read, or a fault of the texts, the
+// engine or the output; the failure's status is 7, which blames the engine, only if the options' numbers are out of range. `explained` gets the
+// fault, with the names and texts of the files (`subject`).
 #[tactic(auto, using(crate::proofs::Statuses::unread, crate::proofs::Causing::unread_run, crate::proofs::Statuses::cut_or_kept, crate::proofs::Sound::unread_sound))]
 fn search_file<'a, R: Threads + Sync, F: Files, W: Write>(
     rt: &R,
@@ -221,8 +229,9 @@ fn search_file<'a, R: Threads + Sync, F: Files, W: Write>(
     }
 }
 
-// `orc outcomes --show`: writes the journal of a run that has the outcome with this number, from 1. Without a search only outcomes that came up in an
-// order have one. It hands a fault to `explained`, with the names and texts of the files (`subject`).
+// `orc outcomes --show`: writes the journal of a run that has the outcome with the number in the options, from 1. Without a search only outcomes that
+// came up in an order have a number. The failure is a file that can't be read, a fault, that there is no such outcome, or that no run was found that
+// has it. `explained` gets a fault, with the names and texts of the files (`subject`).
 #[tactic(auto, using(crate::proofs::Statuses::unread, crate::proofs::Causing::unread_show, crate::proofs::Statuses::cut_or_kept, crate::proofs::Sound::unread_sound))]
 fn show_file<'a, R: Threads + Sync, F: Files, W: Write>(
     rt: &R,
@@ -259,8 +268,9 @@ fn show_file<'a, R: Threads + Sync, F: Files, W: Write>(
     }
 }
 
-// `orc check`: checks the journal of a file. It is read piece by piece; but where an explanation is asked for, its text is kept (`lines`), so that
-// `explained` can show a fault in it. `subject` has the names and texts of the files, the journal too.
+// `orc check`: checks the journal of a file. The journal is read piece by piece; but where an explanation is asked for, its text is kept (`lines`),
+// so that `explained` can show a fault in it. `subject` has the names and texts of the files, the journal too. The status is 0 if the check accepts
+// the journal. The failure is a file that can't be read, or a fault.
 #[tactic(auto, using(crate::proofs::Statuses::unread, crate::proofs::Causing::unread_check, crate::proofs::Statuses::cut_or_kept, crate::proofs::Sound::unread_sound, crate::proofs::Statuses::unread_refused))]
 fn check_file<'a, F: Files, W: Write>(
     alloc: Global,
@@ -295,7 +305,8 @@ fn check_file<'a, F: Files, W: Write>(
         ) {
             Ok(()) => Ok(0),
             Err(Unchecked::Fault(fault)) => Err(Failure::Fault(fault)),
-            // A reader's error doesn't say its cause; only an explanation would name it, and none is asked for.
+            // The failure's line names the journal alone. The reader's error doesn't say its cause, which only an explanation would name; none is
+            // asked for here.
             Err(Unchecked::Unread) => {
                 Err(Failure::Unread(journal, ReadFault::Failed(Unread::Other)))
             }
@@ -326,7 +337,7 @@ fn check_file<'a, F: Files, W: Write>(
     }
 }
 
-// 0 if no claim of a test fails, in a program's runs or on a journal; else 1.
+// The status of a test: 0 if none of its claims fails, in a program's runs or on a journal; else 1. `failing` is how many fail.
 fn claims_status(failing: usize) -> u8
     ensures { result ≡ cond (nat_eq failing 0) 0 1 }
 {
@@ -334,7 +345,8 @@ fn claims_status(failing: usize) -> u8
 }
 
 // `orc check --claims`: checks the journal of a file and judges the claims of a test on it. The status says whether all hold. `lines` is the
-// journal's text, and `claims` the test's. It hands a fault to `explained`, with the names and texts of the files (`subject`).
+// journal's text, and `claims` the test's. The failure is a file that can't be read, or a fault. `explained` gets the fault, with the names and texts
+// of the files (`subject`).
 #[tactic(auto, using(crate::proofs::Statuses::unread, crate::proofs::Causing::unread_claim, crate::proofs::Statuses::cut_or_kept, crate::proofs::Sound::unread_sound, crate::proofs::Statuses::unread_untaken))]
 fn claims_file<'a, F: Files, W: Write>(
     alloc: Global,
@@ -389,14 +401,16 @@ fn claims_file<'a, F: Files, W: Write>(
     }
 }
 
-// The title of a picture of a file's program: the file's name without its folders, or the whole path where it has no such name, as `..`.
+// The title of a picture of a file's program: the file's name without its folders, or the whole path where it has no such name, as `..`. Of standard
+// input it is `standard input`.
 fn name_of(path: &str) -> &str {
     let title = title_of(path);
     Path::new(title).file_name().unwrap_or(title)
 }
 
-// `orc draw` with a JOURNAL: draws the journal of a file, once the check accepts it. `text` is the journal's. It hands a fault to `explained`, with
-// the names and texts of the files (`subject`).
+// `orc draw` with a JOURNAL: draws the journal of a file, once the check accepts it. `text` is the journal's. The status is 0. The failure is a file
+// that can't be read, a fault, or that the picture would have too many rows. `explained` gets a fault, with the names and texts of the files
+// (`subject`).
 #[tactic(auto, using(crate::proofs::Statuses::unread, crate::proofs::Causing::unread_draw, crate::proofs::Statuses::cut_or_kept, crate::proofs::Sound::unread_sound, crate::proofs::Statuses::undrawn_rows, crate::proofs::Statuses::unread_untaken))]
 fn draw_file<'a, F: Files, W: Write>(
     alloc: Global,
@@ -443,8 +457,9 @@ fn draw_file<'a, F: Files, W: Write>(
     }
 }
 
-// `orc draw` without a JOURNAL: runs a file's program, and draws that run's journal. It hands a fault to `explained`, with the names and texts of the
-// files (`subject`).
+// `orc draw` without a JOURNAL: runs a file's program, and draws that run's journal. The status is 0. The failure is a file that can't be read, a
+// fault, or that the picture would have too many rows. The failure's status is 7, which blames the engine, only if the options' numbers are out of
+// range. `explained` gets a fault, with the names and texts of the files (`subject`).
 #[tactic(auto, using(crate::proofs::Statuses::unread, crate::proofs::Causing::unread_draw_run, crate::proofs::Statuses::cut_or_kept, crate::proofs::Sound::unread_sound))]
 fn draw_run_of<'a, R: Threads + Wait + Sync, F: Files, W: Write>(
     rt: &R,
@@ -481,7 +496,8 @@ fn draw_run_of<'a, R: Threads + Wait + Sync, F: Files, W: Write>(
     }
 }
 
-// `orc print`: prints the program of a file. It hands a fault to `explained`, with the source's name and text (`subject`).
+// `orc print`: prints the program of a file. The status is 0. The failure is that the file can't be read, or a fault of its text or of the output.
+// `explained` gets the fault, with the source's name and text (`subject`).
 #[tactic(auto, using(crate::proofs::Statuses::unread, crate::proofs::Causing::unread_print, crate::proofs::Statuses::cut_or_kept, crate::proofs::Sound::unread_sound))]
 fn print_file<'a, F: Files, W: Write>(
     alloc: Global,
@@ -507,7 +523,8 @@ fn print_file<'a, F: Files, W: Write>(
 }
 
 // `orc test`: judges the claims of a test on runs of a file's program. The status says whether all hold. `claims` is the test's text, and `names` are
-// for the commands that the table shows. It hands a fault to `explained`, with the names and texts of the files.
+// for the commands that the table shows. The failure is a file that can't be read, a fault, or that what is to be shown isn't there (`NoFailure`,
+// `NoJournal`). `explained` gets a fault, with the names and texts of the files.
 #[tactic(auto, using(crate::proofs::Statuses::unread, crate::proofs::Causing::unread_test, crate::proofs::Statuses::cut_or_kept, crate::proofs::Sound::unread_sound))]
 fn test_file<'a, R: Threads + Sync, F: Files, W: Write>(
     rt: &R,
@@ -538,6 +555,7 @@ fn test_file<'a, R: Threads + Sync, F: Files, W: Write>(
         script: script_text.as_slice(),
     };
     match test_text(rt, alloc, &names, &texts, options, out, explained) {
+        // `failing` is how many claims fail.
         Ok(failing) => Ok(claims_status(failing)),
         // `Explained::test` shows the fault in the test's text, which a `Subject` doesn't have.
         Err(Untested::Fault(RunFault::Test(fault))) => {
@@ -558,8 +576,10 @@ fn test_file<'a, R: Threads + Sync, F: Files, W: Write>(
     }
 }
 
-// Does what a command line asks for, and gives the process's status. Numbers of options that are out of range are a failure here; `read_words`
-// refuses them before.
+// Does what a command line asks for, and gives the process's status. Numbers of options that are out of range are a failure here, and only at such a
+// failure the status may be 7; `read_words` refuses them before. A job that takes the journal of a run of its own source and script is done, unless a
+// file can't be read, memory is refused, the output fails, the journal is beyond a limit, the picture has too many rows, or the claims are no test
+// (clauses *accepted*, *beyond*, *untaken*).
 fn do_job<'a, R: Threads + Wait + Sync, F: Files, W: Write>(
     rt: &R,
     alloc: Global,
@@ -645,11 +665,13 @@ where
     let mut explained = Explained::new(explain);
     match do_job(rt, alloc, job, files, out, &mut explained) {
         Ok(status) => {
-            // How a run ended, or what looks like a mistake in a test, if that is asked for.
+            // The explanation of how a run ended, or of what looks like a mistake in a test; nothing if it isn't asked for. What standard error
+            // doesn't take changes no status, so the result is dropped.
             let _ = explained.write(err);
             status
         }
         Err(failure) => {
+            // The failure's line and its explanation go to standard error, which changes no status either.
             explained.failure(alloc, &failure);
             let _ = report(err, &failure, &explained);
             failure.status()
@@ -689,10 +711,12 @@ where
 {
     // `clap` borrows the texts of the options' ranges and defaults, so these are held here until the job is done.
     let texts = match ArgumentTexts::new(alloc) {
+        // Memory was refused for these texts.
         Err(error) => return refuse(&clap::Error::from(error), out, err),
         Ok(texts) => texts,
     };
     match read_words(alloc, words, &texts) {
+        // The words ask for help or the version, are wrong, or memory was refused for them.
         Err(error) => refuse(&error, out, err),
         Ok(asked) => perform(rt, alloc, asked, files, out, err),
     }

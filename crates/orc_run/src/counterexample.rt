@@ -46,7 +46,7 @@ pub fn trial_text(
     Ok(text)
 }
 
-// Writes what a claim saw of a run, and how that ended, both as the search told it: there is no journal. The error is refused memory.
+// Writes what a claim saw of a run, and how the run ended, both as the search told it: there is no journal. The error is refused memory.
 fn write_sighted(
     alloc: Global,
     trials: &Trials<'_, '_>,
@@ -79,6 +79,7 @@ pub fn schedule_text(
     write_way(alloc, number, lines, &mut text)?;
     match sighted {
         Some(sighted) => write_sighted(alloc, trials, &sighted, &mut text)?,
+        // No search finds such a run any more, so only the lines stand there.
         None => {}
     }
     Ok(text)

@@ -28,8 +28,8 @@ use std::alloc::AllocError;
 use std::thread::Threads;
 
 impl<R: Threads + Sync> Tester<'_, '_, R> {
-    // Makes the run again that shows a failure: in the way of `script`, in the order that `shown` names. The error is that of the run, or refused
-    // memory.
+    // Makes the run again that shows a failure: in the way of `script` (one choice of what the services answer), in the order that `shown` names. The
+    // fault is that of the run, or refused memory, but never one of the engine's own (`sound`).
     #[tactic(auto, using(crate::proofs::Untold::unmade_again))]
     fn run_again(&self, script: &[u8], shown: Failing) -> Result<Run, Untested>
         ensures made { IfOk result (IsMadeAgain self.now.trials.now.source.now (sites_of self.now.trials.now.sites.now) self.now.trials.now.limit script.now) }
@@ -42,9 +42,9 @@ impl<R: Threads + Sync> Tester<'_, '_, R> {
         }
     }
 
-    // Of the way that `shown` names the lines that have a range, each with the numbers of the range with which the claim fails. `cases` has the
-    // scripts of each case's tried ways, `ways` all ways of each case, and `claim` is the claim's place in the test, from 0. Empty if failures aren't
-    // explained, or there is no such case, which doesn't come. The error is refused memory.
+    // Of the way (one choice of what the services answer) that `shown` names the lines that have a range of delays, each with the numbers of the
+    // range with which the claim fails. `cases` has the scripts of each case's tried ways, `ways` all ways of each case, and `claim` is the claim's
+    // place in the test, from 0. Empty if failures aren't explained, or there is no such case, which doesn't come. The error is refused memory.
     fn ranges_of(
         &self,
         cases: &[CaseScripts],
@@ -56,6 +56,7 @@ impl<R: Threads + Sync> Tester<'_, '_, R> {
         ensures sound { IfErr result (λ f. IsOwnFault f → ⊥) }
     {
         let (true, Some(case), Some(ways)) = (
+            // The case and its ways, if failures are explained.
             self.explains,
             cases.get(shown.case),
             ways.get(shown.case),
@@ -89,6 +90,7 @@ impl<R: Threads + Sync> Tester<'_, '_, R> {
             .unwrap_or(&[]);
         let scripts = case.scripts.as_slice();
         // Whether the claim fails, for each way that was tried. `Ways::failing_ranges` then writes the lines.
+        // The same claim and ways as in the trials, but this claim alone.
         let fails = failing_ways(
             self.rt,
             self.alloc,
@@ -101,7 +103,7 @@ impl<R: Threads + Sync> Tester<'_, '_, R> {
     }
 
     // What explains a failure: the lines of `ranges`, which `ranges_of` gives, and the picture of the run that shows the failure. `script` is that of
-    // the run's way. Empty if failures aren't explained. The error is refused memory.
+    // the run's way. Empty if failures aren't explained, as the clause *unasked* says. The error is refused memory.
     fn explanation(&self, script: &[u8], ranges: &[u8], run: Run) -> Result<Vec<u8>, Untested>
         ensures unasked { IfOk result (λ text. self.now.explains ≡ false → text.items ≡ []) }
         ensures cause { IfErr result IsNoText }
@@ -122,8 +124,9 @@ impl<R: Threads + Sync> Tester<'_, '_, R> {
     }
 
     // Makes the run again that shows that a claim fails, and judges the claim on it. `script` is that of the way, and `claim` the claim's place in
-    // the test, from 0. The run of an order is the same each time, so the claim fails where it did; if it didn't, that would be answered as refused
-    // memory. The error is that of the run, or refused memory.
+    // the test, from 0; `shown` has the order, and the verdict that the trial came to. The run of an order is the same each time, so the claim fails
+    // where it did; if it didn't, that would be answered as refused memory. The fault is that of the run, or refused memory, but never one of the
+    // engine's own (`sound`).
     fn fail_again(&self, script: &[u8], claim: usize, shown: Failing) -> Result<Run, Untested>
         ensures fails { IfOk result (FailsAt self.now.trials.now script.now claim shown.failure.verdict) }
         ensures cause { IfErr result (IsUnshown self.now.trials.now.source.now 1 self.now.trials.now.limit script.now) }
@@ -136,6 +139,7 @@ impl<R: Threads + Sync> Tester<'_, '_, R> {
             state: state_at(run.played.summary.end),
             time: run.played.summary.now,
         };
+        // None would be that the test has no such claim.
         let Ok(Some(verdict)) = seen.verdict(self.alloc, self.trials.claims, claim) else {
             return Err(NO_MEMORY);
         };

@@ -38,7 +38,7 @@ pub enum Explained {
     Text(String),
 }
 
-// The fault for `orc_explain_fault`, which explains it; None where another explanation is made, or where the fault's line says all.
+// A run's fault as one that `orc_explain_fault` explains; None where another explanation is made, or where the fault's line says all.
 fn fault_of(fault: RunFault) -> Option<Fault> {
     match fault {
         RunFault::Syntax(fault) => Some(Fault::Syntax(fault)),
@@ -71,7 +71,7 @@ impl Explained {
         }
     }
 
-    /// The text; empty where there is none.
+    /// The text of the explanation; empty where there is none.
     pub fn as_str(&self) -> &str
         ensures { result.now ≡ told self.now }
     {
@@ -81,7 +81,7 @@ impl Explained {
         }
     }
 
-    /// Whether the command line asks for it.
+    /// Whether the command line asks for explanations. Of `Unasked` alone it doesn't.
     pub(crate) fn is_asked(&self) -> bool
         ensures asked { result ≡ is_asked self.now }
         ensures unasked { self.now ≡ Unasked → result ≡ false }
@@ -92,20 +92,22 @@ impl Explained {
         }
     }
 
-    // Keeps a text. If memory for it was refused, what was kept before stays.
+    // Keeps a text as the explanation. If memory for the text was refused, what was kept before stays.
     fn tell(&mut self, text: Result<String, AllocError>) {
         if let Ok(text) = text {
             *self = Explained::Text(text);
         }
     }
 
-    /// Explains a fault that was found in these files. If no explanation is asked for, or memory for it is refused, it adds nothing.
+    /// Explains a fault that was found in these files. If no explanation is asked for, or memory for it is refused, it adds nothing: `Unasked` stays
+    /// so.
     pub fn fault(&mut self, alloc: Global, subject: &Subject, fault: RunFault)
         ensures { self.old ≡ Unasked → self.new ≡ Unasked }
     {
         if !self.is_asked() {
             return;
         }
+        // An entry of the journal is refused: then the journal is needed, and `fault_of` gives None.
         if let RunFault::Check(fault) = fault {
             self.refusal(alloc, subject, fault);
         }
@@ -114,8 +116,8 @@ impl Explained {
         }
     }
 
-    /// Explains a fault of a test's text that was read beside this script. If no explanation is asked for, or memory for it is refused, it adds
-    /// nothing.
+    /// Explains a fault of a test's text. `script` is the text of the script beside which the test was read. If no explanation is asked for, or
+    /// memory for it is refused, it adds nothing.
     pub fn test(&mut self, alloc: Global, test: &Document, script: &[u8], fault: TestFault)
         ensures { self.old ≡ Unasked → self.new ≡ Unasked }
     {
@@ -128,7 +130,8 @@ impl Explained {
         }
     }
 
-    /// Explains how a run of these files ended, whose journal is kept. If no explanation is asked for, or memory for it is refused, it adds nothing.
+    /// Explains how a run of these files ended. `played` is the run with its journal, and `loaded` its program. If no explanation is asked for, or
+    /// memory for it is refused, it adds nothing.
     pub fn ended(&mut self, alloc: Global, subject: &Subject, loaded: &Loaded, played: &Played)
         ensures { self.old ≡ Unasked → self.new ≡ Unasked }
     {
@@ -137,7 +140,8 @@ impl Explained {
         }
     }
 
-    /// Keeps a text on what looks like a mistake in a test. If no explanation is asked for, or memory for it was refused, it adds nothing.
+    /// Keeps a text on what looks like a mistake in a test as the explanation. If no explanation is asked for, or memory for the text was refused, it
+    /// adds nothing.
     pub fn remarks(&mut self, text: Result<String, AllocError>)
         ensures { self.old ≡ Unasked → self.new ≡ Unasked }
     {
@@ -177,6 +181,7 @@ impl Explained {
                 self.tell(explain_unread(alloc, title_of(path), why));
             }
             Failure::Rows => self.tell(explain_rows(alloc)),
+            // A fault was explained where it was found; of the others the failure's line says all.
             Failure::Fault(_)
             | Failure::NoFailure(_)
             | Failure::NoJournal(_)

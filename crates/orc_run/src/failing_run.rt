@@ -38,7 +38,8 @@ fn is_failing(verdict: Option<Verdict>) -> bool
     }
 }
 
-// Whether the claim at this place, from 0, fails in a run of a way that has this journal and ended so. The error is refused memory.
+// Whether the claim at this place, from 0, fails in a run of a way (one choice of what the services of a case answer) that has this journal and ended
+// so. The error is refused memory.
 fn fails_in(
     alloc: Global,
     trials: &Trials<'_, '_>,
@@ -64,8 +65,9 @@ fn fails_in(
     Ok(is_failing(verdict))
 }
 
-// Writes the journal of a run of the way of this script, if the claim at this place, from 0, fails in it: whether it does. Nothing is written where
-// it doesn't. `script` is the way's, and only the contract names it. The fault is refused memory, or one of the output.
+// Writes the journal of a run of the way of this script (one choice of what the services answer), if the claim at this place, from 0, fails in it,
+// and answers whether it does. If not, nothing is written. `script` is the way's, and only the contract names it. The fault is refused memory, or one
+// of the output.
 fn write_failing<W: Write>(
     alloc: Global,
     trials: &Trials<'_, '_>,
@@ -100,8 +102,8 @@ fn write_failing<W: Write>(
     }
 }
 
-/// Writes the journal of the run in this order in which the claim at this place, from 0, fails, in the way of this script. That run was made before,
-/// and is the same each time, so the fault is refused memory, or one of the output.
+/// Writes the journal of the run in this order in which the claim at this place, from 0, fails, in the way of this script (one choice of what the
+/// services answer). That run was made before, and is the same each time, so the fault is refused memory, or one of the output.
 pub(crate) fn write_in_order<W: Write>(
     alloc: Global,
     trials: &Trials<'_, '_>,
@@ -141,8 +143,9 @@ pub(crate) fn write_in_order<W: Write>(
     }
 }
 
-// A run of at most `limit` entries that breaks a claim: the search through the way's schedules, through `most` states at most, says what the claim
-// sees of such a run, and then a run is looked for of which it sees just that. None where either finds none. The error is refused memory.
+// A run of at most `limit` entries that breaks a claim. First a search through the schedules of the way (one choice of what the services answer),
+// through `most` states at most, says what the claim sees of such a run (`seen`), and then a run is looked for of which the claim sees just that.
+// None where either finds none. The error is refused memory.
 fn witness_in(
     alloc: Global,
     way: &Way<'_>,
@@ -152,6 +155,7 @@ fn witness_in(
 ) -> Result<Option<Played>, AllocError>
     ensures { IfOk result (λ found. IfSome found (λ p. IsPlayed way.now.loaded.program way.now.loaded.answers limit p.summary p.published.items p.journal)) }
 {
+    // Without `Fails` the search found no run that breaks the claim.
     let ClaimSearched::Fails(seen) = way.search(alloc, claim, most, limit)? else {
         return Ok(None);
     };
@@ -169,9 +173,9 @@ fn witness_in(
     witness(alloc, &way.loaded, &sighting, places, limit)
 }
 
-/// Writes the journal of a run in which the claim at this place, from 0, fails, in the way of this script: whether one was found. The search for what
-/// the claim sees of such a run looks at `most` states at most. Where none was found, or there is no such claim, nothing is written. Runs of the way
-/// were made before, so that it loads: the fault is refused memory, or one of the output.
+/// Writes the journal of a run in which the claim at this place, from 0, fails, in the way of this script (one choice of what the services answer),
+/// and answers whether one was found. The search for what the claim sees of such a run looks at `most` states at most. Where none was found, or there
+/// is no such claim, nothing is written. Runs of the way were made before, so that it loads: the fault is refused memory, or one of the output.
 pub(crate) fn write_witness<W: Write>(
     alloc: Global,
     trials: &Trials<'_, '_>,

@@ -19,7 +19,7 @@ struct Held<'s, 'a, R> {
 }
 
 impl<R: Threads + Sync> Held<'_, '_, R> {
-    // In how many of these ways the claim fails. All of these runs were made before, so the error is refused memory.
+    // In how many of the ways that have these scripts the claim fails. All of these runs were made before, so the error is refused memory.
     fn count(&self, scripts: &[Vec<u8>]) -> Result<u64, AllocError> {
         let mut told = CaseTold::new(self.alloc, self.trials.claims)?;
         let tried = try_ways(
@@ -38,7 +38,7 @@ impl<R: Threads + Sync> Held<'_, '_, R> {
         }
     }
 
-    // Adds for each of these ways, in their order, whether the claim fails in it. The error is refused memory.
+    // Adds for each of these ways, in their order, whether the claim fails in it: so many values to `fails`. The error is refused memory.
     fn add(&self, scripts: &[Vec<u8>], fails: &mut Vec<bool>) -> Result<(), AllocError> {
         let failing = self.count(scripts)?;
         // Whether it is the same for all of these ways, so that no way need be tried alone.
@@ -57,7 +57,8 @@ impl<R: Threads + Sync> Held<'_, '_, R> {
 }
 
 /// For each of the ways of a case that were tried, whose scripts these are, whether the claim fails in it. `claim` has this one claim; if it is
-/// empty, the error is the same as with refused memory. All but the claims is as in `tried`, and `workers` threads make the runs.
+/// empty, the error is the same as with refused memory. The source, the sites, the orders and the limit are those of `tried`, and `workers` threads
+/// make the runs.
 pub fn failing_ways<R: Threads + Sync>(
     rt: &R,
     alloc: Global,

@@ -34,6 +34,7 @@ pub enum Failure<'a> {
 impl fmt::Display for Failure<'_> {
     ghost output = { λ f. Some (failure_line f) };
 
+    // The line on standard error, without its LF.
     fn fmt<W: fmt::Write>(&self, f: &mut fmt::Formatter<W>) -> fmt::Result {
         match *self {
             // Refused memory isn't the file's fault, so no path is named.
@@ -70,8 +71,8 @@ impl Failure<'_> {
     }
 }
 
-/// Reports a job that was not done: writes the failure's line, and below it what explains it, if that was asked for. The error is that the stream
-/// didn't take all; some of the end may be missing then.
+/// Reports a job that was not done on standard error (`err`): writes the failure's line, and below it what explains it, if that was asked for. The
+/// error is that the stream didn't take all; some of the end may be missing then.
 pub fn report<V: Write>(
     err: &mut V,
     failure: &Failure<'_>,

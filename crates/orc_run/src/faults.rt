@@ -40,6 +40,7 @@ pub enum RunFault {
 impl From<LoadFault> for RunFault {
     ghost from_gives = { λ fault f. f ≡ of_load fault };
 
+    // A fault of loading, which `?` hands on: that of the text in question.
     fn from(fault: LoadFault) -> RunFault {
         match fault {
             LoadFault::Syntax(fault) => RunFault::Syntax(fault),
@@ -52,6 +53,7 @@ impl From<LoadFault> for RunFault {
 impl fmt::Display for RunFault {
     ghost output = { λ f. Some (line f) };
 
+    // The line of the fault, without its LF: `orc: ` and what the fault says of itself. Of the output it says only `write`.
     fn fmt<W: fmt::Write>(&self, f: &mut fmt::Formatter<W>) -> fmt::Result {
         match *self {
             RunFault::Syntax(fault) => write!(f, "orc: {fault}"),
@@ -69,7 +71,7 @@ impl fmt::Display for RunFault {
 impl Error for RunFault {}
 
 impl RunFault {
-    /// The process's status at this fault.
+    /// The process's status at this fault: that of the fault which it has, and 6 where the output failed.
     pub fn status(&self) -> u8
         ensures { result ≡ status self.now }
     {

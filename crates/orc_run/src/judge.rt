@@ -86,6 +86,7 @@ pub enum Unchecked {
     Unread,
 }
 
+// A fault of loading, which `?` hands on.
 impl From<LoadFault> for Unchecked {
     ghost from_gives = { λ fault f. f ≡ Fault (of_load fault) };
 
@@ -95,7 +96,7 @@ impl From<LoadFault> for Unchecked {
 }
 
 // The verdict of `judge` on a journal that is read piece by piece, of which nothing is kept. The fault is one of those of `judge`, or that the
-// journal couldn't be read to its end.
+// journal couldn't be read to its end. In the clauses `text` is what the reader may give (`MayCome`); of one whose bytes are known it is these.
 fn judge_lines<R: Read + Drop>(
     alloc: Global,
     source: &[u8],
@@ -115,6 +116,7 @@ fn judge_lines<R: Read + Drop>(
             entries: checked.entries,
             state: checked.verdict.state,
         }),
+        // A fault of the journal's text, a refused entry, or that the journal couldn't be read.
         Err(TextFault::Journal(fault)) => Err(Unchecked::Fault(RunFault::Journal(fault))),
         Err(TextFault::Check(fault)) => Err(Unchecked::Fault(RunFault::Check(fault))),
         Err(TextFault::Unread) => Err(Unchecked::Unread),

@@ -25,8 +25,9 @@ use std::alloc::{AllocError, Global};
 use std::io::Write;
 use std::thread::Threads;
 
-// Loads the program that a source spells, with the built-in sites and those of a script, and runs it in all orders that the options ask for: the
-// program, and each outcome once, by the least of its orders' numbers. The fault is one of the texts, or of the engine, as `survey_text` has them.
+// Loads the program that a source spells, with the built-in sites and those of a script, and runs it in all orders that the options ask for. The
+// result is the program, and each outcome once, by the least of its orders' numbers. The fault is one of the texts, or of the engine, as
+// `survey_text` has them; nothing is written here (`IsUnwritten`).
 pub(crate) fn surveyed<R: Threads + Sync>(
     rt: &R,
     alloc: Global,
@@ -93,12 +94,13 @@ pub(crate) fn found_of(found: &Schedules) -> &[Ended]
     ensures { result.now ≡ found_of found.now }
 {
     match found {
+        // The outcomes, and how many states there are.
         Schedules::All(ends, _) => ends.as_slice(),
         Schedules::TooMany | Schedules::TooLong => &[],
     }
 }
 
-// Whether a search found all outcomes.
+// Whether a search found all outcomes. If not, it gave up.
 fn says_all(found: &Schedules) -> bool
     ensures { result ≡ says_all found.now }
 {
@@ -108,8 +110,8 @@ fn says_all(found: &Schedules) -> bool
     }
 }
 
-// Adds a line for each outcome that a search found and that came up in none of the `orders` orders, whose outcomes are `seen`. The error is refused
-// memory.
+// Adds a line for each outcome that a search found (`found`) and that came up in none of the `orders` orders, whose outcomes are `seen`. The error is
+// refused memory.
 fn write_more(
     alloc: Global,
     text: &mut Vec<u8>,
@@ -179,11 +181,11 @@ fn text_of(
     Ok(text)
 }
 
-/// Does as [`survey_text`], and searches all schedules of the program too, through as many states at most as the options
-/// say. Behind the outcomes that came up it writes a line for each other one that the search found, `no order (0 of 100) Halted: 43`, and a last line.
-/// That says that each run that ends by itself has one of these outcomes, be it halted or quiet; or why it isn't known: there are more states, as
-/// where a loop goes on publishing, or delays within the limit of entries may add up to a time of over 64 bits. A run that its limit cut has a line if
-/// it came up in an order; nothing is said of other such runs. Answers whether the search found all outcomes.
+/// Does what [`survey_text`] does, and searches all schedules of the program too, through as many states at most as the options say. Behind the
+/// outcomes that came up it writes a line for each other one that the search found, `no order (0 of 100) Halted: 43`, and a last line. That says that
+/// each run that ends by itself has one of these outcomes, be it halted or quiet; or why it isn't known: there are more states, as where a loop goes
+/// on publishing, or delays within the limit of entries may add up to a time of over 64 bits. A run that its limit cut has a line if it came up in an
+/// order; nothing is said of other such runs. Answers whether the search found all outcomes.
 ///
 /// The faults are those of [`survey_text`]; `Engine` comes also where memory is refused to the search.
 #[tactic(auto, using(crate::proofs::Searching::unsearched_before))]

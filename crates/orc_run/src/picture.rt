@@ -41,6 +41,7 @@ fn picture_of<'a>(
 ) -> Result<String, Undrawn>
     ensures { IfErr result IsUndrawable }
 {
+    // The table of sites, the journal, and where the run stands at the journal's end. A picture doesn't need the time.
     let Judged {
         answers,
         journal,
@@ -97,7 +98,7 @@ pub fn draw_text<W: Write>(
     }
 }
 
-// The options of a run, with its journal as what is wanted of it.
+// The options of a run, with its journal as what is wanted of it, whatever was wanted before.
 fn with_journal(options: &RunOptions) -> RunOptions
     ensures { result ≡ with_journal options.now }
 {
@@ -109,8 +110,8 @@ fn with_journal(options: &RunOptions) -> RunOptions
     }
 }
 
-// The text of a run's journal. A run for which memory was refused once it had begun is a fault here, so that no part of a run is drawn as the whole;
-// so is refused memory for the text.
+// The text of the journal of a run with these options. A run for which memory was refused once it had begun is a fault here, so that no part of a run
+// is drawn as the whole; so is refused memory for the text. The engine itself is never to blame (`sound`).
 fn journal_of<R: Threads + Wait + Sync>(
     rt: &R,
     alloc: Global,
@@ -134,6 +135,7 @@ fn journal_of<R: Threads + Wait + Sync>(
         false,
         &mut text,
     ) {
+        // The program isn't needed here.
         Ok((_loaded, played)) => {
             if played.summary.end == End::Memory {
                 return Err(Undrawn::Fault(RunFault::Engine(EngineFault::Memory)));

@@ -12,7 +12,7 @@ use orc_syntax::{Ast, parse, print};
 use std::alloc::{AllocError, Global};
 use std::io::Write;
 
-// The text of a program, as `orc print` writes it. The error is refused memory.
+// The text of the program whose tree this is, as `orc print` writes it. The error is refused memory.
 fn text_of(alloc: Global, ast: &Ast) -> Result<Vec<u8>, AllocError>
     ensures { (s : Source) → IsAst ast.now s → IfOk result (λ t. t.items ≡ printed s) }
 {

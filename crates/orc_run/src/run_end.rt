@@ -6,8 +6,8 @@ use orc_outcome::{End, Played};
 use orc_report::Subject;
 use std::alloc::{AllocError, Global};
 
-/// The text that explains how a run of these files ended, whose journal is kept. Of a run that halted it says what looks like a mistake, and is empty
-/// if nothing does. The error is refused memory, or that the journal isn't kept.
+/// The text that explains how a run of these files ended. `played` is the run with its journal, and `loaded` its program. Of a run that halted it
+/// says what looks like a mistake, and is empty if nothing does. The error is refused memory, or that the run kept no journal.
 pub fn explain_run(
     alloc: Global,
     subject: &Subject,

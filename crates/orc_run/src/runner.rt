@@ -30,8 +30,8 @@ use std::io::Write;
 use std::sync::Wait;
 use std::thread::Threads;
 
-// Runs a program. The journal is kept where what is wanted of the run asks for it, or where `keeps` does. An order's number is for one worker; the
-// command line asks for no other. The fault is as `run_text` says.
+// Runs a program, in the order and on so many workers as the options say. The journal is kept where what is wanted of the run asks for it, or where
+// `keeps` does. An order's number is for one worker; the command line asks for no other. The fault is as `run_text` says.
 fn play<R: Threads + Wait + Sync>(
     rt: &R,
     alloc: Global,
@@ -51,6 +51,7 @@ fn play<R: Threads + Wait + Sync>(
     };
     let (program, answers, limit) = (&loaded.program, &loaded.answers, options.limit);
     let workers = options.workers as usize;
+    // The number of the order, and None for the fixed one. A run without an order is made by `run_unordered`, whose workers share its tokens.
     let number = match options.order {
         Order::Unordered => {
             return run_unordered(rt, alloc, program, answers, workers, keeps, limit);
@@ -66,7 +67,7 @@ fn play<R: Threads + Wait + Sync>(
 }
 
 // Runs a program with these options. The journal is kept where what is wanted of the run asks for it, or where `keeps` does. The fault is the
-// engine's.
+// engine's (`IsOther`: neither a text nor the output is at fault).
 fn run_program<R: Threads + Wait + Sync>(
     rt: &R,
     alloc: Global,
@@ -84,7 +85,8 @@ fn run_program<R: Threads + Wait + Sync>(
 }
 
 /// Writes what is wanted of a run: its values, its values with their times, or its journal. If the run kept no journal, it writes the values,
-/// whatever is wanted. The error is refused memory for the text, or the output's; a prefix was written then.
+/// whatever is wanted. The error is refused memory for the text, or the output's; a prefix was written then. In the clauses `es` are the entries of
+/// the run.
 pub(crate) fn write_run<W: Write>(
     alloc: Global,
     answers: &Answers,

@@ -105,7 +105,8 @@ pub(crate) fn all_scripts(
     }
 }
 
-/// The script of the way in which a failure is. A failure is always in a way that was tried, so the fault, `NO_TEXT`, doesn't come.
+/// The script of the way (one choice of what the services answer) in which a failure is. A failure is always in a way that was tried, so the fault,
+/// `NO_TEXT`, doesn't come.
 pub(crate) fn script_at(cases: &[CaseScripts], found: Counterexample) -> Result<&[u8], Untested>
     ensures script { IfOk result (λ text. IsScript cases.now found text.now) }
     ensures among { IfOk result (λ text. IsAmong (all_texts cases.now) text.now) }
@@ -121,8 +122,9 @@ pub(crate) fn script_at(cases: &[CaseScripts], found: Counterexample) -> Result<
     }
 }
 
-/// The lines that tell a failure's way from other ways of its case: those where a call takes another alternative than the first, or one with a range.
-/// Empty for a case that isn't there, though a failure's case always is. The fault is refused memory.
+/// The lines that tell a failure's way (one choice of what the services answer) from other ways of its case: those where a call takes another
+/// alternative than the first, or one with a range. Empty for a case that isn't there, though a failure's case always is. The fault is refused
+/// memory.
 pub(crate) fn unusual_lines(
     alloc: Global,
     ways: &[Ways],

@@ -28,7 +28,7 @@ use std::alloc::{AllocError, Global};
 /// claims and ways the test has; docs/orc.md, *Limits*, has the number.
 const SEARCHES: u64 = 20;
 
-/// A way whose program is loaded: the source with the way's script.
+/// A way, which is one choice of what the services of a case answer, with its program loaded: the source with the way's script.
 pub(crate) struct Way<'w> {
     /// The way's script.
     pub(crate) script: &'w [u8],
@@ -38,7 +38,7 @@ pub(crate) struct Way<'w> {
     pub(crate) sites: Vec<ClaimSite>,
 }
 
-// Written out, so that a caller's proof sees one call and not the drop of each field.
+// Written out, so that a caller's proof sees one call and not the drop of each field. In the pattern `_` drops a field.
 impl Drop for Way<'_> {
     fn drop(self) {
         let Way {
@@ -50,7 +50,7 @@ impl Drop for Way<'_> {
 }
 
 impl<'w> Way<'w> {
-    /// The way of a script: the source of `trials` is loaded with it. Runs of it were made before, so the error is refused memory.
+    /// The way of a script: the source of `trials` is loaded with it (`IsWay`). Runs of this way were made before, so the error is refused memory.
     pub(crate) fn load(
         alloc: Global,
         trials: &Trials<'_, '_>,
@@ -70,8 +70,9 @@ impl<'w> Way<'w> {
         })
     }
 
-    // Searches the way's schedules, through `most` states at most, for a run that breaks a claim; that none does is said of runs of at most `limit`
-    // entries. `explorer` is that of this way: it keeps what one search has found out for the next claim. The error is refused memory.
+    // Searches the schedules of the way (all orders that the rules leave free), through `most` states (terms without numbers) at most, for a run that
+    // breaks a claim; that none does is said of runs of at most `limit` entries. `explorer` is that of this way's program (`Explores`), before and
+    // after: it keeps what one search has found out for the next claim. The error is refused memory.
     fn search_on(
         &self,
         alloc: Global,
@@ -110,8 +111,8 @@ impl<'w> Way<'w> {
     }
 }
 
-// What is said of a claim, which was whole so far, after a search in the way at this place. `No` where the search gave up, or can't watch for the
-// claim.
+// What is said of a claim, which no schedule of the ways before has broken, after a search in the way at this place (its case, and its number there):
+// `Whole` if no schedule of this way breaks it, `Breaks` if one does, and `No` where the search gave up, or can't watch for the claim.
 fn said_of(place: Broken, found: &ClaimSearched) -> Searched
     ensures { result ≡ said_of place found.now }
 {
@@ -137,6 +138,7 @@ fn cost_of(found: &ClaimSearched, most: usize) -> u64 {
 /// What is searched, and by how much.
 #[derive(Drop)]
 pub(crate) struct Searcher<'s, 'a> {
+    /// Where memory comes from.
     pub(crate) alloc: Global,
     /// The program, the claims, and the limit of each run.
     pub(crate) trials: &'s Trials<'s, 'a>,
@@ -160,7 +162,8 @@ pub struct Sighted {
 }
 
 impl Searcher<'_, '_> {
-    // The place, from 0, of the case in which a claim stands. None for one below `always`, and for the claim that runs end, which has no line.
+    // The claim's section: the place, from 0, of the case in which the claim stands. None for one below `always`, and for the claim that runs end,
+    // which has no line.
     fn section(&self, claim: usize) -> Option<usize>
         ensures { result ≡ section_of (slice_get self.now.test.now.claim_lines.items claim) }
     {
@@ -170,8 +173,9 @@ impl Searcher<'_, '_> {
         }
     }
 
-    // What is said of a claim, at its place in the test from 0, before the first search: whole if searches are asked for, it failed in no run, all
-    // ways of its cases were tried, and no run was cut. Otherwise it isn't searched for (`No`).
+    // What is said of a claim, at its place in the test from 0, before the first search: `Whole` if searches are asked for and may still say more
+    // (`is_open`), since it failed in no run, all ways of its cases were tried (`are_full`), and no run was cut. Otherwise it isn't searched for
+    // (`No`).
     #[tactic(auto, using(crate::proofs::Schedules::open_is_full))]
     fn begun(&self, claim: usize) -> Searched
         ensures { (result ≡ Searched.No) ⊎ ((result ≡ Searched.Whole) × (are_full (section_of (slice_get self.now.test.now.claim_lines.items claim)) 0 self.now.reports.now ≡ true)) }
@@ -182,8 +186,8 @@ impl Searcher<'_, '_> {
         Searched::No
     }
 
-    // What is said of each claim before the first search. The claim that runs end by themselves is the last one; it has no line in the test, and
-    // isn't searched for.
+    // What is said of each claim before the first search, which is true (`AreSoFar`). The claim that runs end by themselves is the last one; it has
+    // no line in the test, and isn't searched for. The error is refused memory.
     #[tactic(auto, using(crate::proofs::Schedules::none_begun))]
     fn begin(&self) -> Result<Vec<Searched>, AllocError>
         ensures { IfOk result (λ all. AreSoFar self.now 0 0 all.items) }
@@ -195,7 +199,8 @@ impl Searcher<'_, '_> {
         Ok(all)
     }
 
-    // Whether a claim that is whole so far is one of the case at this place, or below `always`. If none is, the case needs no search.
+    // Whether the case at this place needs a search: whether a claim that is `Whole`, so that no schedule so far breaks it, is one of this case or
+    // below `always` (`is_held`). If none is, the contract says so (`IsUnwanted`).
     fn wants(&self, case: usize, said: &[Searched]) -> bool
         ensures { result ≡ false → IsUnwanted self.now case said.now }
     {
@@ -209,8 +214,8 @@ impl Searcher<'_, '_> {
         false
     }
 
-    // In how many of the tried ways of this case and of the cases behind it a claim of this section is judged. `section` is the place of the claim's
-    // own case, from 0, or None below `always`.
+    // In how many of the tried ways of this case and of the cases behind it a claim of this section is judged (`is_held`). `section` is the place of
+    // the claim's own case, from 0, or None below `always`.
     fn ways_from(&self, case: usize, section: Option<usize>) -> u64 {
         let mut number: u64 = 0;
         for at in case..self.cases.len() {
@@ -232,9 +237,10 @@ impl Searcher<'_, '_> {
                 > left
     }
 
-    // Searches the way at this place for a run that breaks this claim of this section (the place of its case, or None below `always`), and takes the
-    // states at which it looked from those that are `left`. A claim that holds in the way is given up too (`TooMany`) if the other ways would need
-    // too many states. The error is refused memory.
+    // Searches the way at this place (its case, and its number there) for a run that breaks this claim of this section (the place of its case, or
+    // None below `always`), and takes the states at which it looked from those that are `left`. `explorer` is that of this way's program
+    // (`Explores`), before and after. A claim that holds in the way is given up too (`TooMany`) if the other ways would need too many states. The
+    // error is refused memory.
     fn find(
         &self,
         way: &Way<'_>,
@@ -263,8 +269,9 @@ impl Searcher<'_, '_> {
         Ok(found)
     }
 
-    // What is said of a claim, at its place in the test from 0, after the way at this place. The claim was whole before that way, and stays whole if
-    // it is one of another case. `left` is how many states all searches may still look at; this search takes those at which it looked. The error is
+    // What is said of a claim, at its place in the test from 0, after the way at this place (its case, and its number there). Before that way the
+    // claim was `Whole`: no schedule broke it. It stays so if it is one of another case. The answer is true of this way (`IsAfter`). `explorer` is
+    // that of this way's program. `left` is how many states all searches may still look at; this search takes those at which it looked. The error is
     // refused memory, here and in the functions that call this one.
     #[tactic(auto, using(crate::proofs::Schedules::untouched_word, crate::proofs::Schedules::unknown_word))]
     fn say_again(
@@ -294,8 +301,9 @@ impl Searcher<'_, '_> {
         }
     }
 
-    // What is said of a claim, at its place in the test from 0, after the way at this place, where `before` was said of it. Once it isn't whole, no
-    // search changes that. `left` is how many states all searches may still look at.
+    // What is said of a claim, at its place in the test from 0, after the way at this place (its case, and its number there), where `before` was said
+    // of it. What is new in the answer is true of this way (`IsAfter`). Once a schedule broke the claim, or a search gave it up, no search changes
+    // what is said. `left` is how many states all searches may still look at.
     #[tactic(auto, using(crate::proofs::Schedules::untouched_word))]
     fn say(
         &self,
@@ -317,8 +325,9 @@ impl Searcher<'_, '_> {
         }
     }
 
-    // What is said of each claim after the way that is loaded here, at this place. `explorer` serves all of these searches. `before` is what was said
-    // before this way, and `left` how many states all searches may still look at.
+    // What is said of each claim after the way that is loaded here, at this place (its case, and its number there). `explorer`, that of the way's
+    // program, serves all of these searches. `before` is what was said before this way; what is new is true of this way (`AreAfter`). `left` is how
+    // many states all searches may still look at.
     #[tactic(auto, using(crate::proofs::Schedules::nothing_said))]
     fn say_of_claims(
         &self,
@@ -340,8 +349,9 @@ impl Searcher<'_, '_> {
         Ok(after)
     }
 
-    // What is said of each claim after the way of this script, at this place. The way is loaded only if a claim is to be searched for in it. `before`
-    // is what was said before this way, and `left` how many states all searches may still look at.
+    // What is said of each claim after the way of this script, at this place (its case, and its number there). The way is loaded only if a claim is
+    // to be searched for in it. `before` is what was said before this way; what is new is true of this way (`AreAfter`). `left` is how many states
+    // all searches may still look at.
     #[tactic(auto, using(crate::proofs::Schedules::all_untouched))]
     fn say_of_way(
         &self,
@@ -361,8 +371,8 @@ impl Searcher<'_, '_> {
         Ok(after)
     }
 
-    // What is said of each claim after the ways of the case at this place, from 0. `ways` has their scripts. `before` is what was said before this
-    // case, and `left` how many states all searches may still look at.
+    // What is said of each claim after the ways of the case at this place, from 0. `ways` has the scripts of that case's tried ways. `before` is what
+    // was said before this case, which has to be true (`AreSoFar`), as the answer then is. `left` is how many states all searches may still look at.
     fn say_of_case(
         &self,
         case: usize,
@@ -385,7 +395,8 @@ impl Searcher<'_, '_> {
         Ok(said)
     }
 
-    /// What is said of each claim of the test's lines after all searches. The error is refused memory.
+    /// What is said of each claim of the test's lines after all searches, all of it true (`AreSaid`): every schedule keeps the claim, one breaks it,
+    /// or nothing is known. The error is refused memory.
     pub(crate) fn search(&self) -> Result<Vec<Searched>, AllocError>
         ensures { IfOk result (λ said. AreSaid self.now.trials.now self.now.test.now.claim_lines.items self.now.cases.now self.now.reports.now said.items) }
     {
@@ -398,8 +409,8 @@ impl Searcher<'_, '_> {
         Ok(said)
     }
 
-    /// What a search alone sees of a run that breaks a claim, in the way of this script. None where it finds no such run, where there is no such
-    /// claim, or where a search can't watch for it. The error is refused memory.
+    /// What a search alone sees of a run that breaks the claim at this place in the test, from 0, in the way of this script. None where it finds no
+    /// such run, where there is no such claim, or where a search can't watch for it. The error is refused memory.
     pub(crate) fn see(&self, script: &[u8], claim: usize) -> Result<Option<Sighted>, AllocError>
         ensures { IfOk result (λ found. IfSome found (IsSighted self.now.trials.now script.now claim)) }
     {

@@ -50,14 +50,16 @@ struct Outcome<'o> {
     values: &'o [Value],
 }
 
-// `seen` counts the values that were published so far, each as wanted. The search gives up a way where `after` gives None.
+// A search for a run asks these three functions. `seen` counts the values that the run has published so far, each as wanted. The search gives up a
+// run where `after` gives None.
 impl Wanted for Outcome<'_> {
-    // An outcome has no times, so all of them are one to the search.
+    // An outcome says nothing of times, so they are all one time to the search.
     fn time(&self, _now: u64) -> u64 {
         0
     }
 
-    // A value that isn't the next wanted one must not come.
+    // How many values were published as wanted, once this happened. A value that isn't the next wanted one must not come. Calls and answers count for
+    // nothing: an outcome has none.
     fn after(&self, seen: usize, _time: u64, happened: Happened<'_>) -> Option<usize> {
         let Happened::Published(value) = happened else {
             return Some(seen);
@@ -68,13 +70,13 @@ impl Wanted for Outcome<'_> {
         }
     }
 
-    // All values were published, and the run ends as is wanted.
+    // Whether the run that ends so has the outcome: all values were published, and it ends as is wanted.
     fn is_met(&self, seen: usize, _time: u64, end: End) -> bool {
         seen == self.values.len() && end == self.end
     }
 }
 
-// Whether a run ended so and published these values.
+// Whether a run has this outcome: it ended so, and published these values in this order.
 fn has(played: &Played, outcome: Outcome<'_>) -> bool
     ensures end { result ≡ true → played.now.summary.end ≡ outcome.entry.end }
     ensures values { result ≡ true → played.now.published.items ≡ outcome.entry.values.now }
@@ -126,8 +128,8 @@ fn found_run(
     }
 }
 
-// Writes the journal of a run, if it has the outcome with this number; if not, the fault is `NoRun`. It is looked at here since the search that finds
-// a run doesn't promise its outcome.
+// Writes the journal of a run, if it has this outcome, whose number is `number`, from 1; if not, the fault is `NoRun`. This function compares run and
+// outcome, since the search that finds a run doesn't promise the run's outcome. The other fault is one of the output; a prefix was written then.
 fn write_shown<W: Write>(
     alloc: Global,
     loaded: &Loaded,
@@ -153,8 +155,8 @@ fn write_shown<W: Write>(
     }
 }
 
-// Makes the run in the order with this number, from 0, again, and keeps its journal (`true`). The fault is the engine's, also where memory is refused
-// once the run has begun.
+// Makes the run in the order with this number, from 0, again, and keeps its journal (`true`). The fault is the engine's (`IsOther`: neither a text
+// nor the output is at fault), also where memory is refused once the run has begun.
 fn run_in_order(alloc: Global, loaded: &Loaded, order: u64, limit: u64) -> Result<Played, RunFault>
     ensures played { IfOk result (λ p. IsPlayed loaded.now.program loaded.now.answers limit p.summary p.published.items p.journal) }
     ensures fault { IfErr result IsOther }
@@ -181,7 +183,8 @@ fn run_in_order(alloc: Global, loaded: &Loaded, order: u64, limit: u64) -> Resul
 }
 
 // Writes the journal of a run that has an outcome to which no order came. `number` is the outcome's, from 1, and `seen` has the outcomes of the
-// orders. Those that only the search finds have the numbers that follow, in the order in which a search through so many states finds them.
+// orders. Those that only the search finds have the numbers that follow, in the order in which a search through so many states finds them. The fault
+// is that there is none with this number, that no run was found that has it, refused memory, or one of the output.
 fn show_unseen<W: Write>(
     alloc: Global,
     loaded: &Loaded,
@@ -202,6 +205,7 @@ fn show_unseen<W: Write>(
     let Ok(found) = search(alloc, &loaded.program, &loaded.answers, states, limit) else {
         return Err(NO_MEMORY);
     };
+    // `found_of` gives no outcomes if the search gave up.
     let Some(ended) = unseen_at(seen, found_of(&found), place) else {
         return Err(Unshown::NoOutcome(number));
     };
@@ -221,9 +225,9 @@ fn show_unseen<W: Write>(
 /// number, from 1: of those that [`survey_text`](crate::survey_text) writes, and where the options say how many states are searched, of those that
 /// [`search_text`](crate::search_text) writes behind them.
 ///
-/// The faults are those of `survey_text`; `Engine` comes also where memory is refused to a search. Without a fault there may be no outcome with this
-/// number (`NoOutcome`), or there is one and no run is found that has it (`NoRun`). Nothing is written then, but at a fault of the output a prefix of the
-/// journal's text.
+/// The faults are those of `survey_text`, and `Engine` comes also where memory is refused to a search. Without a fault there may be no outcome with
+/// this number (`NoOutcome`), or there is one and no run is found that has it (`NoRun`). Nothing is written then, but at a fault of the output a
+/// prefix of the journal's text.
 pub fn show_text<R: Threads + Sync, W: Write>(
     rt: &R,
     alloc: Global,
@@ -250,6 +254,7 @@ pub fn show_text<R: Threads + Sync, W: Write>(
         return write_shown(alloc, &loaded, &played, outcome, options.number, out);
     }
     match options.states {
+        // No search is asked for, so there are no outcomes but those of the orders.
         None => Err(Unshown::NoOutcome(options.number)),
         Some(states) => show_unseen(
             alloc,
@@ -268,6 +273,7 @@ impl From<RunFault> for Unshown {
 
     ghost from_gives = { λ fault u. u ≡ Fault fault };
 
+    // A fault of the texts or of the orders' runs, which `?` hands on.
     fn from(fault: RunFault) -> Unshown {
         Unshown::Fault(fault)
     }

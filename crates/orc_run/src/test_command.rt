@@ -83,7 +83,9 @@ pub(crate) const NO_MEMORY: Untested = Untested::Fault(RunFault::Engine(EngineFa
 /// What is tried, and how.
 #[derive(Drop)]
 pub(crate) struct Tester<'s, 'a, R> {
+    /// The runtime, which starts the threads.
     pub(crate) rt: &'s R,
+    /// Where memory comes from.
     pub(crate) alloc: Global,
     /// The names of the files, for the commands that the table shows.
     names: &'s Names<'s>,
@@ -97,14 +99,15 @@ pub(crate) struct Tester<'s, 'a, R> {
     pub(crate) explains: bool,
 }
 
-// A fault of the test's text.
+// A fault of the test's text, as the reason why nothing is written of the test.
 pub(crate) fn unread(fault: TestFault) -> Untested
     ensures { result ≡ Untested.Fault (RunFault.Test fault) }
 {
     Untested::Fault(RunFault::Test(fault))
 }
 
-/// A trial's fault, as a run's.
+/// The fault of a trial (a run in one way and one order) as that of a run: either the program isn't loaded with the way's script, or the engine is at
+/// fault.
 pub(crate) fn run_fault(fault: TrialFault) -> RunFault
     ensures { result ≡ of_trial fault }
 {
@@ -115,8 +118,9 @@ pub(crate) fn run_fault(fault: TrialFault) -> RunFault
 }
 
 impl<R: Threads + Sync> Tester<'_, '_, R> {
-    // Tries the ways of a case that have these scripts, each in all orders: how many there were, and what is reported of each claim. The fault is one
-    // of the source's names or of the engine.
+    // Tries the ways of a case that have these scripts (each one choice of what the case's services answer), each in all orders: how many there were,
+    // and what is reported of each claim. The fault is that of the first script with which the source isn't loaded, or one of the engine: a number is
+    // out of range or memory was refused, but the engine itself is never to blame (`sound`).
     fn try_case(&self, scripts: &CaseScripts) -> Result<CaseReport, Untested>
         ensures tried { IfOk result (IsTried self.now.trials.now scripts.now) }
         ensures cause { IfErr result (AreUntried self.now.trials.now.source.now self.now.workers self.now.trials.now.limit (texts scripts.now.scripts.items)) }
@@ -149,7 +153,8 @@ impl<R: Threads + Sync> Tester<'_, '_, R> {
         })
     }
 
-    // Tries the ways of each case. The result has a report for each case, in their order.
+    // Tries the ways of each case (choices of what its services answer): `cases` has their scripts. The result has a report for each case, in their
+    // order. The faults are those of `try_case`.
     #[tactic(auto, using(crate::proofs::Testing::one_tried, crate::proofs::Untold::memory_untried, crate::proofs::Untold::untried_case))]
     fn try_cases(&self, cases: &[CaseScripts]) -> Result<Vec<CaseReport>, Untested>
         ensures tried { IfOk result (λ reports. AllZip (IsTried self.now.trials.now) cases.now reports.items) }
@@ -173,7 +178,8 @@ impl<R: Threads + Sync> Tester<'_, '_, R> {
         }
     }
 
-    // Searches all schedules for the claims that failed in no run. The fault is refused memory.
+    // Searches all schedules for the claims that failed in no run; `reports` says which these are. The result has what is found of each claim of the
+    // test's lines, and all of it is true (`AreSaid`). The fault is refused memory.
     fn search_all(
         &self,
         test: &Test<'_>,
@@ -199,7 +205,7 @@ impl<R: Threads + Sync> Tester<'_, '_, R> {
     }
 }
 
-// Writes a text. At a fault a prefix of it was written.
+// Writes a text. The fault is one of the output; a prefix of the text was written then (`LeavesUntested`).
 fn write_whole<W: Write>(out: &mut W, text: &[u8]) -> Result<(), Untested>
     ensures ok { OnOk result (Appends (W.contents out.old) (W.contents out.new) text.now) }
     ensures err { IfErr result (LeavesUntested (W.contents out.old) (W.contents out.new)) }
@@ -217,7 +223,7 @@ fn write_whole<W: Write>(out: &mut W, text: &[u8]) -> Result<(), Untested>
 fn failing_claim(rows: &[Row], number: u64) -> usize
     ensures { result ≡ failing_claim number rows.now }
 {
-    // Which failure of the rows that are left is looked for, from 1.
+    // The number, from 1, of the failure that is looked for, among the rows that are left.
     let mut number = number;
     // Not a `for`: the loop's invariant speaks of the rest of the list.
     let mut rest = rows;
@@ -238,9 +244,9 @@ fn failing_claim(rows: &[Row], number: u64) -> usize
 }
 
 impl<R: Threads + Sync> Tester<'_, '_, R> {
-    // Writes the table of a test: its rows, below each failure what shows it, and the commands that show the first failure. The fault is that of a
-    // run that is made again, refused memory, or one of the output. `cases` has the scripts of each case's tried ways, `ways` all ways of each case,
-    // and `rows` are those of `report`.
+    // Writes the table of a test: its rows, below each failure what shows it, and the commands that show the first failure. `cases` has the scripts
+    // of each case's tried ways, `ways` all ways of each case, and `rows` are those of `report`. The fault is that of a run that is made again,
+    // refused memory, or one of the output. Nothing was written then, but at one of the output a prefix.
     #[tactic(auto, using(crate::proofs::Testing::unwritten, crate::proofs::Untold::texts_unshown))]
     fn write_table<W: Write>(
         &self,
@@ -256,6 +262,7 @@ impl<R: Threads + Sync> Tester<'_, '_, R> {
         ensures cause { IfErr result (AreUnshown self.now.trials.now.source.now self.now.trials.now.limit (all_texts cases.now)) }
         ensures sound { IfErr result (λ f. IsOwnFault f → ⊥) }
     {
+        // One text for each failure, in the order of the rows: it stands below the failure.
         let details = self.all_details(report.test, cases, ways, rows)?;
         let names = self.names;
         // The options on which failures depend, which the commands repeat.
@@ -267,14 +274,16 @@ impl<R: Threads + Sync> Tester<'_, '_, R> {
             test: names.test,
             options: known.as_slice(),
         };
+        // The whole table, in which `call` gives the commands that show the first failure.
         let Ok(text) = report.table(self.alloc, &call, details.as_slice()) else {
             return Err(NO_TEXT);
         };
         write_whole(out, text.as_slice())
     }
 
-    // Writes the script of the way in which the failure with this number, from 1, is. `cases` has the scripts of each case's tried ways. The fault is
-    // that there is no such failure, or one of the output.
+    // Writes the script of the way (one choice of what the services answer) in which the failure with this number, from 1, is. `cases` has the
+    // scripts of each case's tried ways, and `rows` the failures. The fault is that there is no such failure, or one of the output. Nothing was
+    // written then, but at one of the output a prefix.
     #[tactic(auto, using(crate::proofs::Testing::unwritten, crate::proofs::Untold::texts_unshown, crate::proofs::Untold::unshown_unwritten))]
     fn write_script<W: Write>(
         &self,
@@ -288,6 +297,7 @@ impl<R: Threads + Sync> Tester<'_, '_, R> {
         ensures cause { IfErr result (AreUnwritten self.now.trials.now.source.now self.now.trials.now.limit (all_texts cases.now) (what.Script number) rows.now) }
         ensures sound { IfErr result (λ f. IsOwnFault f → ⊥) }
     {
+        // What shows the failure: a run in an order, or a schedule that the search found. None is that there are fewer failures.
         let Some(found) = failure_at(rows, number) else {
             return Err(Untested::NoFailure(number));
         };
@@ -311,6 +321,7 @@ impl<R: Threads + Sync> Tester<'_, '_, R> {
         ensures cause { IfErr result (IsUnfound self.now.trials.now.source.now self.now.trials.now.limit script.now number) }
         ensures sound { IfErr result (λ f. IsOwnFault f → ⊥) }
     {
+        // `write_witness` answers whether it found such a run, and then has written its journal.
         if write_witness(self.alloc, self.trials, self.states, script, claim, out)? {
             Ok(())
         } else {
@@ -318,8 +329,9 @@ impl<R: Threads + Sync> Tester<'_, '_, R> {
         }
     }
 
-    // Writes the journal of the run that shows the failure with this number, from 1. `cases` has the scripts of each case's tried ways. The fault is
-    // that there is no such failure, or no run of it is found; refused memory; or one of the output.
+    // Writes the journal of the run that shows the failure with this number, from 1. `cases` has the scripts of each case's tried ways, and `rows`
+    // the failures. The fault is that there is no such failure, or no run of it is found; refused memory; or one of the output. Nothing was written
+    // then, but at one of the output a prefix.
     #[tactic(auto, using(crate::proofs::Testing::unwritten, crate::proofs::Untold::of_script, crate::proofs::Untold::texts_unshown, crate::proofs::Untold::unshown_unwritten))]
     fn write_journal<W: Write>(
         &self,
@@ -333,23 +345,28 @@ impl<R: Threads + Sync> Tester<'_, '_, R> {
         ensures cause { IfErr result (AreUnwritten self.now.trials.now.source.now self.now.trials.now.limit (all_texts cases.now) (what.Journal number) rows.now) }
         ensures sound { IfErr result (λ f. IsOwnFault f → ⊥) }
     {
+        // What shows the failure: a run in an order, or a schedule that the search found. None is that there are fewer failures.
         let Some(found) = failure_at(rows, number) else {
             return Err(Untested::NoFailure(number));
         };
         let script = script_at(cases, found)?;
+        // The place of the claim that fails, from 0.
         let claim = failing_claim(rows, number);
         match found {
+            // The run of this order shows the failure, and is made again.
             Counterexample::Trial(shown) => {
                 let order = shown.failure.order;
                 write_in_order(self.alloc, self.trials, order, script, claim, out)
             }
+            // Only the search found the failure, and it keeps no run. So a run is looked for in which the claim fails.
             Counterexample::Schedule(_) => self.write_found(script, claim, number, out),
         }
     }
 
     // Writes what `options` want of a test whose ways were tried: the table, or the script or the journal of one failure. `cases` has the scripts of
     // each case's tried ways, `ways` all ways of each case, and `rows` are those of `report`. The fault is that there is no failure with the number
-    // that `options` have, or no run of it is found; that of a run that is made again; refused memory; or one of the output.
+    // that `options` have, or no run of it is found; that of a run that is made again; refused memory; or one of the output. Nothing was written
+    // then, but at one of the output a prefix.
     #[tactic(auto, using(crate::proofs::Untold::unshown_unwritten))]
     fn write_shown<W: Write>(
         &self,
@@ -375,7 +392,8 @@ impl<R: Threads + Sync> Tester<'_, '_, R> {
 
     // Writes what `options` want of a test whose ways were tried, the table or what shows one failure, and answers how many claims fail. `cases` has
     // the scripts of each case's tried ways, and `ways` all ways of each case. The fault is that there is no failure with the number that `options`
-    // have, or no run of it is found; that of a run that is made again; refused memory; or one of the output.
+    // have, or no run of it is found; that of a run that is made again; refused memory; or one of the output. Nothing was written then, but at one of
+    // the output a prefix.
     #[tactic(auto, using(crate::proofs::Testing::unwritten))]
     fn write_test<W: Write>(
         &self,
@@ -396,12 +414,14 @@ impl<R: Threads + Sync> Tester<'_, '_, R> {
         };
         let rows = all.as_slice();
         self.write_shown(cases, ways, report, rows, options, out)?;
+        // The number of rows of a claim that fails.
         Ok(failing(rows))
     }
 }
 
-// What looks like a mistake in a test: services that no run asked, and calls that no line answers. `script` is the script beside the test, `cases`
-// has the scripts of each case's tried ways, and `workers` threads make their runs again. The error is refused memory.
+// The text on what looks like a mistake in a test: services that no run asked, and calls that no line answers. It is empty if nothing does. `script`
+// is the script beside the test, `cases` has the scripts of each case's tried ways, and `workers` threads make their runs again. The error is refused
+// memory.
 fn remarks<'t, 'a, R: Threads + Sync>(
     rt: &R,
     alloc: Global,
@@ -436,13 +456,15 @@ fn tell_remarks<'t, 'a, R: Threads + Sync>(
             let workers = options.workers as usize;
             explained.remarks(remarks(rt, alloc, trials, test, cases, script, workers));
         }
+        // A script or a journal is wanted, or no explanation is asked for.
         _ => {}
     }
 }
 
-// Tries the ways of a test's cases, searches all schedules, and writes what is wanted of the test: how many claims fail. `cases` has the scripts of
-// the ways that are tried, `ways` all ways of each case, and `explains` says whether failures are explained. The fault is that of a run, refused
-// memory, one of the output, or that what is to be shown isn't there.
+// Tries the ways of a test's cases (choices of what their services answer), searches all schedules, and writes what is wanted of the test: how many
+// claims fail. `cases` has the scripts of the ways that are tried, `ways` all ways of each case, and `explains` says whether failures are explained.
+// `trials` and `options` have the same limit of entries. The fault is that of a run, refused memory, one of the output, or that what is to be shown
+// isn't there; the engine itself is never to blame (`sound`).
 #[tactic(auto, using(crate::proofs::Testing::unwritten, crate::proofs::Untold::untried_untold, crate::proofs::Untold::memory_untold))]
 fn try_and_write<'t, 'a, R: Threads + Sync, W: Write>(
     rt: &'t R,
@@ -471,6 +493,7 @@ fn try_and_write<'t, 'a, R: Threads + Sync, W: Write>(
         states: options.states,
         explains,
     };
+    // What the trials came to in each case, and what the search found of each claim.
     let reports = tester.try_cases(cases)?;
     let tried = reports.as_slice();
     let searched = tester.search_all(test, cases, tried)?;
@@ -498,9 +521,10 @@ fn add_end(alloc: Global, test: &mut Test<'_>) -> Result<(), AllocError>
     Ok(())
 }
 
-// Judges the claims of a test that was read, to which `add_end` has added one, in these ways of its cases: how many fail. `script` is the script
-// beside the test. The remarks on what looks like a mistake come last, once the table has been written. The fault is that of a run, refused memory,
-// one of the output, or that what is to be shown isn't there.
+// Judges the claims of a test that was read, to which `add_end` has added the one that runs end, in these ways of its cases: how many fail. `script`
+// is the script beside the test. The remarks on what looks like a mistake come last, once the table has been written. The fault is that of a run,
+// refused memory, one of the output, or that what is to be shown isn't there. The clauses *tested* and *cause* hold of each text that says this test
+// beside that script.
 #[tactic(auto, using(crate::proofs::Testing::unwritten))]
 fn hold<'t, 'a, R: Threads + Sync, W: Write>(
     rt: &R,
@@ -519,6 +543,7 @@ fn hold<'t, 'a, R: Threads + Sync, W: Write>(
     ensures cause { (text : List ℕ) (others : Table) (s : Source) (read : ATest) → SpellsTree source.now s → Says script.now others → SaysTest text others (test_of read) → IsJudged read test.now → AreWays (test_of read) 0 ways.now → (length ways.now ≡ length read.cases.items) → IfErr result (IsUntestedFor source.now text script.now options.now) }
     ensures sound { IfErr result (λ f. IsOwnFault f → ⊥) }
 {
+    // The scripts of each case's first ways, as many of a case as the options say.
     let cases = all_scripts(alloc, ways, options.ways, script)?;
     let sites = test.sites.as_slice();
     let claims = test.claims.as_slice();
@@ -538,7 +563,7 @@ fn hold<'t, 'a, R: Threads + Sync, W: Write>(
     Ok(number)
 }
 
-// The table of the built-in sites and those of the script beside the test. The fault is one of the script's text.
+// The table of the built-in sites and those of the script beside the test. The fault is one of the script's text (`IsNoScript`).
 fn others_of(alloc: Global, script: &[u8]) -> Result<Answers, Untested>
     ensures says { IfOk result (Says script.now) }
     ensures cause { IfErr result (IsNoScript script.now) }
@@ -550,7 +575,8 @@ fn others_of(alloc: Global, script: &[u8]) -> Result<Answers, Untested>
     }
 }
 
-// The test that a text says, beside the sites of a script, which need no service in it. The fault is one of the test's text.
+// The test that a text says, beside the sites `others`: the built-in ones and those of a script, which need no service in the test. The fault is one
+// of the test's text (`IsNoTest`).
 fn known_of<'a>(alloc: Global, text: &'a [u8], others: &Answers) -> Result<Test<'a>, Untested>
     ensures says { IfOk result (λ t. SaysTest text.now others.now (test_of t)) }
     ensures cause { IfErr result (IsNoTest text.now others.now) }

@@ -28,6 +28,7 @@ fn times_of(alloc: Global, journal: &Journal) -> Result<Vec<u8>, AllocError>
     ensures told { IfOk result (λ lines. lines.items ≡ timed 0 journal.now.entries) }
 {
     let mut lines = Vec::new(alloc);
+    // The time so far: that of the last tick.
     let mut now = 0;
     for at in 0..journal.len() {
         let Some(entry) = journal.get(at) else {

@@ -32,7 +32,8 @@ fn is_service(test: &Test<'_>, name: &[u8]) -> bool {
     test.services.iter().any(|line| line.service.name == name)
 }
 
-// Whether a site of the table halts at its first call with these arguments, without a delay; false where it has no such site.
+// Whether a site of the table halts at its first call with these arguments, without a delay: so a call that no line answers looks. False where the
+// table has no such site.
 fn halts(answers: &Answers, name: &[u8], args: &Args) -> bool {
     match answers.site_named(name) {
         Some(site) => matches!(answers.find(site, args, 1), Found::After(Answer::Halt, 0)),
@@ -55,8 +56,9 @@ fn write_catch_all(text: &mut Vec<u8>, name: &[u8], arguments: usize) -> Result<
     text.extend_from_slice(b") = 0")
 }
 
-// The sites of the script behind the test's lines. Behind the script's own lines each service has a line for each number of arguments, which answers:
-// so a call of a service halts there only by a line of the script. The error is refused memory, or that the script is too long with these lines.
+// The sites of the script beside the test, whose lines stand behind the test's. Behind the script's own lines each service has a line for each number
+// of arguments, which answers: so a call of a service halts there only by a line of the script. The error is refused memory, or that the script is
+// too long with these lines.
 fn sites_behind(alloc: Global, test: &Test<'_>, script: &[u8]) -> Result<Answers, AllocError> {
     let Ok(sites) = read_script(alloc, script) else {
         return Err(AllocError);
@@ -79,6 +81,7 @@ fn sites_behind(alloc: Global, test: &Test<'_>, script: &[u8]) -> Result<Answers
 /// The calls of one case that no line answers, each named once.
 #[derive(Drop)]
 struct Calls<'t, 'a> {
+    /// The test, whose services are asked.
     test: &'t Test<'a>,
     /// The sites of the script, with lines behind its own that answer all other calls of services (`sites_behind`). So a call of a service halts
     /// there only by a line of the script.
@@ -92,7 +95,7 @@ struct Calls<'t, 'a> {
 }
 
 impl Calls<'_, '_> {
-    // Whether a line of the case, or of `given`, takes a call.
+    // Whether a line of the case, or of `given`, takes a call of this name with these arguments.
     fn is_taken(&self, name: &[u8], args: &[Value]) -> bool {
         self.test.services.iter().any(|line| {
             is_of(line, self.case) && line.service.name == name && takes(&line.service, args)
@@ -100,7 +103,7 @@ impl Calls<'_, '_> {
     }
 
     // Whether no line answers a call of a service, so that it halts at once: no line of the case, and none of the script behind those of the test.
-    // `answers` has the sites of the way in which the call is made.
+    // `answers` has the sites of the way in which the call is made. False for a call of another site.
     fn is_unanswered(&self, answers: &Answers, name: &[u8], args: &Args) -> bool {
         is_service(self.test, name)
             && !self.is_taken(name, args.as_slice())
@@ -108,7 +111,8 @@ impl Calls<'_, '_> {
             && !halts(self.behind, name, args)
     }
 
-    // Names a call, unless it was named before. Once `SHOWN` are named, it only notes that there are more. The error is refused memory.
+    // Names a call as it is written, in backquotes, unless it was named before. Once `SHOWN` are named, it only notes that there are more. The error
+    // is refused memory.
     fn add(&mut self, alloc: Global, name: &[u8], args: &[Value]) -> Result<(), AllocError> {
         let mut page = Page::new(alloc);
         page.say_word("`", name, "");
@@ -126,7 +130,8 @@ impl Calls<'_, '_> {
         Ok(())
     }
 
-    // Notes the calls that no line answers in the run of a way in order 0. The trials made this run before, so the error is refused memory.
+    // Notes the calls that no line answers in the run of a way (one choice of what the services answer) in order 0. `script` is the way's. The trials
+    // made this run before, so the error is refused memory.
     fn note(
         &mut self,
         alloc: Global,
@@ -145,6 +150,7 @@ impl Calls<'_, '_> {
             return Ok(());
         };
         for at in 0..journal.len() {
+            // Only calls are looked at.
             if let Some(Entry::Call(_, _, site, args)) = journal.get(at) {
                 // Each call's site is in the table.
                 let name = answers.name(site).unwrap_or(b"");
@@ -156,7 +162,7 @@ impl Calls<'_, '_> {
         Ok(())
     }
 
-    // Writes a line for each call that is named, and one if there are more; a head before the first line of the page.
+    // Writes a line for each call of the case that is named, and one if there are more. If the page is empty, a head comes first.
     fn say(&self, page: &mut Page) {
         let name = match self.test.cases.get(self.case) {
             Some(case) => case.name,

@@ -23,8 +23,10 @@ use std::thread::Threads;
 struct Unheld;
 
 impl Gate for Unheld {
+    // Each call goes on at once.
     fn pass(&self, _number: u64) {}
 
+    // The gate doesn't say that it is open: `run_pool` would make the run in its fixed order then.
     fn is_open(&self) -> bool {
         false
     }

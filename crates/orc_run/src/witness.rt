@@ -13,18 +13,19 @@ use orc_schedules::{Seen, Watch};
 use orc_tally::ClaimSite;
 use std::alloc::{AllocError, Global};
 
-/// What a claim is to see of a run, and how that is to end. As [`Wanted`] it counts in `seen` the occurrences that were met so far, in order.
+/// What a claim is to see of a run, and how that run is to end. As [`Wanted`], by which a search is told what run it looks for, it counts in `seen`
+/// the occurrences that were met so far, in order.
 #[derive(Clone, Copy)]
 pub(crate) struct Sighting<'o> {
     /// What the claim depends on.
     pub(crate) watch: &'o Watch,
-    /// The sites that claims name, in the order of their numbers there.
+    /// The sites that claims name, each at the place, from 0, that is its number in claims.
     pub(crate) sites: &'o [ClaimSite],
     /// The occurrences, in order, and the end.
     pub(crate) seen: &'o Seen,
 }
 
-// Whether the same happened to the same site, or the same value was published. Times aren't compared.
+// Whether the same happened to the same site, or the same value was published. When it happened isn't compared.
 fn is_alike(one: &Occurrence, other: &Occurrence) -> bool {
     match (one, other) {
         (Occurrence::Call(site, args, phase), Occurrence::Call(called, values, became)) => {
@@ -39,7 +40,7 @@ fn is_alike(one: &Occurrence, other: &Occurrence) -> bool {
 
 impl Sighting<'_> {
     // How many occurrences are met after this one, `seen` of them before. One that the claim doesn't name changes nothing; one that it names has to
-    // be the next, at its time. None: the run isn't the one that is looked for.
+    // be the next of those that the search saw, at its time. None: the run isn't the one that is looked for.
     fn after_what(&self, seen: usize, time: u64, what: &Occurrence) -> Option<usize> {
         if !self.watch.names(what) {
             return Some(seen);
@@ -75,7 +76,7 @@ impl Sighting<'_> {
 }
 
 impl Wanted for Sighting<'_> {
-    // Later than the claim's latest time all times are the same.
+    // Times from the latest on that the claim tells apart are one time to the search.
     fn time(&self, now: u64) -> u64 {
         now.min(self.watch.latest())
     }

@@ -56,7 +56,7 @@ fn write_out(alloc: Global, numbers: &Numbers, ast: &Ast) -> Result<Program, All
     Ok(Program::new(writing.nodes.finish(), definitions, source))
 }
 
-// The main expression's place: that of its last node, which stands for all of it.
+// The place of the main expression in the source: that of its last node, which stands for all of it.
 fn main_span(ast: &Ast) -> Span
     ensures { (s : Source) → IsAst ast.now s → result ≡ span_of s.main }
 {
@@ -82,6 +82,7 @@ pub fn check<'a>(alloc: Global, ast: &Ast<'a>, sites: &[&[u8]]) -> Result<Progra
     if let Some(fault) = program_fault(&mut looking, &known, ast)? {
         return Err(fault);
     }
+    // The fault where there is no room left for the nodes of all terms.
     let too_many = ScopeFault {
         kind: FaultKind::TooMany,
         span: main_span(ast),

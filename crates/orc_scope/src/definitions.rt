@@ -27,7 +27,7 @@ fn earlier(names: &Names, number: usize, text: &[u8]) -> Option<usize>
     }
 }
 
-// The fault of a name at `span`, if it has come before: then `before` is its first place.
+// The fault of a name at `span`, of this kind, if the name has come before: then `before` is its first place. None if the name comes here first.
 fn repeated(kind: FaultKind, before: Option<usize>, span: Span) -> Option<ScopeFault>
     ensures { IsLeast result (repeated_of kind before span) }
 {
@@ -37,8 +37,8 @@ fn repeated(kind: FaultKind, before: Option<usize>, span: Span) -> Option<ScopeF
     }
 }
 
-// The least fault of a definition's parameters. Afterwards they are the names in scope, and no others. `looking.room` stays as it is. The error is
-// refused memory.
+// The least fault of a definition's parameters, None where they have none. Afterwards they are the names in scope, and no others. `looking.room`, how
+// many more nodes terms may have, stays as it is. The error is refused memory.
 fn parameters_fault<'a>(
     looking: &mut Looking<'a>,
     parameters: &[Name<'a>],
@@ -67,8 +67,8 @@ fn parameters_fault<'a>(
     Ok(least)
 }
 
-// The least fault of the definition of this number, from 0: of its name, its parameters and its body. Afterwards `looking.room` is smaller by the
-// number of nodes of its written-out body. The error is refused memory.
+// The least fault of the definition of this number, from 0: of its name, its parameters and its body. Afterwards `looking.room`, how many more nodes
+// terms may have, is smaller by the number of nodes of the written-out body, down to 0. The error is refused memory.
 fn definition_fault<'a>(
     looking: &mut Looking<'a>,
     known: &Known,
@@ -78,6 +78,7 @@ fn definition_fault<'a>(
     ensures least { (e : Define) → IsDefinition definition.now e → IfOk result (λ least. IsLeast least (definition_faults (known_of known.now) (take number known.now.definitions) e)) }
     ensures room { (e : Define) (k : Outside) (names : List (List ℕ)) → IsDefinition definition.now e → OnOk result (looking.new.room ≡ looking.old.room - size_of_define k names e) }
 {
+    // The first place of a definition of this name among those before this one.
     let before = earlier(&known.definitions, number, definition.name.text);
     let own = repeated(FaultKind::DefinedTwice, before, definition.name.span);
     // The parameters come before the body, since this call leaves them in scope for it.
@@ -86,8 +87,8 @@ fn definition_fault<'a>(
     Ok(lesser(own, lesser(parameters, body)))
 }
 
-// The least fault of the definitions. Afterwards `looking.room` is smaller by the number of nodes of all their written-out bodies. The error is
-// refused memory.
+// The least fault of the definitions, None where they have none. `known` has to have their names, in their order. Afterwards `looking.room`, how many
+// more nodes terms may have, is smaller by the number of nodes of all their written-out bodies, down to 0. The error is refused memory.
 fn definitions_fault<'a>(
     looking: &mut Looking<'a>,
     known: &Known,
@@ -106,8 +107,8 @@ fn definitions_fault<'a>(
     Ok(least)
 }
 
-/// The least fault of a program, None where it has none. Too many nodes are no fault here: afterwards `looking.room` is smaller by the number of
-/// nodes of all its terms, down to 0. The error is refused memory.
+/// The least fault of a program, None where it has none. `known` has to have the names of its definitions, in their order. Too many nodes are no
+/// fault here: afterwards `looking.room` is smaller by the number of nodes of all its terms, down to 0. The error is refused memory.
 pub fn program_fault<'a>(
     looking: &mut Looking<'a>,
     known: &Known,
@@ -123,7 +124,7 @@ pub fn program_fault<'a>(
     Ok(lesser(definitions, main))
 }
 
-// Adds the names of parameters. The error is refused memory.
+// Adds the names of parameters at the end of `names`. The error is refused memory.
 fn parameter_names<'a>(names: &mut Names<'a>, parameters: &[Name<'a>]) -> Result<(), AllocError>
     ensures { OnOk result (names.new ≡ names.old ++ map text (map label parameters.now)) }
 {
@@ -144,7 +145,7 @@ fn bound_name(part: Part<'_>) -> Option<&[u8]>
     }
 }
 
-// Adds the names that an expression binds. The error is refused memory.
+// Adds the names that an expression binds at the end of `names`, in the order of the nodes. The error is refused memory.
 fn bound_names<'a>(names: &mut Names<'a>, nodes: &[Node<'a>]) -> Result<(), AllocError>
     ensures { (t : Tree) → IsExpr nodes.now t → OnOk result (names.new ≡ names.old ++ names_bound t) }
 {

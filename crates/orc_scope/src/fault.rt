@@ -41,6 +41,7 @@ pub struct ScopeFault {
     pub span: Span,
 }
 
+// Refused memory, which `?` hands on, is C9. It has no place in the text, so the place is the text's start.
 impl From<AllocError> for ScopeFault {
     ghost from_gives = { λ _ f. f.kind ≡ Memory };
 
@@ -67,7 +68,7 @@ impl fmt::Display for ScopeFault {
             FaultKind::CallOfVariable => "C6",
             FaultKind::NoSite => "C7",
             FaultKind::TooMany => "C8",
-            // It has no place.
+            // Refused memory has no place in the text.
             FaultKind::Memory => return write!(f, "C9"),
         };
         write!(f, "{code} at {start}")
@@ -89,7 +90,7 @@ impl ScopeFault {
 }
 
 impl FaultKind {
-    // The number in its code.
+    // The number in the code of this kind: 1 for C1, up to 9 for C9.
     fn rank(&self) -> u8
         ensures { result ≡ rank self.now }
     {
@@ -107,7 +108,7 @@ impl FaultKind {
     }
 }
 
-// Whether `f` is reported rather than `g`.
+// Whether `f` is reported rather than `g`: it begins further left, or at the same place and its code's number isn't greater.
 fn is_before(f: ScopeFault, g: ScopeFault) -> bool
     ensures yes { result ≡ true → IsBefore f g }
     ensures no { result ≡ false → IsBefore g f }

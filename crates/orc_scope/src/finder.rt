@@ -53,15 +53,15 @@ impl Drop for Looking<'_> {
     }
 }
 
-/// `Some` of the fault of this kind at this place.
+/// `Some` of the fault of this kind at `span`. Where this is the only fault, it is the least one, as the contract says.
 pub fn one(kind: FaultKind, span: Span) -> Option<ScopeFault>
     ensures { IsLeast result (fault kind span ∷ []) }
 {
     Some(ScopeFault { kind, span })
 }
 
-// The fault of a called name at `span`, with so many arguments; None if it may be called so. The name means a variable, else a definition, else a
-// site.
+// The fault of a called name at `span`, with so many arguments; None if it may be called so. `scope` has the variables in scope, the innermost last.
+// The name means a variable, else a definition, else a site.
 fn call_fault(
     known: &Known,
     scope: &Names,
@@ -74,6 +74,7 @@ fn call_fault(
     if scope.find(text).is_some() {
         return one(FaultKind::CallOfVariable, span);
     }
+    // `number` is the definition's place, from 0.
     let Some(number) = known.definitions.find(text) else {
         // A site takes any number of arguments: a call that no line of a script matches halts.
         if known.sites.find(text).is_some() {
@@ -94,7 +95,7 @@ fn call_fault(
     }
 }
 
-// The fault of a name without a bracket; None if it means a variable, as it has to.
+// The fault of a name without a bracket at `span`; None if it means a variable, as it has to. `scope` has the variables in scope.
 fn name_fault(known: &Known, scope: &Names, text: &[u8], span: Span) -> Option<ScopeFault>
     ensures { IsLeast result (name_faults (meaning (known_of known.now) scope.now text.now) span) }
 {
@@ -107,7 +108,7 @@ fn name_fault(known: &Known, scope: &Names, text: &[u8], span: Span) -> Option<S
     one(FaultKind::Unbound, span)
 }
 
-// The fault of a node itself, without its parts: only a name can be at fault.
+// The fault of a node itself, without its parts: only a name can be at fault. `scope` has the variables in scope at the node.
 fn node_fault(known: &Known, scope: &Names, part: Part) -> Option<ScopeFault>
     ensures { IsLeast result (node_faults (known_of known.now) scope.now (sort part.entry)) }
 {
@@ -118,7 +119,7 @@ fn node_fault(known: &Known, scope: &Names, part: Part) -> Option<ScopeFault>
     }
 }
 
-/// The fault of the parameter or argument of this number, from 1, if it is the first one too many. Those behind it are no further faults.
+/// The fault of the parameter or argument of this number, from 1, at `span`, if it is the first one too many. Those behind it are no further faults.
 pub fn number_fault(number: usize, span: Span) -> Option<ScopeFault>
     ensures { IsLeast result (number_faults number span) }
 {
@@ -129,9 +130,9 @@ pub fn number_fault(number: usize, span: Span) -> Option<ScopeFault>
     }
 }
 
-// How many nodes a node makes in the written-out term, where a call `f(G)` is `f(x) <x< G` with a new variable x. `number` is that of an argument,
-// from 1, and 0 for any other part. An argument that is a literal or a variable stays in the call's list and makes none; any other one, `stop` too,
-// makes two: its own and that of the pruning. Any other part makes one.
+// How many nodes a node of the source makes in the written-out term, where a call `f(G)` is `f(x) <x< G` with a new variable x. `number` is that of
+// an argument, from 1, and 0 for any other part. An argument that is a literal or a variable stays in the call's list and makes none; any other one,
+// `stop` too, makes two: its own and that of the pruning. Any other part makes one.
 fn weight(number: usize, part: Part) -> usize
     ensures value { result ≡ weight_of number (sort part.entry) }
 {
@@ -145,7 +146,7 @@ fn weight(number: usize, part: Part) -> usize
 }
 
 impl<'a> Looking<'a> {
-    /// Nothing to look at yet, no name in scope, and room for so many nodes.
+    /// A look with nothing to look at yet, no name in scope, and room for so many nodes.
     pub fn new(alloc: Global, room: usize) -> Looking<'a>
         ensures scope { result.scope ≡ [] }
         ensures room { result.room ≡ room }
@@ -158,7 +159,8 @@ impl<'a> Looking<'a> {
     }
 
     // Pushes a task for a part, which is then looked at next. The part keeps all names that are in scope here. `bind` is the variable that comes into
-    // scope in it, if there is one. `number` is that of an argument, from 1, and 0 for any other part. The error is refused memory, here and below.
+    // scope in the part, if there is one. `number` is that of an argument, from 1, and 0 for any other part. `IsFit` says that each task can still
+    // make its scope, before and after. The error is refused memory, here and below.
     fn wait(&mut self, bind: Option<&'a [u8]>, number: usize) -> Result<(), AllocError>
         requires { IsFit self.old }
         ensures scope { self.new.scope ≡ self.old.scope }
@@ -174,8 +176,9 @@ impl<'a> Looking<'a> {
         Ok(())
     }
 
-    // Takes the part that is looked at next from the stack, and makes its scope. Gives the part's number: that of an argument, from 1, and 0 for any
-    // other part. None where no part is left. The error is refused memory.
+    // Takes the part that is looked at next from the stack, and makes its scope: `scope` has the names in scope in the part then. Gives the part's
+    // number: that of an argument, from 1, and 0 for any other part. None where no part is left. `IsFit` says that each task can still make its
+    // scope, before and after. The error is refused memory.
     fn next(&mut self) -> Result<Option<usize>, AllocError>
         requires { IsFit self.old }
         ensures some { IfOk result (IfTaken (λ n. waiting self.old ≡ task self.new.scope n ∷ waiting self.new)) }
@@ -186,6 +189,7 @@ impl<'a> Looking<'a> {
         let Some(task) = self.tasks.pop() else {
             return Ok(None);
         };
+        // The part keeps the names that were in scope around it, and may add one.
         self.scope.truncate(task.depth);
         if let Some(text) = task.bind {
             self.scope.push(text)?;
@@ -193,7 +197,8 @@ impl<'a> Looking<'a> {
         Ok(Some(task.number))
     }
 
-    // Pushes so many arguments, as one task: that of the last one, which adds no name. Once it is looked at, it is pushed again for those before it.
+    // Pushes the first `count` arguments of a call, as one task: that of the last one, which adds no name. Once that argument is looked at, the task
+    // is pushed again for those before it. `IsFit` says that each task can still make its scope, before and after.
     fn arguments(&mut self, count: usize) -> Result<(), AllocError>
         requires { IsFit self.old }
         ensures scope { self.new.scope ≡ self.old.scope }
@@ -208,7 +213,7 @@ impl<'a> Looking<'a> {
     }
 
     // Pushes two parts, each with the name, if any, that comes into scope in it. The right one's nodes stand last, so it comes next. Neither is an
-    // argument, so both have the number 0.
+    // argument, so both have the number 0. `IsFit` says that each task can still make its scope, before and after.
     fn both(&mut self, left: Option<&'a [u8]>, right: Option<&'a [u8]>) -> Result<(), AllocError>
         requires { IsFit self.old }
         ensures scope { self.new.scope ≡ self.old.scope }
@@ -221,7 +226,7 @@ impl<'a> Looking<'a> {
     }
 
     // Pushes the parts of a node. The variable of `>x>` is in scope in its right side, that of `<x<` in its left side, and that of `val x = G F` in
-    // F, which is the right one of its parts.
+    // F, which is the right one of its parts. `IsFit` says that each task can still make its scope, before and after.
     fn parts(&mut self, part: Part<'a>) -> Result<(), AllocError>
         requires { IsFit self.old }
         ensures scope { self.new.scope ≡ self.old.scope }
@@ -239,8 +244,9 @@ impl<'a> Looking<'a> {
         }
     }
 
-    // The least fault of the parts on the stack, whose nodes these are: the one that stands first. `room` is then smaller by the number of nodes of
-    // their written-out terms.
+    // The least fault of the parts on the stack, whose nodes these are: the one that stands first. None where they have none. `room`, how many more
+    // nodes the written-out terms may have, is then smaller by the number of nodes of the terms of these parts, down to 0. `IsFit` asks that each
+    // task can make its scope.
     fn find(&mut self, known: &Known, nodes: &[Node<'a>]) -> Result<Option<ScopeFault>, AllocError>
         requires { IsFit self.old }
         ensures least { IfOk result (λ least. IsLeast least (looks (known_of known.now) (waiting self.old) (reverse (map item nodes.now)))) }
@@ -271,8 +277,9 @@ impl<'a> Looking<'a> {
         Ok(least)
     }
 
-    /// The least fault of an expression in which the names of `scope` are variables, None where it has none. `room` is then smaller by the number of
-    /// nodes of its written-out term. Which names are in scope afterwards isn't said. The error is refused memory.
+    /// The least fault of an expression in which the names of `scope` are variables, None where it has none. `room`, how many more nodes the
+    /// written-out terms may have, is then smaller by the number of nodes of the expression's term, down to 0. Which names are in scope afterwards
+    /// isn't said. The error is refused memory.
     pub fn expression(
         &mut self,
         known: &Known,
@@ -289,7 +296,7 @@ impl<'a> Looking<'a> {
     }
 }
 
-// The text of a name, if there is one.
+// The text of an operator's name, if the operator has one.
 fn text_if(name: Option<Name<'_>>) -> Option<&[u8]>
     ensures { bind_of result ≡ text_if_of (label_if name.entry) }
 {

@@ -28,7 +28,7 @@ impl Drop for Known<'_, '_> {
     }
 }
 
-// The first 2^32 names, or all where there are fewer. The error is refused memory.
+// The first 2^32 of these names, or all where there are fewer: so many have a number of 32 bits. The error is refused memory.
 fn all_names<'s>(alloc: Global, texts: &[&'s [u8]]) -> Result<Names<'s>, AllocError>
     ensures { IfOk result (λ names. names ≡ take (2 ^ 32) (map text_of texts.now)) }
 {

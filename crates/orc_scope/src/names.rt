@@ -34,6 +34,7 @@ impl Drop for Names<'_> {
     }
 }
 
+// Contracts see the list of the names' texts.
 impl<'a> Model for Names<'a> {
     ghost Value = { List (List ℕ) };
 
@@ -62,7 +63,7 @@ fn is_same(name: &[u8], text: &[u8]) -> bool
     true
 }
 
-// The place of a name among these, from 0: the first one. None if it isn't among them.
+// The place of a name among these names, from 0: the first one. None if the name isn't among them.
 #[inline(always)]
 #[tactic(auto, using(crate::proofs::Early::place_here, crate::proofs::Early::place_later, crate::proofs::Early::place_nowhere))]
 fn place_among(names: &[&[u8]], text: &[u8]) -> Option<usize>
@@ -103,6 +104,7 @@ impl<'a> Names<'a> {
     pub fn find(&self, text: &[u8]) -> Option<usize>
         ensures { result ≡ position self.now text.now }
     {
+        // So many names at the front aren't in the table, and are compared one by one.
         let early = self.texts.len().min(EARLY);
         match place_among(&self.texts[..early], text) {
             Some(at) => Some(at),
@@ -111,7 +113,7 @@ impl<'a> Names<'a> {
         }
     }
 
-    /// The name at a place, from 0. None behind the last one.
+    /// The name at a place, from 0. None if there are no more names than that.
     pub fn get(&self, place: usize) -> Option<&'a [u8]>
         ensures { option_map (λ n. n.now) result ≡ slice_get self.now place }
     {
@@ -147,7 +149,7 @@ impl<'a> Names<'a> {
         }
     }
 
-    /// Leaves the first so many names, all where there are no more.
+    /// Keeps the first `len` names, and removes the others. If there are no more, all stay.
     pub fn truncate(&mut self, len: usize)
         ensures { self.new ≡ take len self.old }
     {

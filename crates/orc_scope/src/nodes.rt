@@ -22,6 +22,7 @@ pub struct Nodes {
     terms: Terms,
 }
 
+// Contracts see the nodes and the lists of operands. The list that a call's node names is there (`HaveLists`).
 impl Model for Nodes {
     ghost Value = { Listed };
 
@@ -40,7 +41,7 @@ impl Nodes {
         }
     }
 
-    /// The nodes as terms.
+    /// The nodes as the terms of a program.
     pub fn finish(self) -> Terms
         ensures { result ≡ self }
     {

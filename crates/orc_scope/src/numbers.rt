@@ -36,6 +36,7 @@ impl Drop for Numbers<'_, '_> {
     }
 }
 
+// Contracts see the names: `known` has those of the definitions and sites, `names` those of the variables. All numbers fit 32 bits (`AreSmall`).
 impl<'a, 's> Model for Numbers<'a, 's> {
     ghost Value = { Numbering };
 
@@ -61,8 +62,8 @@ impl<'a, 's> Numbers<'a, 's> {
         Some(Numbers { known, variables })
     }
 
-    /// The number of a variable; where no variable has this name, the first number behind those of all variables, which is that of a new one. The
-    /// cast loses nothing, here and below: all numbers fit 32 bits.
+    /// The number of a variable of this name; where no variable has it, the first number behind those of all variables, which is that of a new one.
+    /// The cast loses nothing, here and below: all numbers fit 32 bits.
     #[tactic(auto, using(crate::proofs::Places::position_within))]
     pub fn variable(&self, text: &[u8]) -> u32
         ensures { result ≡ number self.now.names text.now }
@@ -73,7 +74,8 @@ impl<'a, 's> Numbers<'a, 's> {
         }
     }
 
-    /// The number of an operator's variable. Where it has none, that of a new one: the first number behind those of all variables.
+    /// The number of the variable that an operator binds. An operator without a name binds a new one: its number is the first behind those of all
+    /// variables.
     pub fn operator(&self, name: Option<Name>) -> u32
         ensures { result ≡ variable_of self.now.names (label_if name.entry) }
     {
@@ -92,7 +94,8 @@ impl<'a, 's> Numbers<'a, 's> {
         (self.variables.len() + place) as u32
     }
 
-    /// A call of what this name means where it means no variable, with the list of operands of this number; `stop` where it means nothing.
+    /// A call of the definition or site that this name means, with the list of operands of the number `list`, from 0; `stop` where the name means
+    /// neither. A name that means a variable doesn't come: the check refuses its call before (C6).
     #[tactic(auto, using(crate::proofs::Places::position_within))]
     pub fn called(&self, text: &[u8], list: usize) -> TermNode
         ensures term { (code : ℕ → Term) (lists : List (List Operand)) → unfold_node code lists result ≡ called (outer_meaning (position self.now.known.definitions text.now) (position self.now.known.sites text.now)) (map param_of (slice_index_or lists list [])) }

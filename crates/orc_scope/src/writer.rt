@@ -28,7 +28,7 @@ use std::alloc::AllocError;
 // nodes which they name are there, and `Keeps` that the nodes so far stay. `IfSides` and `OnNoSides` are the cases in which two parts were there
 // and in which they weren't.
 
-/// The nodes so far, and the parts that are in no other part yet.
+/// The nodes that were written so far, and the parts of the expression in hand that are in no other part yet.
 #[derive(Drop)]
 pub struct Writing {
     /// The nodes of all expressions so far.
@@ -38,7 +38,8 @@ pub struct Writing {
 }
 
 impl Writing {
-    // Adds a node, and pushes it as a part. The error is refused memory, here and below.
+    // Adds a node, and pushes it as a part. The clauses ask that the node's parts and its list of operands are there, and that it is no operand.
+    // Nodes that were there stay (`Keeps`). The error is refused memory, here and below.
     fn join(&mut self, node: TermNode) -> Result<(), AllocError>
         requires ready { IsReady self.old }
         requires parts { HasParts (length (terms self.old.nodes)) node }
@@ -53,7 +54,8 @@ impl Writing {
         Ok(())
     }
 
-    // Pushes an operand as a part, without a node.
+    // Pushes an operand (a literal or a variable) as a part, without a node. `IsReady` says that the nodes which the parts on the stack name are
+    // there.
     fn operand(&mut self, operand: Operand) -> Result<(), AllocError>
         requires { IsReady self.old }
         ensures parts { OnOk result (parts self.new ≡ param (param_of operand) ∷ parts self.old) }
@@ -64,7 +66,8 @@ impl Writing {
         Ok(())
     }
 
-    // The number of a part's node. An operand gets its node here.
+    // The number of a part's node, from 0. An operand (a literal or a variable) gets its node here; any other part has one, which has to be there
+    // (`IsFine`).
     fn place(&mut self, piece: Piece) -> Result<usize, AllocError>
         requires { IsFine (terms self.old.nodes) piece }
         ensures within { IfOk result (λ at. at < length (terms self.new.nodes)) }
@@ -78,8 +81,8 @@ impl Writing {
         }
     }
 
-    // Takes the last two parts from the stack, and gives their nodes, the left one first. None where there are fewer, which the nodes of a tree rule
-    // out.
+    // Takes the last two parts from the stack, and gives the numbers of their nodes, the left one first. The nodes so far stay (`Keeps`). None where
+    // there are fewer, which the nodes of a tree rule out. The clauses say of both cases which parts are left (`IfSides`, `OnNoSides`).
     fn sides(&mut self) -> Result<Option<(usize, usize)>, AllocError>
         requires { IsReady self.old }
         ensures some { IfOk result (IfSides (λ i j. parts self.old ≡ term_at (terms self.new.nodes) j ∷ term_at (terms self.new.nodes) i ∷ parts self.new)) }
@@ -99,7 +102,8 @@ impl Writing {
         Ok(Some((i, j)))
     }
 
-    // Joins the last two parts by an operator, and pushes what that makes: i and j are the nodes of its left and its right side.
+    // Joins the last two parts on the stack by an operator, and pushes what that makes, which contracts call `built`: i and j are the numbers of the
+    // nodes of its left and its right side.
     fn operate(&mut self, numbers: &Numbers, operator: Operator) -> Result<(), AllocError>
         requires { IsReady self.old }
         ensures parts { OnOk result (parts self.new ≡ built numbers.now.known numbers.now.names (operation (link operator.entry)) (parts self.old)) }
@@ -118,8 +122,8 @@ impl Writing {
         })
     }
 
-    // The arguments of a call, which are the pieces from `base` on, as operands. One that has a node is replaced by a new variable, whose number
-    // `fresh` gives for the argument's place in the call, from 0.
+    // The arguments of a call, which are the parts on the stack (`pieces`) from place `base` on, as operands. An argument that has a node is replaced
+    // by a new variable, whose number `fresh` gives for the argument's place in the call, from 0.
     fn operands(&self, numbers: &Numbers, base: usize) -> Operands
         requires ready { IsReady self.now }
         requires base { base ≤ length self.now.pieces.items }
@@ -135,8 +139,8 @@ impl Writing {
         operands
     }
 
-    // The node of `root <name< piece`, where `name` is a new variable and `piece` the argument that it replaces; `root` itself if the argument is an
-    // operand and needs no pruning.
+    // The number of the node of `root <name< piece`, where `root` is a node's number, `name` a new variable's, and `piece` the argument that the
+    // variable replaces; `root` itself if the argument is an operand (a literal or a variable) and needs no pruning.
     fn pruning(&mut self, root: usize, name: u32, piece: Piece) -> Result<usize, AllocError>
         requires fine { IsFine (terms self.old.nodes) piece }
         requires within { root < length (terms self.old.nodes) }
@@ -151,8 +155,8 @@ impl Writing {
         }
     }
 
-    // Puts a call, whose node is `call`, into the prunings of its new variables, the first argument's innermost, and gives the outermost one's node.
-    // The arguments are the pieces from `base` on.
+    // Puts a call, whose node has the number `call`, into the prunings of its new variables, the first argument's innermost, and gives the number of
+    // the outermost one's node. The arguments are the parts on the stack from place `base` on; they stay there. So do the nodes so far (`Keeps`).
     fn prunings(&mut self, call: usize, numbers: &Numbers, base: usize) -> Result<usize, AllocError>
         requires ready { IsReady self.old }
         requires base { base ≤ length self.old.pieces.items }
@@ -173,7 +177,8 @@ impl Writing {
         Ok(root)
     }
 
-    // Joins the last `count` parts to a call of this name, and pushes it with its prunings as one part.
+    // Joins the last `count` parts on the stack, the arguments, to a call of this name, and pushes it with the prunings of its new variables as one
+    // part.
     fn call(&mut self, numbers: &Numbers, text: &[u8], count: usize) -> Result<(), AllocError>
         requires ready { IsReady self.old }
         requires few { count ≤ MOST_ARGUMENTS }
@@ -191,7 +196,8 @@ impl Writing {
         Ok(())
     }
 
-    // Joins the last two parts, G and F of `val x = G F`, to the pruning `F <x< G`.
+    // Joins the last two parts on the stack, G and F of `val x = G F`, to the pruning `F <x< G`. `bound` is the number of G's node, and `body` that
+    // of F's.
     fn bind(&mut self, numbers: &Numbers, name: Name) -> Result<(), AllocError>
         requires { IsReady self.old }
         ensures parts { OnOk result (parts self.new ≡ built numbers.now.known numbers.now.names (val (label name.entry)) (parts self.old)) }
@@ -220,7 +226,8 @@ impl Writing {
         }
     }
 
-    // Writes out one node, with its parts from the stack. A call of too many arguments is left out; the check refuses it before (C8).
+    // Writes out one node of the source: takes its parts from the stack, and pushes what it makes of them, which contracts call `built`. A call of
+    // too many arguments is left out; the check refuses it before (C8), so the clause *parts* speaks of other nodes alone (`IsSmall`).
     fn write(&mut self, numbers: &Numbers, part: Part) -> Result<(), AllocError>
         requires { IsReady self.old }
         ensures parts { IsSmall (sort part.entry) → OnOk result (parts self.new ≡ built numbers.now.known numbers.now.names (sort part.entry) (parts self.old)) }
@@ -239,7 +246,8 @@ impl Writing {
         }
     }
 
-    // Writes out nodes one after another, in postorder: each finds its parts on the stack.
+    // Writes out nodes of the source one after another, in postorder: each finds its parts on the stack. The nodes so far stay (`Keeps`). `builds` is
+    // what they make of the stack.
     fn write_all(&mut self, numbers: &Numbers, nodes: &[Node]) -> Result<(), AllocError>
         requires { IsReady self.old }
         ensures parts { AreSmall (map item nodes.now) → OnOk result (parts self.new ≡ builds numbers.now.known numbers.now.names (parts self.old) (map item nodes.now)) }
@@ -252,7 +260,7 @@ impl Writing {
         Ok(())
     }
 
-    // The node of the last part, which is the whole expression.
+    // The number of the node of the last part, which is the whole expression.
     fn root(&mut self) -> Result<usize, AllocError>
         requires { IsReady self.old }
         ensures term { (f : Term) → parts self.old ≡ f ∷ [] → IfOk result (λ at. (term_at (terms self.new.nodes) at ≡ f) × (at < length (terms self.new.nodes))) }
@@ -276,7 +284,7 @@ impl Writing {
     }
 }
 
-// A part as an operand: itself where it is one, else the variable `name`.
+// A part as an operand of a call: itself where it is one (a literal or a variable), else the variable `name`.
 fn argument(piece: Piece, name: u32) -> Operand
     ensures { (fs : List Term) → IsFine fs piece → param_of result ≡ param_or name (as_param (piece_term fs piece)) }
 {

@@ -1,6 +1,6 @@
 //! The two bits of a group's word. Who sets a bit that was clear wins it; only an opening of the group clears them.
 
-/// A bit of a group's word.
+/// A bit of a group's word. Once set, it stays so until the group is opened anew.
 #[derive(Clone, Copy)]
 pub enum Bit {
     /// The group has published.

@@ -24,7 +24,7 @@ use atomic_table::{Shared, Table};
 use std::alloc::Global;
 use std::marker::PhantomData;
 
-/// 2^32: a word's count is the remainder by this.
+/// 2^32: a word's count, the number of passes that name the group, is the remainder by this.
 const COUNT: u64 = 4294967296;
 
 /// The value of bit 32, which says that the group has published.
@@ -33,7 +33,7 @@ const PUBLISHED: u64 = 4294967296;
 /// The value of bit 33, which says that the group is killed.
 const KILLED: u64 = 8589934592;
 
-/// The words of groups, which all threads share.
+/// The words of groups, one for each group, which all threads share. A group is what runs in one branch of a program, such as a right side of `<x<`.
 #[derive(Drop)]
 pub struct Groups<J: Naming> {
     // The words, under the rule `Counts`.
@@ -47,22 +47,23 @@ pub struct Groups<J: Naming> {
 }
 
 impl<J: Naming> Groups<J> {
-    /// The part of the table on which threads make exchanges.
+    /// The part of the table on which threads make exchanges, each of which reads a word, and may change it, at one moment.
     pub(crate) fn shared(&self) -> &Shared<(), View, Plan, Counts>
         ensures { result.now ≡ self.now.table.shared }
     {
         &self.table.shared
     }
 
-    /// Opens the group `group` (below the number of words), whose bits are clear then, and the idle pass names it.
+    /// Opens the group `group` (below the number of words), whose bits are clear then, and the idle pass names it. The opening is a deed of the pass,
+    /// which nothing undoes (`Opens`).
     ///
-    /// The idle pass comes back, and no word is changed, where the word counts a pass, or where another call changes it meanwhile.
+    /// The error is the idle pass, as it was: no word is changed where the word counts a pass, or where another call changes it meanwhile.
     pub fn open(&self, idle: Pass<J>, group: u32) -> Result<Pass<J>, Pass<J>>
         requires group { group < J.table.words }
         requires idle { group_of idle ≡ None }
         ensures { MatchResult result (λ pass. (stance_of pass ≡ Names group no_bits no_bits) × Opens group (deeds_of idle) (deeds_of pass)) (λ back. back ≡ idle) }
     {
-        // An idle pass names no group: `none` is None.
+        // An idle pass names no group: `none` is None. `of` names the table in the type, and takes no memory.
         let Pass {
             group: none,
             mut seat,
@@ -90,7 +91,8 @@ impl<J: Naming> Groups<J> {
         }
     }
 
-    /// The idle pass comes to name the group of `with`, whose count goes up by 1. It has seen none of the group's bits.
+    /// The idle pass comes to name the group of `with`, whose count goes up by 1. It has seen none of the group's bits. It is a deed of the pass if
+    /// no pass named the group (`Comes`).
     pub fn enter(&self, with: &Pass<J>, idle: Pass<J>) -> Pass<J>
         requires names { IsSome (group_of with.now) }
         requires idle { group_of idle ≡ None }
@@ -98,7 +100,7 @@ impl<J: Naming> Groups<J> {
         ensures clear { (seen_of result ≡ no_bits) × (won_of result ≡ no_bits) }
         ensures deeds { Comes (group_of with.now) (deeds_of idle) (deeds_of result) }
     {
-        // An idle pass names no group: `none` is None.
+        // An idle pass names no group: `none` is None. `of` names the table in the type, and takes no memory.
         let Pass {
             group: none,
             mut seat,
@@ -123,12 +125,14 @@ impl<J: Naming> Groups<J> {
         }
     }
 
-    /// The pass is idle again, and its group's count goes down by 1. `last` is there exactly where the count became 0.
+    /// The pass is idle again, and its group's count goes down by 1. `last` is there exactly where the count became 0: that is a deed of the pass,
+    /// which nothing undoes (`Ended`).
     pub fn leave(&self, pass: Pass<J>) -> Left<J>
         requires { IsSome (group_of pass) }
         ensures idle { group_of result.pass ≡ None }
         ensures last { MatchOption result.last (deeds_of result.pass ≡ deeds_of pass) (λ last. (deeds_of result.pass ≡ deeds_of pass ++ Ended last.group ∷ []) × (group_of pass ≡ Some last.group)) }
     {
+        // `of` names the table in the type, and takes no memory.
         let Pass {
             group,
             mut seat,
@@ -148,7 +152,7 @@ impl<J: Naming> Groups<J> {
         let shared = &self.table.shared;
         // The group's count goes down by 1; `Leave` says to the prover alone what that tells the seat.
         let found = shared.fetch_sub::<Leave>(&mut seat, group as usize, 1);
-        // The word as it was counted this pass alone.
+        // Whether the word as it was counted this pass alone.
         let is_last = found % COUNT == 1;
         let last = if is_last {
             Some(Last {
@@ -166,8 +170,8 @@ impl<J: Naming> Groups<J> {
         Left { pass, last }
     }
 
-    /// Sets a bit of the pass's group, and says whether it was clear: the pass has won it then. False if it was set already, as it is to a pass that
-    /// has seen it set.
+    /// Sets a bit of the pass's group, and says whether it was clear: the pass has won it then, which is a deed of the pass (`Marks`). False if the
+    /// bit was set already, as it is to a pass that has seen it set.
     pub fn mark(&self, pass: &mut Pass<J>, bit: Bit) -> bool
         requires { IsSome (group_of pass.old) }
         ensures group { group_of pass.new ≡ group_of pass.old }
@@ -197,7 +201,7 @@ impl<J: Naming> Groups<J> {
         }
     }
 
-    /// The bits of the pass's group. They are at least those that the pass has seen before.
+    /// The bits of the pass's group, which the pass has seen then. They are at least those that the pass has seen set before (`Covers`).
     pub fn look(&self, pass: &mut Pass<J>) -> Bits
         requires { IsSome (group_of pass.old) }
         ensures group { group_of pass.new ≡ group_of pass.old }
@@ -222,7 +226,7 @@ impl<J: Naming> Groups<J> {
         }
     }
 
-    /// The words that the table ends with, to be read by one thread. They fit the passes' views, by the rule of the table (`Keeps`).
+    /// The words that the table ends with, to be read by one thread. They fit what the passes have seen and done, by the rule of the table (`Keeps`).
     pub fn close(self) -> Words
         ensures { (views : List View) × Keeps self.table.shared.key result views }
     {

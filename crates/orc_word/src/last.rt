@@ -5,9 +5,10 @@ use crate::naming::Naming;
 use crate::pass::Pass;
 use std::marker::PhantomData;
 
-/// Says that its group was left by the last pass that named it. Who has it closes the group.
+/// Says that its group was left by the last pass that named it. Who has this value closes the group.
 #[derive(Drop)]
 pub struct Last<J: Naming> {
+    // The number of the group's word.
     pub(crate) group: u32,
     // Names the table in the type; it takes no memory.
     pub(crate) of: PhantomData<J>,

@@ -3,7 +3,7 @@
 ghost use Rattle.orc_word.specs.Counts.{Counts};
 ghost use Rattle.orc_word.specs.Ties.{Steps};
 
-/// What holds of the words, the passes and the records after every list of events of the machine of `specs/Machine`:
+/// What holds of the words, the passes and the records, which a book keeps of groups, after every list of events of the machine of `specs/Machine`:
 ///
 /// - *exact*: a word's count is the number of passes that name its group;
 /// - *empty*: a group whose word counts 0 has no record, and gets none until its number is opened anew;

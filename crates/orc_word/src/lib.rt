@@ -1,4 +1,5 @@
-//! Group words: each counts the passes that name its group, and has two bits that are set at most once between two openings.
+//! Group words: each counts the passes that name its group, and has two bits that are set at most once between two openings. A *group* is what runs
+//! in one branch of a program: a right side of `<x<`, a left side of `;`, or the whole program.
 //!
 //! [`Unnamed::new`] makes the words and as many passes as there will ever be, all in one [`Supply`]; it is the one call that takes memory. A [`Pass`]
 //! is idle or names a group. [`Groups::open`] lets an idle pass name a group that no pass names, [`Groups::enter`] lets it name the group

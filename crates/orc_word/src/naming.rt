@@ -2,7 +2,7 @@
 //! it.
 use std::marker::Brand;
 
-/// Names one table of group words. Words, supplies and passes with the same name in their types are of the same table.
+/// Names one table of group words by a type. Words, supplies and passes with the same name in their types are of the same table.
 pub trait Naming {
     ghost use Rattle.atomic_table.specs.Seated.{TableId};
 

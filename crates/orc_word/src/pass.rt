@@ -6,10 +6,10 @@ use crate::view::View;
 use atomic_table::Seat;
 use std::marker::{Model, PhantomData};
 
-/// A pass: it is idle, or names a group, whose word counts it then. It can't be copied. To a contract it is its view ([`View`]).
+/// A pass: it is idle, or names a group, whose word counts the pass then. It can't be copied. To a contract it is its view ([`View`]).
 #[derive(Drop)]
 pub struct Pass<J: Naming> {
-    // The group that it names; None while it is idle.
+    // The number of the group that the pass names; None while it is idle.
     pub(crate) group: Option<u32>,
     // The pass's seat (`view.rt`): by it the table's rule knows the pass, with what it has seen and done.
     pub(crate) seat: Seat<(), View>,
@@ -17,6 +17,7 @@ pub struct Pass<J: Naming> {
     pub(crate) of: PhantomData<J>,
 }
 
+// Contracts see the view of the pass's seat: whether the pass is idle or which group it names, with what it has seen and done.
 impl<J: Naming> Model for Pass<J> {
     ghost use Rattle.std.specs.Prelude.{◌≡◌, []};
     ghost use Rattle.orc_word.specs.declared.view.View.{View};
@@ -33,7 +34,7 @@ impl<J: Naming> Model for Pass<J> {
 impl<J: Naming> Pass<J> {
     ghost use Rattle.orc_word.specs.Views.{group_of};
 
-    /// The group that it names; none where it is idle.
+    /// The number of the group that the pass names; None where it is idle.
     pub fn group(&self) -> Option<u32>
         ensures { result ≡ group_of self.now }
     {

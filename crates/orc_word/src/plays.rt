@@ -11,7 +11,8 @@ ghost use Rattle.orc_word.specs.Steps.{peeked, bounded, set_aside, opened, enter
 use crate::view::{Plan, View};
 use atomic_table::{Join, Play, Split, TableRule};
 
-/// The rule, which holds between any two exchanges (`Kept`). At first one supply has all passes.
+/// The rule of the table, which holds of the words and of what seats (passes and supplies) know, between any two exchanges (`Kept`). At first one
+/// supply has all passes.
 pub struct Counts;
 
 impl TableRule<(), View, Plan> for Counts {
@@ -20,21 +21,22 @@ impl TableRule<(), View, Plan> for Counts {
     ghost first = { λ plan. view_of (Supplies plan.passes) [] };
 }
 
-/// A load before an opening, which tells the seat nothing.
+/// A load of a word before an opening, which tells the seat of the pass nothing.
 pub struct Peek;
 
 impl Play<(), View> for Peek {
     ghost then = { seeing peeked };
 }
 
-/// A load that tells a supply that it has fewer than 2^31 passes.
+/// A load that tells the seat of a supply that the supply has fewer than 2^31 passes.
 pub struct Bound;
 
 impl Play<(), View> for Bound {
     ghost then = { seeing bounded };
 }
 
-/// An exchange that changes no word: the supply's stance notes how many passes it is about to part with.
+/// An exchange that changes no word: the stance of the supply's seat, which is what the seat stands for, notes how many passes it is about to part
+/// with.
 pub struct SetAside;
 
 impl Play<(), View> for SetAside {
@@ -83,7 +85,8 @@ impl Play<(), View> for MarkKilled {
     ghost then = { doing (if_won Killed) (marked Killed) };
 }
 
-/// One pass out of a supply: `left` is what the table then knows of the supply, `right` of the pass.
+/// A split of a supply's seat, by which the table knows the supply: one pass is taken out. `left` is what the table then knows of the supply, `right`
+/// of the pass; before, it knew `v` of the supply.
 pub struct TakeOne;
 
 impl Split<View> for TakeOne {
@@ -92,7 +95,8 @@ impl Split<View> for TakeOne {
     ghost right = { λ v. view_of Idle (given_deeds (one_less v.stance) v.deeds) };
 }
 
-/// The passes that a supply has set aside: `left` is what the table then knows of that supply, `right` of the new one.
+/// A split of a supply's seat: the passes that the supply has set aside become a supply of their own. `left` is what the table then knows of the old
+/// supply, `right` of the new one; before, it knew `v` of the old one.
 pub struct PartWith;
 
 impl Split<View> for PartWith {
@@ -101,7 +105,8 @@ impl Split<View> for PartWith {
     ghost right = { λ v. view_of (all_given v.stance) (given_deeds (all_kept v.stance) v.deeds) };
 }
 
-/// An idle pass back into a supply: `both` is what the table then knows of the supply, `spent` of the pass that was given back.
+/// A join of two seats: an idle pass goes back into a supply. `both` is what the table then knows of the supply, `spent` of the pass that was given
+/// back; before, it knew `v` of the supply and `w` of the pass.
 pub struct GiveBack;
 
 impl Join<View> for GiveBack {

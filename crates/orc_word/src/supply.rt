@@ -11,7 +11,7 @@ use crate::view::View;
 use atomic_table::Seat;
 use std::marker::{Model, PhantomData};
 
-/// Passes that are still to be taken. To a contract it is their number.
+/// Passes that are still to be taken: each is idle, so it names no group. To a contract a supply is the number of its passes.
 #[derive(Drop)]
 pub struct Supply<J: Naming> {
     // How many idle passes can still be taken out.
@@ -22,6 +22,7 @@ pub struct Supply<J: Naming> {
     pub(crate) of: PhantomData<J>,
 }
 
+// Contracts see the number of passes.
 impl<J: Naming> Model for Supply<J> {
     ghost use Rattle.std.specs.Prelude.{◌≡◌, ℕ, []};
     ghost use Rattle.orc_word.specs.declared.view.Stance.TheVariants.{Supplies};
@@ -35,7 +36,7 @@ impl<J: Naming> Model for Supply<J> {
 }
 
 impl<J: Naming> Supply<J> {
-    /// Takes an idle pass out; none exactly where the supply is empty.
+    /// Takes an idle pass out of the supply; none exactly where the supply is empty.
     pub fn take(&mut self, groups: &Groups<J>) -> Option<Pass<J>>
         ensures { MatchOption result ((self.old ≡ 0) × (self.new ≡ 0)) (λ pass. (stance_of pass ≡ Idle) × (self.old ≡ self.new + 1)) }
     {
@@ -52,7 +53,7 @@ impl<J: Naming> Supply<J> {
         })
     }
 
-    /// Moves `passes` passes into a new supply; none, with nothing changed, exactly where this one has fewer.
+    /// Moves `passes` passes into a new supply; none, with nothing changed, exactly where this one has fewer. `groups` has the table of their seats.
     pub fn part(&mut self, groups: &Groups<J>, passes: u32) -> Option<Supply<J>>
         ensures { MatchOption result ((self.old < passes) × (self.new ≡ self.old)) (λ supply. (supply ≡ passes) × (self.old ≡ self.new + passes)) }
     {
@@ -74,7 +75,7 @@ impl<J: Naming> Supply<J> {
         })
     }
 
-    /// Takes an idle pass back, so that it can be taken out again.
+    /// Takes an idle pass back into the supply, so that it can be taken out again.
     pub fn give(&mut self, groups: &Groups<J>, pass: Pass<J>)
         requires { group_of pass ≡ None }
         ensures { self.new ≡ self.old + 1 }

@@ -38,6 +38,7 @@ impl Unnamed {
             words.push(0)?;
         }
         let plan = Plan { groups, passes };
+        // The table, and the seat by which its rule knows the supply of all passes.
         let (table, seat) = Table::of_words(alloc, words.as_slice(), &plan)?;
         Ok(Unnamed {
             table,
@@ -46,7 +47,8 @@ impl Unnamed {
         })
     }
 
-    /// The words and the supply of all their passes, under a name. The caller picks the name of this table.
+    /// The words and the supply of all their passes, under a name: a type that keeps the passes of one table from the words of another. The caller
+    /// picks the name of this table.
     pub fn named<J: Naming>(self) -> (Groups<J>, Supply<J>)
         requires { self.table.shared.table_id ≡ J.table }
         ensures words { result.0.table.shared.key ≡ self.table.shared.key }

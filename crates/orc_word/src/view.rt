@@ -2,7 +2,7 @@
 use crate::bits::{Bit, Bits};
 use std::collections::LinkedList;
 
-/// What a seat of the table stands for. No value of it is made.
+/// What a seat of the table stands for: a supply of passes, or one pass. No value of it is made: contracts alone speak of it.
 pub enum Stance {
     /// A supply that can give so many passes.
     Supplies(u32),
@@ -16,7 +16,7 @@ pub enum Stance {
     Spent,
 }
 
-/// What a seat did that nothing undoes. No value of it is made.
+/// What a seat, by which the table knows a pass, did that nothing undoes. No value of it is made: contracts alone speak of it.
 pub enum Deed {
     /// It opened the group, whose word had these bits, and cleared them.
     Opened(u32, Bits),
@@ -28,13 +28,13 @@ pub enum Deed {
     Won(u32, Bit),
 }
 
-/// What a seat stands for, and all that it did for good, in order. No value of it is made.
+/// What a seat (by which the table knows a pass or a supply) stands for, and all that it did for good, in order. No value of it is made.
 pub struct View {
     pub stance: Stance,
     pub deeds: LinkedList<Deed>,
 }
 
-/// How many words (one for each group) and passes were made.
+/// How many words (one for each group) and passes were made. A table is planned for so many.
 #[derive(Clone, Copy)]
 pub struct Plan {
     pub groups: u32,

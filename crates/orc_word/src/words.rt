@@ -6,11 +6,13 @@ use atomic_table::Closed;
 use std::alloc::Global;
 use std::marker::Model;
 
-/// The words that a table closed with, by their groups' numbers. To a contract it is their list.
+/// The words that a table closed with, at the numbers of their groups, from 0. To a contract it is their list.
 pub struct Words {
+    // The table after its end, on which no thread makes exchanges any more.
     pub(crate) closed: Closed<(), Global>,
 }
 
+// Contracts see the list of the words. Each of them is there, and the table had no slot.
 impl Model for Words {
     ghost Value = { List ℕ };
 
@@ -20,7 +22,7 @@ impl Model for Words {
 }
 
 impl Words {
-    /// The word of a group: its count in bits 0 to 31, published in bit 32, killed in bit 33.
+    /// The word of the group with this number, from 0: its count of passes in bits 0 to 31, published in bit 32, killed in bit 33.
     pub fn word(&self, group: u32) -> u64
         requires { group < length self.now }
         ensures { result ≡ slice_index self.now group }
