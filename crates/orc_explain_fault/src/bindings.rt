@@ -9,18 +9,24 @@ use std::alloc::{AllocError, Global};
 /// What names a variable.
 #[derive(Clone, Copy)]
 pub(crate) enum Binder {
+    /// `f >x> g`, which names x.
     Sequence,
+    /// `f <x< g`, which names x.
     Pruning,
+    /// `val x = g f`, which names x.
     Val,
+    /// The parameters of a definition.
     Parameter,
 }
 
 /// A variable where it is named.
 #[derive(Clone, Copy)]
 pub(crate) struct Binding<'a> {
+    /// The variable's name, with the place where it is named.
     pub name: Name<'a>,
+    /// What names the variable.
     pub binder: Binder,
-    /// The bytes of the source in which it is known.
+    /// The bytes of the source in which the variable is known.
     pub scope: Span,
 }
 
@@ -50,7 +56,7 @@ impl<'a> Bindings<'a> {
         Ok(bindings)
     }
 
-    // Adds a definition's variables. Its parameters are known in its body, whose bytes are known once it is read.
+    // Adds a definition's variables. Its parameters are known in its body, whose bytes `read_expression` gives. The error is refused memory.
     fn read_definition(&mut self, definition: &Definition<'a>) -> Result<(), AllocError> {
         let scope = self.read_expression(&definition.body)?;
         for parameter in &definition.parameters {
@@ -59,7 +65,7 @@ impl<'a> Bindings<'a> {
         Ok(())
     }
 
-    // Adds the variables of an expression, and gives its bytes.
+    // Adds the variables of an expression, and gives its bytes. The error is refused memory.
     fn read_expression(&mut self, expression: &Expr<'a>) -> Result<Span, AllocError> {
         for node in &expression.nodes {
             self.read_node(*node)?;
@@ -67,7 +73,7 @@ impl<'a> Bindings<'a> {
         Ok(self.take())
     }
 
-    // Takes a node's parts and adds its variable, if it names one; then the node itself is a part.
+    // Takes a node's parts off the stack and adds the node's variable, if it names one; then the node itself is a part. The error is refused memory.
     fn read_node(&mut self, node: Node<'a>) -> Result<(), AllocError> {
         match node.part {
             Part::Plain(_) | Part::Variable(_) => {}
@@ -83,7 +89,8 @@ impl<'a> Bindings<'a> {
         Ok(())
     }
 
-    // In `f >x> g` the variable is known in g, in `f <x< g` in f.
+    // Takes both parts of an operator, of which the right one is the last. In `f >x> g` the variable is known in g, in `f <x< g` in f. The error is
+    // refused memory.
     fn read_operation(&mut self, operator: Operator<'a>) -> Result<(), AllocError> {
         let right = self.take();
         let left = self.take();
@@ -95,19 +102,19 @@ impl<'a> Bindings<'a> {
         }
     }
 
-    // In `val x = g f` the variable is known in f, the last part; the part before it is g, the value.
+    // In `val x = g f` the variable is known in f, the last part; the part before it is g, the value. The error is refused memory.
     fn read_val(&mut self, name: Name<'a>) -> Result<(), AllocError> {
         let scope = self.take();
         let _value = self.take();
         self.add(name, Binder::Val, scope)
     }
 
-    // Takes the last part off the stack, and gives its bytes.
+    // Takes the last part off the stack, and gives the part's bytes.
     fn take(&mut self) -> Span {
         self.parts.pop().unwrap_or(NOWHERE)
     }
 
-    // Adds a variable. The error is refused memory, as in all functions above.
+    // Adds the variable `name`, which is known in the bytes `scope`. The error is refused memory.
     fn add(&mut self, name: Name<'a>, binder: Binder, scope: Span) -> Result<(), AllocError> {
         self.list.push(Binding {
             name,
@@ -117,7 +124,7 @@ impl<'a> Bindings<'a> {
         Ok(())
     }
 
-    /// The variable of this name that is named first in the text; the list isn't in that order. None where there is none.
+    /// The variable of this name that is named first in the text; the list isn't in the text's order. None where there is none.
     pub(crate) fn first(&self, name: &[u8]) -> Option<Binding<'a>> {
         let mut found: Option<Binding<'a>> = None;
         for binding in self.list.iter() {
@@ -132,7 +139,8 @@ impl<'a> Bindings<'a> {
         found
     }
 
-    /// The innermost variable of this name that is known at this byte: the one with the narrowest scope. None where none is known there.
+    /// The innermost variable of this name that is known at the byte `at` of the source: the one with the narrowest scope. None where none is known
+    /// there.
     pub(crate) fn known(&self, name: &[u8], at: usize) -> Option<Binding<'a>> {
         let mut found: Option<Binding<'a>> = None;
         for binding in self.list.iter() {

@@ -71,7 +71,7 @@ pub(crate) fn purpose(site: Builtin) -> &'static str {
     }
 }
 
-/// The arguments that a built-in site takes, in words, if these are others. None if it takes these.
+/// The arguments that a built-in site takes, in words, if `args` are others. None if the site takes `args`.
 pub fn wanted_by(site: Builtin, args: &[Value]) -> Option<&'static str> {
     let taken = Taken::of(site);
     if taken.fits(args) {

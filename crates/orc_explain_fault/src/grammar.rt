@@ -193,6 +193,7 @@ const FOLLOWING: [&[u8]; 12] = [
 /// What may stand at the places in a service's line: at the first place, a piece that passes the test; then the walk goes on at the second place.
 /// `Else` takes no piece. The numbers of calls in `in each of N calls` are 2 to 4.
 const SERVICE_WAYS: [Way; 27] = [
+    // A service's patterns in brackets, as `Pay(_, 1)`, and the `=` behind them.
     (Place::Bracket, Test::Is(b"("), Next::To(Place::Patterns)),
     (Place::Patterns, Test::Is(b")"), Next::To(Place::Equals)),
     (Place::Patterns, Test::Pattern, Next::To(Place::PatternEnd)),
@@ -200,6 +201,7 @@ const SERVICE_WAYS: [Way; 27] = [
     (Place::PatternEnd, Test::Is(b","), Next::To(Place::Pattern)),
     (Place::Pattern, Test::Pattern, Next::To(Place::PatternEnd)),
     (Place::Equals, Test::Is(b"="), Next::To(Place::Answer)),
+    // An answer, as `never`, `halt` or `1`, and its time, as `after 3` or `after 0..5`.
     (
         Place::Answer,
         Test::Is(b"never"),
@@ -213,6 +215,7 @@ const SERVICE_WAYS: [Way; 27] = [
     (Place::Range, Test::Is(b".."), Next::To(Place::RangeEnd)),
     (Place::Range, Test::Else, Next::To(Place::AnswerEnd)),
     (Place::RangeEnd, Test::Digits, Next::To(Place::AnswerEnd)),
+    // What stands between two answers, and behind the last one: the end of the line, or `in each of 3 calls`.
     (Place::AnswerEnd, Test::Is(b"then"), Next::To(Place::Answer)),
     (Place::AnswerEnd, Test::Is(b"|"), Next::To(Place::Answer)),
     (Place::AnswerEnd, Test::Is(b"in"), Next::To(Place::Each)),
@@ -227,19 +230,23 @@ const SERVICE_WAYS: [Way; 27] = [
         Test::Is(b"calls"),
         Next::To(Place::LineEnd),
     ),
+    // The line begins with the name of the service's site.
     (Place::Service, Test::Name, Next::To(Place::Bracket)),
 ];
 
 /// What may stand at the places in an event: at the first place, a piece that passes the test; then the walk goes on at the second place. `Else`
 /// takes no piece, and `Back` leads behind the event, into the claim.
 const EVENT_WAYS: [Way; 20] = [
+    // `published V`, where V is a slot: a value, `_` or a variable.
     (Place::Published, Test::Slot, Next::To(Place::EventEnd)),
+    // The slots of a site, as `Pay(x, _)`.
     (Place::Open, Test::Is(b"("), Next::To(Place::Slots)),
     (Place::Slots, Test::Is(b")"), Next::To(Place::CallEnd)),
     (Place::Slots, Test::Slot, Next::To(Place::SlotEnd)),
     (Place::SlotEnd, Test::Is(b")"), Next::To(Place::CallEnd)),
     (Place::SlotEnd, Test::Is(b","), Next::To(Place::Slot)),
     (Place::Slot, Test::Slot, Next::To(Place::SlotEnd)),
+    // What happens to the site's call: `called`, `answered V`, `halted` or `cancelled`. Without such a word the call alone is the event.
     (
         Place::CallEnd,
         Test::Is(b"called"),
@@ -265,8 +272,10 @@ const EVENT_WAYS: [Way; 20] = [
     (Place::Answered, Test::Slot, Next::To(Place::EventEnd)),
     (Place::Answered, Test::Is(b"or"), Next::To(Place::Event)),
     (Place::Answered, Test::Else, Next::Back),
+    // Behind the whole event: another one behind `or`, or the claim goes on.
     (Place::EventEnd, Test::Is(b"or"), Next::To(Place::Event)),
     (Place::EventEnd, Test::Else, Next::Back),
+    // The first word of an event: `published`, or a site with its bracket.
     (
         Place::Event,
         Test::Word(b"published"),
@@ -278,6 +287,7 @@ const EVENT_WAYS: [Way; 20] = [
 /// What may stand at the places in a claim on published values or on the run's end: at the first place, a piece that passes the test; then the walk
 /// goes on at the second place. `Done` ends the line.
 const OUTCOME_WAYS: [Way; 19] = [
+    // `ends Halted by 9`, `ends Quiet`. Behind a second end (`ends Halted or Quiet`) the same may follow as behind a number of events.
     (Place::Ends, Test::Is(b"Halted"), Next::To(Place::EndsEnd)),
     (Place::Ends, Test::Is(b"Quiet"), Next::To(Place::EndsEnd)),
     (Place::EndsEnd, Test::Is(b"or"), Next::To(Place::EndsMore)),
@@ -293,6 +303,7 @@ const OUTCOME_WAYS: [Way; 19] = [
         Test::Is(b"Quiet"),
         Next::To(Place::CountEnd),
     ),
+    // `publishes nothing`, `publishes 1 _` with `in any order` or without, and `publishes one of 1 2`.
     (
         Place::Values,
         Test::Is(b"nothing"),
@@ -318,6 +329,7 @@ const OUTCOME_WAYS: [Way; 19] = [
 /// What may stand at the places in a claim, outside its events: at the first place, a piece that passes the test; then the walk goes on at the second
 /// place. `Event` leads through an event before it.
 const CLAIM_WAYS: [Way; 30] = [
+    // The first word of a claim says which one it is.
     (Place::Claim, Test::Word(b"at"), Next::To(Place::Bound)),
     (Place::Claim, Test::Word(b"exactly"), Next::To(Place::Count)),
     (Place::Claim, Test::Word(b"no"), Next::Event(Place::NoneEnd)),
@@ -334,6 +346,7 @@ const CLAIM_WAYS: [Way; 30] = [
         Next::To(Place::Values),
     ),
     (Place::Claim, Test::Begins, Next::Event(Place::Only)),
+    // `at most 1 A`, `at least 1 A` and `exactly 1 A`, where A is an event: by a time, or, of `at most`, `at once`.
     (Place::Bound, Test::Is(b"most"), Next::To(Place::Most)),
     (Place::Bound, Test::Is(b"least"), Next::To(Place::Count)),
     (Place::Most, Test::Digits, Next::Event(Place::MostEnd)),
@@ -345,6 +358,7 @@ const CLAIM_WAYS: [Way; 30] = [
     (Place::CountEnd, Test::Is(b"by"), Next::To(Place::Units)),
     (Place::CountEnd, Test::End, Next::Done),
     (Place::Units, Test::Digits, Next::To(Place::LineEnd)),
+    // `no A`, `no A by 9` and `no A after B`.
     (
         Place::NoneEnd,
         Test::Is(b"after"),
@@ -352,6 +366,7 @@ const CLAIM_WAYS: [Way; 30] = [
     ),
     (Place::NoneEnd, Test::Is(b"by"), Next::To(Place::Units)),
     (Place::NoneEnd, Test::End, Next::Done),
+    // `each A then B`, and perhaps `within 9`.
     (
         Place::EachEnd,
         Test::Is(b"then"),
@@ -363,12 +378,14 @@ const CLAIM_WAYS: [Way; 30] = [
         Next::To(Place::Units),
     ),
     (Place::WithinEnd, Test::End, Next::Done),
+    // `A only after B`.
     (Place::Only, Test::Is(b"only"), Next::To(Place::OnlyAfter)),
     (
         Place::OnlyAfter,
         Test::Is(b"after"),
         Next::Event(Place::LineEnd),
     ),
+    // `if A then ..` and `if no A then ..`, with a claim behind `then`.
     (
         Place::Condition,
         Test::Word(b"no"),
@@ -381,6 +398,7 @@ const CLAIM_WAYS: [Way; 30] = [
 /// What may stand at the places where a line begins or ends: at the first place, a piece that passes the test; then the walk goes on at the second
 /// place. `Else` takes no piece.
 const LINE_WAYS: [Way; 7] = [
+    // The lines that begin sections; any other line is a claim.
     (Place::Line, Test::Word(b"given"), Next::To(Place::LineEnd)),
     (Place::Line, Test::Word(b"always"), Next::To(Place::LineEnd)),
     (Place::Line, Test::Word(b"case"), Next::To(Place::CaseName)),
@@ -442,7 +460,8 @@ fn wanted(place: Place) -> &'static str {
     }
 }
 
-// The first entry of a table for a place whose test the piece that is looked at passes. None where there is none.
+// The first entry of a table (`ways`) for a place whose test the piece that is looked at passes: its test, and where the walk goes on. None where
+// there is none.
 fn way_in(ways: &[Way], place: Place, line: &Line) -> Option<(Test, Next)> {
     for (from, test, next) in ways {
         if *from == place && takes(*test, line) {
@@ -452,8 +471,8 @@ fn way_in(ways: &[Way], place: Place, line: &Line) -> Option<(Test, Next)> {
     None
 }
 
-// The first entry of all tables for a place whose test the piece that is looked at passes. None where the piece can't stand there. No place is in two
-// tables, so the order of the tables doesn't matter.
+// The first entry of all tables for a place whose test the piece that is looked at passes: its test, and where the walk goes on. None where the piece
+// can't stand there. No place is in two tables, so the order of the tables doesn't matter.
 fn way(place: Place, line: &Line) -> Option<(Test, Next)> {
     way_in(LINE_WAYS.as_slice(), place, line)
         .or(way_in(SERVICE_WAYS.as_slice(), place, line))
@@ -497,7 +516,7 @@ fn is_name(piece: Piece) -> bool {
     piece.kind == Kind::Name && !is_reserved_word(piece.text)
 }
 
-// Whether the piece that is looked at passes a test. A `(` behind a word makes it the name of a site.
+// Whether the piece of the line that is looked at passes a test. A `(` behind a word makes that word the name of a site.
 fn takes(test: Test, line: &Line) -> bool {
     let here = line.here();
     let is_called = line.next().is(b"(");
@@ -597,7 +616,8 @@ impl Walk {
     }
 }
 
-// The nearest word of those that a table has at a place, if it is nearer than those that the search saw before; otherwise `nearest`.
+// The word nearest to the one for which `near` searches, of those that a table (`ways`) has at a place, if it is nearer than those that the search
+// saw before; otherwise `nearest`.
 fn nearest_in(
     near: &mut Near,
     ways: &[Way],
@@ -615,7 +635,8 @@ fn nearest_in(
     found
 }
 
-// The nearest word of those that all tables have at a place, if it is nearer than those that the search saw before; otherwise `nearest`.
+// The word nearest to the one for which `near` searches, of those that all tables have at a place, if it is nearer than those that the search saw
+// before; otherwise `nearest`.
 fn nearest_way(near: &mut Near, place: Place, nearest: &'static [u8]) -> &'static [u8] {
     let found = nearest_in(near, LINE_WAYS.as_slice(), place, nearest);
     let found = nearest_in(near, SERVICE_WAYS.as_slice(), place, found);

@@ -6,8 +6,11 @@ use orc_report::{Document, Page};
 /// L` of it. `name` is empty if the words have no `%`, and `at` is 0 if they have neither `@` nor `#`.
 #[derive(Clone, Copy)]
 pub(crate) struct Hint<'a> {
+    /// The words, with signs for what fills them.
     words: &'static str,
+    /// What stands for `%`.
     name: &'a [u8],
+    /// The byte of the text of which the place stands for `@`, or the line for `#`.
     at: usize,
 }
 

@@ -41,7 +41,7 @@ const FORMS: [(&[u8], &str); 16] = [
     (b"cancel", CANCEL),
 ];
 
-// The bytes before the first byte `byte` of a text, and those behind it. If the text has no such byte: all of it, and nothing.
+// The bytes before the first byte of a text that is `byte`, and those behind that one. If the text has no such byte: all of it, and nothing.
 fn split_at_byte(text: &[u8], byte: u8) -> (&[u8], &[u8]) {
     let end = match text.iter().position(|other| *other == byte) {
         Some(end) => end,
@@ -52,8 +52,8 @@ fn split_at_byte(text: &[u8], byte: u8) -> (&[u8], &[u8]) {
     (front, back)
 }
 
-// The name of the site in the line of a `call S K NAME(..)`. The word, the mark S and the number K each end at a blank. None where there is no name,
-// or nothing stands behind a `(`.
+// The name of the site in the line of a `call S K NAME(..)`: the word `call`, the mark S and the number K each end at a blank. None where there is no
+// name, or nothing stands behind a `(`.
 fn called(line: &[u8]) -> Option<&[u8]> {
     let (_word, fields) = split_at_byte(line, b' ');
     let (_mark, fields) = split_at_byte(fields, b' ');
@@ -92,7 +92,8 @@ fn say_header(page: &mut Page, document: &Document) {
     }
 }
 
-// Fault J3: a journal of too many bytes or entries. `say_most` leaves its line open, and the number of entries ends it.
+// Fault J3: a journal of too many bytes or entries. `say_most` writes how many bytes there may be and leaves its line open; the number of entries
+// ends that line.
 fn say_long_journal(page: &mut Page, document: &Document) {
     say_most(page, document, LONGEST_JOURNAL as u64);
     page.say_number(" and ", MOST_ENTRIES, " entries\n");
@@ -151,7 +152,8 @@ fn say_no_entry(page: &mut Page, alloc: Global, word: &[u8]) {
     page.say("\n");
 }
 
-// The entries' word that is nearest to this one; empty where none is near. The page is refused if the search was refused memory.
+// The word nearest to this one, of those with which entries begin (`FORMS`); empty where none is near. The page is refused if the search was refused
+// memory.
 fn near_word(page: &mut Page, alloc: Global, word: &[u8]) -> &'static [u8] {
     let mut near = Near::new(alloc, word);
     let mut meant: &'static [u8] = b"";
@@ -165,7 +167,7 @@ fn near_word(page: &mut Page, alloc: Global, word: &[u8]) -> &'static [u8] {
     meant
 }
 
-// Says that a line has another form than `form`, or calls a site that is neither built in nor in the script.
+// Says that a line, which begins with the word of an entry, has another form than `form`, or calls a site that is neither built in nor in the script.
 fn say_wrong_form(page: &mut Page, alloc: Global, subject: &Subject, line: &[u8], form: &str) {
     if line.starts_with(b"call ") {
         if let Some(name) = called(line) {

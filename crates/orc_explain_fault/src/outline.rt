@@ -50,7 +50,8 @@ pub(crate) fn arguments(pieces: &[Piece]) -> Option<usize> {
     }
 }
 
-// What a line with these pieces is; None if it is blank. A line that has a section's word, but not its form, counts as a claim.
+// What a line with these pieces is; None if the line is blank. A line that has the word of a section (`given`, `always`, `case`), but not its form,
+// counts as a claim.
 fn head_of<'a>(pieces: &[Piece<'a>]) -> Option<Head<'a>> {
     let first = pieces.first()?;
     if pieces.iter().any(|piece| piece.is(b"=")) {
@@ -72,7 +73,7 @@ impl<'a> Outline<'a> {
             lines: Vec::new(alloc),
         };
         let mut rest = Some(text);
-        // A turn for each line: each but the last one has a byte at least, its LF. `before` counts the lines before it.
+        // A turn for each line: each but the last one has a byte at least, its LF. `before` counts the lines before the one that is read.
         for before in 0..text.len().saturating_add(1) {
             let Some(lines) = rest else {
                 return Ok(outline);
@@ -120,7 +121,8 @@ impl<'a> Outline<'a> {
         None
     }
 
-    /// The line that begins the section of the line with this number: the last one before it that begins a section. None before the first section.
+    /// The line that begins the section in which the line with this number, from 1, stands: the last one before it that is `given`, `always` or a
+    /// `case`. None before the first section.
     pub(crate) fn section(&self, number: usize) -> Option<Outlined<'a>> {
         let mut found = None;
         for line in self.lines.iter() {
@@ -143,12 +145,12 @@ impl<'a> Outline<'a> {
     }
 }
 
-// Whether a line begins a section.
+// Whether a line begins a section: `given`, `always` or a `case`.
 fn is_section(head: Head) -> bool {
     matches!(head, Head::Given | Head::Always | Head::Case(_))
 }
 
-// Whether two lines begin sections of the same name.
+// Whether two lines begin sections of the same name: both `given`, both `always`, or cases of one name.
 fn are_alike(one: Head, other: Head) -> bool {
     match (one, other) {
         (Head::Given, Head::Given) | (Head::Always, Head::Always) => true,

@@ -56,7 +56,7 @@ fn named<'a>(names: &[Name<'a>], name: &[u8]) -> Option<Name<'a>> {
     None
 }
 
-// How many arguments the call has whose name begins at this byte. None where the expression has no such call.
+// How many arguments the call in an expression has whose name begins at this byte of the source. None where the expression has no such call.
 fn arguments_in(expression: &Expr, at: usize) -> Option<usize> {
     for node in &expression.nodes {
         if let Part::Call(name, count) = node.part {
@@ -122,8 +122,8 @@ fn has_too_many(ast: &Ast) -> bool {
     has_wide_call(&ast.main)
 }
 
-// The variable whose name is nearest to the one that `near` searches for; None if none is near. The three functions below continue the same search,
-// which takes only nearer names than it took before, and give None if it takes none of theirs.
+// The variable whose name is nearest to the one that `near` searches for; None if none is near. The search takes only names that are nearer than
+// those it took before, so the last one that it takes is the nearest.
 fn near_variable<'a>(near: &mut Near, bindings: &Bindings<'a>) -> Option<Name<'a>> {
     let mut nearest = None;
     for binding in bindings.list.iter() {
@@ -134,7 +134,8 @@ fn near_variable<'a>(near: &mut Near, bindings: &Bindings<'a>) -> Option<Name<'a
     nearest
 }
 
-// The nearest definition, if it is nearer than all names that the search saw before.
+// The definition with the name that is nearest to the one that `near` searches for. None if no definition's name is nearer than all names that the
+// search took before.
 fn near_definition<'a>(near: &mut Near, ast: &Ast<'a>) -> Option<Name<'a>> {
     let mut nearest = None;
     for definition in &ast.definitions {
@@ -145,7 +146,7 @@ fn near_definition<'a>(near: &mut Near, ast: &Ast<'a>) -> Option<Name<'a>> {
     nearest
 }
 
-// The nearest reserved word, if it is nearer than all names that the search saw before.
+// The reserved word that is nearest to the name that `near` searches for. None if no word is nearer than all names that the search took before.
 fn near_word(near: &mut Near) -> Option<&'static [u8]> {
     let mut nearest = None;
     for word in RESERVED.iter() {
@@ -156,7 +157,8 @@ fn near_word(near: &mut Near) -> Option<&'static [u8]> {
     nearest
 }
 
-/// The nearest site of a table, if it is nearer than all names that the search saw before.
+/// The name of a site of the table `answers` that is nearest to the one that `near` searches for. None if no site's name is nearer than all names
+/// that the search took before.
 pub(crate) fn near_site<'a>(near: &mut Near, answers: &'a Answers) -> Option<&'a [u8]> {
     let mut nearest = None;
     // Sites are numbered from 0 without a gap, so the first number without a name is behind the last site.
@@ -218,7 +220,7 @@ fn say_name(page: &mut Page, alloc: Global, subject: &Subject, ast: &Ast, fault:
     }
 }
 
-// Fault C1: a name that means nothing here. If a variable has this name elsewhere, it says where that is known.
+// Fault C1: the name `name` means nothing here. If a variable has this name elsewhere, the hint says where that variable is known.
 fn say_unbound(page: &mut Page, alloc: Global, document: &Document, ast: &Ast, name: &[u8]) {
     page.say_word("no `", name, "` is in scope here\n");
     let Ok(bindings) = Bindings::new(alloc, ast) else {
@@ -259,7 +261,7 @@ fn text_of<'a>(name: Option<Name<'a>>) -> Option<&'a [u8]> {
     name.map(|name| name.text)
 }
 
-// The name that was probably meant, and what it answers if it is a built-in site.
+// Writes the name `name`, which was probably meant, and what it answers if it is that of a built-in site.
 fn say_meant(page: &mut Page, name: &[u8]) {
     page.note("help: ");
     page.say_word("did you mean `", name, "`?");
@@ -271,7 +273,7 @@ fn say_meant(page: &mut Page, name: &[u8]) {
     page.say("\n");
 }
 
-// A name with a capital letter may be meant as a site. Of another name nothing is said.
+// A name with a capital letter may be meant as a site, so it says how a site is called. Of another name nothing is said.
 fn say_perhaps_site(page: &mut Page, name: &[u8]) {
     if let [b'A'..=b'Z', ..] = name {
         page.note("help: ");
@@ -294,7 +296,7 @@ fn say_not_value(page: &mut Page, ast: &Ast, name: &[u8]) {
     page.say("s aren't values\n");
 }
 
-// Fault C3: a call of a definition that takes `want` arguments with `got` of them.
+// Fault C3: a call of the definition `name`, which takes `want` arguments, with `got` of them.
 fn say_arity(page: &mut Page, document: &Document, ast: &Ast, name: &[u8], want: u64, got: u64) {
     page.say("called with ");
     page.count(got, "argument");
@@ -308,7 +310,7 @@ fn say_arity(page: &mut Page, document: &Document, ast: &Ast, name: &[u8], want:
     page.say("\n");
 }
 
-// Fault C4: a second definition of a name. `definition_of` gives the first.
+// Fault C4: a second definition of a name. `definition_of` gives the first, and the page says where that one stands.
 fn say_second_definition(page: &mut Page, document: &Document, ast: &Ast, name: &[u8]) {
     page.say("a second definition of this name\n");
     if let Some(first) = definition_of(ast, name) {
@@ -316,7 +318,7 @@ fn say_second_definition(page: &mut Page, document: &Document, ast: &Ast, name: 
     }
 }
 
-// Fault C5: a second parameter of a name, at this byte.
+// Fault C5: a second parameter of a name, at byte `at` of the source. The page says where the first one stands.
 fn say_second_parameter(page: &mut Page, document: &Document, ast: &Ast, name: &[u8], at: usize) {
     page.say("a second parameter of this name\n");
     if let Some(first) = first_parameter(ast, name, at) {
@@ -436,7 +438,8 @@ fn say_perhaps_script(
     }
 }
 
-// Writes the line that a script needs for a site of one's own with `count` arguments. Its answer, 0 after 1, is only an example.
+// Writes the line that a script needs for a site of one's own with `count` arguments, a `_` for each. The line's answer, 0 after 1, is only an
+// example.
 fn say_own_site(page: &mut Page, subject: &Subject, name: &[u8], count: usize) {
     page.note("help: a site of your own needs a line in ");
     match subject.script {

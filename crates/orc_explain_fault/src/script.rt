@@ -44,7 +44,9 @@ pub(crate) enum Kind {
 #[derive(Clone, Copy)]
 pub struct Piece<'a> {
     pub(crate) kind: Kind,
+    /// The piece's bytes; none at the end of the line.
     pub text: &'a [u8],
+    /// Where these bytes stand in the text.
     pub(crate) span: Span,
 }
 
@@ -59,11 +61,13 @@ enum Wrong {
     Reserved,
     /// The bracket that opens the patterns.
     Bracket,
+    /// A pattern.
     Pattern,
     /// A comma or the closing bracket.
     Comma,
     /// The `=`.
     Assign,
+    /// An answer.
     Answer,
     /// An `after` stands behind `never`, which takes none.
     NeverAfter,
@@ -80,7 +84,7 @@ enum Wrong {
 }
 
 impl Piece<'_> {
-    /// Whether it is this word or sign.
+    /// Whether the piece is this word or sign.
     pub(crate) fn is(&self, text: &[u8]) -> bool {
         self.text == text
     }
@@ -200,10 +204,10 @@ impl<'a> Line<'a> {
         next.copied().unwrap_or(self.end)
     }
 
-    /// Whether a `.` or a name touches the number before it, as in `1.5` and `3ms`.
+    /// Whether the piece that is looked at, a `.` or a name, touches the number before it, as in `1.5` and `3ms`.
     pub(crate) fn lengthens_number(&self) -> bool {
         let here = self.here();
-        // Of the first piece this is the piece itself, which doesn't end where it begins.
+        // Where the first piece is looked at, `before` is that piece itself, which doesn't end where it begins.
         match self.pieces.get(self.at.saturating_sub(1)) {
             Some(before) => {
                 before.kind == Kind::Number
@@ -219,7 +223,7 @@ impl<'a> Line<'a> {
         self.at = self.at.saturating_add(1);
     }
 
-    // Whether this word or sign is looked at.
+    // Whether the piece that is looked at is this word or sign.
     fn is_here(&self, text: &[u8]) -> bool {
         self.here().text == text
     }
@@ -266,7 +270,8 @@ impl<'a> Line<'a> {
         Ok(())
     }
 
-    // Goes on behind the patterns and their brackets. The error is Patterns behind `MOST_ARGUMENTS` of them and a comma.
+    // Goes on behind the patterns of a line and their brackets. The error is Patterns behind `MOST_ARGUMENTS` of them and a comma; else it says what
+    // had to stand at the piece that is looked at.
     fn patterns(&mut self) -> Result<(), Wrong> {
         self.want(b"(", Wrong::Bracket)?;
         if self.is_here(b")") {
@@ -301,7 +306,8 @@ impl<'a> Line<'a> {
         }
     }
 
-    // Goes on behind an answer with its time. At a `never` with an `after` it goes back to the `never`, where the carets are to go.
+    // Goes on behind an answer with its time, if it has one. At a `never` with an `after` it goes back to the `never`, where the carets are to go.
+    // The error is what is wrong at the piece that is looked at.
     fn answer(&mut self) -> Result<(), Wrong> {
         if self.is_here(b"never") {
             self.go();
@@ -323,7 +329,8 @@ impl<'a> Line<'a> {
         Ok(())
     }
 
-    // Goes on to the end of the line, over answers with `then` between them. The error is Answers behind `MOST_ANSWERS` of them and a `then`.
+    // Goes on to the end of the line, over answers with `then` between them. The error is Answers behind `MOST_ANSWERS` of them and a `then`; else it
+    // says what is wrong at the piece that is looked at.
     fn answers(&mut self) -> Result<(), Wrong> {
         for _answer in 0..MOST_ANSWERS {
             self.answer()?;
@@ -344,8 +351,8 @@ impl<'a> Line<'a> {
     }
 }
 
-// What is wrong, in words. Before those of `BuiltIn` and `Reserved` stands the piece, and before those of `Patterns`
-// and `Answers` how many are allowed.
+// What is wrong with a line, in words. `say_wrong` puts the piece before the words of `BuiltIn` and `Reserved`, and before those of `Patterns` and
+// `Answers` how many are allowed.
 fn words(wrong: Wrong) -> &'static str {
     match wrong {
         Wrong::Name => "the name of a site has to stand here",
@@ -409,7 +416,7 @@ fn say_wrong(page: &mut Page, wrong: Wrong, here: Piece) {
     page.say("\n");
 }
 
-// What to write instead of the piece that is looked at. Where a fault's words say it already nothing follows.
+// Writes what to do instead, by the kind of the fault and the piece that is looked at. Where a fault's own words say it already nothing follows.
 fn say_advice(page: &mut Page, document: &Document, wrong: Wrong, line: &Line) {
     let here = line.here();
     match wrong {
@@ -436,7 +443,8 @@ fn say_advice(page: &mut Page, document: &Document, wrong: Wrong, line: &Line) {
     }
 }
 
-// What to do about a piece that stands where a site's name has to.
+// What to do about the piece `here`, which stands where a site's name has to: it begins a comment of another language, or a byte order mark; else the
+// form of a line is said.
 fn name_advice(document: &Document, here: Piece) -> &'static str {
     match here.text {
         b"#" | b"/" => COMMENT,

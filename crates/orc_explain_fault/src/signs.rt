@@ -6,14 +6,19 @@ use crate::hint::{Hint, say_hint};
 use orc_lex::token::Span;
 use orc_report::{Document, Page, begins_character};
 
+/// How a comment is written in a source.
 const COMMENT: &str = "a comment is `-- ..` to the end of the line, or `{- .. -}`";
 
+/// What is said of a `*`, which other languages have for products.
 const NO_PRODUCT: &str = "there is no product: a script can answer for a site of your own";
 
+/// What is said of a `/`, which other languages have for quotients.
 const NO_QUOTIENT: &str = "there is no quotient: a script can answer for a site of your own";
 
+/// What is said of a `[` or a `]`.
 const NO_LISTS: &str = "there are no lists";
 
+/// What is said of a `{` or a `}`.
 const BRACKETS: &str = "brackets are `(` and `)`; a comment is `{- .. -}`";
 
 /// The bytes of a byte order mark, which some editors put first into a file.
@@ -90,7 +95,8 @@ fn code(bytes: &[u8]) -> Option<u32> {
     }
 }
 
-// The hint on the text at this byte. None where nothing helpful is known.
+// What is said of the text at byte `at`: the first entry of `HINTS` that fits, or words on characters outside ASCII. None where nothing helpful is
+// known.
 fn hint(text: &[u8], at: usize) -> Option<&'static str> {
     let rest = text.get(at..).unwrap_or(b"");
     for (signs, said) in HINTS.iter() {
@@ -127,7 +133,7 @@ fn say_unshown(page: &mut Page, bytes: &[u8]) {
     }
 }
 
-/// Explains a character, at this byte, that begins no token.
+/// Explains a character, at byte `at` of the text, that begins no token.
 pub(crate) fn say_stray(page: &mut Page, document: &Document, at: usize) {
     let end = if is_pair(document.text, at) {
         at.saturating_add(2)

@@ -121,7 +121,7 @@ fn say_deep(page: &mut Page, document: &Document, at: usize) {
     }
 }
 
-/// The name of a file that is too long, and how many bytes it may have (`most`). The caller ends the line.
+/// Writes the name of a file that is too long, and how many bytes it may have (`most`). The last line is left open: the caller ends it.
 pub(crate) fn say_most(page: &mut Page, document: &Document, most: u64) {
     page.say(" --> ");
     page.path(document.name);
@@ -131,13 +131,13 @@ pub(crate) fn say_most(page: &mut Page, document: &Document, most: u64) {
     page.say(" bytes");
 }
 
-/// A text that is too long: how many bytes it may have at most, and how many it has.
+/// Explains a text that is too long: how many bytes it may have at most (`most`), and how many it has.
 pub(crate) fn say_long(page: &mut Page, document: &Document, most: u64) {
     say_most(page, document, most);
     page.say_number(", and these are ", document.text.len() as u64, "\n");
 }
 
-/// A line that memory was refused while something was done. `what` is its end, as `the source was read as a program`.
+/// Writes a line that says that memory was refused while something was done. `what` is the line's end, as `the source was read as a program`.
 pub(crate) fn say_refused(page: &mut Page, what: &str) {
     page.note("memory was refused while ");
     page.say(what);

@@ -108,7 +108,8 @@ fn say_wanted(page: &mut Page, alloc: Global, line: &Line, walk: Walk) {
     }
 }
 
-// What to write instead of the piece that is looked at: by a number before it, by the place, or else by the word. None where that isn't known.
+// What to write instead of the piece at which the walk has stopped: by a number before the piece, by the place, or else by the piece itself. None
+// where that isn't known.
 fn advice(line: &Line, walk: Walk) -> Option<&'static str> {
     let here = line.here();
     // A `.` is left to the place, which knows whether a range was meant.
@@ -125,7 +126,7 @@ fn advice(line: &Line, walk: Walk) -> Option<&'static str> {
     said_of(here.text, WORDS.as_slice())
 }
 
-// What to write instead of a piece at a place where it can't stand. None where the place says nothing of it.
+// What to write instead of the piece `here` at a place of the grammar where it can't stand. None where the place says nothing of it.
 fn place_advice(here: Piece, place: Place) -> Option<&'static str> {
     match place {
         Place::Bracket => Some(
@@ -154,7 +155,7 @@ fn place_advice(here: Piece, place: Place) -> Option<&'static str> {
     }
 }
 
-// Whether a piece looks like a part of a range in another form: `...`, `-5`.
+// Whether the piece `here` looks like a part of a range in another form: `...`, `-5`. A range is `0..5`.
 fn is_of_range(here: Piece) -> bool {
     match here.text {
         [b'.', ..] | [b'-', ..] => true,
@@ -162,7 +163,7 @@ fn is_of_range(here: Piece) -> bool {
     }
 }
 
-// Where the first range `5..0` stands whose second number is less than its first. None if there is no such range.
+// Where the first range stands whose second number is less than its first, as `5..0`. None if there is no such range.
 fn backwards(pieces: &[Piece]) -> Option<Span> {
     for at in 0..pieces.len() {
         if let [low, dots, high, ..] = pieces.get(at..).unwrap_or(pieces) {

@@ -85,8 +85,8 @@ fn say_misplaced(page: &mut Page, head: Head, section: Option<Outlined>) {
     page.help(help);
 }
 
-// Says that the line with this number, from 1, begins a second section of a name, if an earlier line begins one; otherwise that it is a case too
-// many.
+// Says that the line with this number, from 1, which begins the section `head`, is the second of its name, if an earlier line begins the same
+// section; otherwise that it is a case too many.
 fn say_second_section(page: &mut Page, outline: &Outline, number: usize, head: Head) {
     match outline.first(head) {
         Some(first) if first < number => {
@@ -95,6 +95,7 @@ fn say_second_section(page: &mut Page, outline: &Outline, number: usize, head: H
             page.number(first as u64);
             page.say("\n");
         }
+        // No earlier line begins this section, so there are too many cases: over 256.
         _ => page.say("the 257th case\n"),
     }
 }

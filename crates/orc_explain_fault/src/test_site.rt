@@ -53,7 +53,7 @@ pub(crate) fn say_unknown(
     }
 }
 
-// The site that may have been meant, of those of the script, the built-in ones and the services; empty where none is near.
+// The name that is nearest to `name`, of the sites of the script, the built-in ones and the services of the test; empty where none is near.
 fn near_service<'a>(
     page: &mut Page,
     alloc: Global,
@@ -62,6 +62,7 @@ fn near_service<'a>(
     name: &[u8],
 ) -> &'a [u8] {
     let mut near = Near::new(alloc, name);
+    // Sites of the table are shown to the search first, and services then.
     let mut meant = near_site(&mut near, others).unwrap_or(b"");
     for line in outline.lines.iter() {
         if let Head::Service(other, _) = line.head {
@@ -90,7 +91,7 @@ fn say_other_arguments(page: &mut Page, outline: &Outline, name: &[u8]) -> bool 
     true
 }
 
-// Writes, behind the carets, that no service has this name and `count` arguments, and what may have been meant.
+// Writes, behind the carets, that no service has the name `name` and `count` arguments, and what may have been meant.
 fn say_no_service(
     page: &mut Page,
     alloc: Global,

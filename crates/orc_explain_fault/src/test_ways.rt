@@ -56,10 +56,11 @@ fn is_same(one: &Service, other: &Service) -> bool {
     one.name == other.name && one.patterns.as_slice() == other.patterns.as_slice()
 }
 
-// The name of the service that has most ways by itself, of those of the case at place `case`, from 0; and how many ways it has. None where no service
-// has more than one.
+// The name of the service that has most ways by itself (combinations of its answers and their times), of those of the case at place `case`, from 0;
+// and how many ways it has. None where no service has more than one.
 fn widest<'a>(test: &Test<'a>, case: Option<usize>) -> Option<(&'a [u8], u64)> {
     let mut found = None;
+    // A service with one way has no choice, so it isn't looked for.
     let mut most: u64 = 1;
     for line in test.services.iter() {
         let ways = ways_of(&line.service);

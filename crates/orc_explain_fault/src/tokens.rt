@@ -55,7 +55,7 @@ impl<'a> Tokens<'a> {
         Ok(())
     }
 
-    /// The n-th token before the place, counted from 1, the last one. None for 0, and where there are fewer.
+    /// The n-th token before the place of the fault, counted back from the last one, which has number 1. None for 0, and where there are fewer.
     pub(crate) fn back(&self, n: usize) -> Option<Token<'a>> {
         let at = self.before.len().checked_sub(n)?;
         self.before.get(at).copied()

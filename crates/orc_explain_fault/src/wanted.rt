@@ -148,7 +148,9 @@ fn closed_before(closed: usize, kind: Kind) -> Option<usize> {
 /// A source's text, and its tokens up to the place of the fault.
 #[derive(Clone, Copy)]
 struct Around<'s, 'a> {
+    // The text of the source.
     text: &'a [u8],
+    // Its tokens before the place of the fault, and the one at that place.
     tokens: &'s Tokens<'a>,
 }
 
@@ -159,7 +161,7 @@ impl<'a> Around<'_, 'a> {
         self.text.get(span.start..span.end).unwrap_or(b"")
     }
 
-    // The text of the token at the place, empty at the end of the source.
+    // The text of the token at the place of the fault, empty at the end of the source.
     fn here(&self) -> &'a [u8] {
         match self.tokens.here {
             Some(token) => self.text_of(token),
@@ -167,7 +169,7 @@ impl<'a> Around<'_, 'a> {
         }
     }
 
-    // The text of the n-th token before the place, from 1, the last one; empty where there are fewer.
+    // The text of the n-th token before the place of the fault, counted back from the last one, which has number 1; empty where there are fewer.
     fn back(&self, n: usize) -> &'a [u8] {
         match self.tokens.back(n) {
             Some(token) => self.text_of(token),
@@ -175,8 +177,9 @@ impl<'a> Around<'_, 'a> {
         }
     }
 
-    // The bracket that was opened last of those that are still open at the place. None where none is.
+    // The bracket that was opened last of those that are still open at the place of the fault. None where none is.
     fn open_bracket(&self) -> Option<Token<'a>> {
+        // How many closing brackets the walk has met whose opening ones it hasn't.
         let mut closed: usize = 0;
         for token in self.tokens.before.iter().rev() {
             match closed_before(closed, token.kind) {
@@ -187,10 +190,11 @@ impl<'a> Around<'_, 'a> {
         None
     }
 
-    // Whether a `;` (`Joint::Other`), at the place of the fault or before it, stands behind the last `val` within the same brackets. The walk goes
-    // back from the place.
+    // Whether a `;` (`Joint::Other`) stands behind the last `val` within the same brackets, before the place of the fault or at it: its writer took
+    // the `val` for a statement that a `;` ends. The walk goes back from that place.
     fn is_val_ended(&self) -> bool {
         let mut is_ended = self.here() == b";".as_slice();
+        // How many closing brackets the walk has met whose opening ones it hasn't.
         let mut closed: usize = 0;
         for token in self.tokens.before.iter().rev() {
             // The token isn't in brackets that were closed again before the place.
@@ -269,7 +273,7 @@ impl<'a> Around<'_, 'a> {
         None
     }
 
-    // A hint on brackets behind a reserved word that takes none: `stop()`.
+    // A hint on brackets behind a reserved word that takes none, as in `stop()`: the place of the fault is at the `(`. None where it isn't.
     fn bracketed_word(&self) -> Option<Hint<'a>> {
         let last = self.back(1);
         if self.here() == b"(".as_slice() && is_one_of(last, WORDS.as_slice()) {
@@ -278,7 +282,8 @@ impl<'a> Around<'_, 'a> {
         None
     }
 
-    // A hint on the bracket that is still open where a line begins with `def`; unless that bracket is the token right before it.
+    // A hint on the bracket that is still open where a line begins with `def`: the place of the fault is at that `def`. None where it isn't, no
+    // bracket is open, or that bracket is the token right before the `def`.
     fn unclosed(&self) -> Option<Hint<'a>> {
         let here = self.tokens.here?;
         let last = self.tokens.back(1)?;
@@ -339,7 +344,8 @@ impl<'a> Around<'_, 'a> {
         None
     }
 
-    // A hint on an operator with a name, `>x>`, that stands before the place with nothing behind it.
+    // A hint on an operator with a name, as `>x>`, that stands before the place of the fault with nothing behind it. None where no such operator
+    // stands there.
     fn named_operator(&self) -> Option<Hint<'a>> {
         let sign = self.back(1);
         let name = name_of(self.tokens.back(2))?;
@@ -370,7 +376,7 @@ impl<'a> Around<'_, 'a> {
         )
     }
 
-    // Whether what stands at the place, behind a `<` or a `>`, shows that two values were to be compared.
+    // Whether what stands at the place, behind a `<` or a `>`, shows that two values were to be compared, as in `a < (b)`, `a <= b` and `a < 1`.
     fn is_compared(&self) -> bool {
         match self.here() {
             b"(" | b"=" => true,
@@ -388,7 +394,7 @@ impl<'a> Around<'_, 'a> {
         Hint::plain(self.name_words())
     }
 
-    // Whether a `<` or a `>` stands before the place.
+    // Whether a `<` or a `>` stands right before the place of the fault.
     fn is_behind_arrow(&self) -> bool {
         match self.back(1) {
             b"<" | b">" => true,
@@ -469,7 +475,7 @@ impl<'a> Around<'_, 'a> {
         })
     }
 
-    // Whether a number with a `-` touches the token before it, as in `3-2`.
+    // Whether the number at the place has a `-` and touches the token before it, as in `3-2`: the `-` was meant to subtract.
     fn is_minus(&self) -> bool {
         match (self.tokens.back(1), self.tokens.here, self.here()) {
             (Some(last), Some(token), [b'-', ..]) => last.span.end == token.span.start,

@@ -8,7 +8,7 @@ pub(crate) const RESERVED: [&[u8]; 6] = [b"def", b"val", b"stop", b"true", b"fal
 /// The values that are no numbers.
 pub(crate) const CONSTANTS: [&[u8]; 3] = [b"true", b"false", b"signal"];
 
-/// Whether a word is one of these.
+/// Whether `word` is one of `words`.
 pub(crate) fn is_one_of(word: &[u8], words: &[&[u8]]) -> bool {
     words.iter().any(|other| *other == word)
 }

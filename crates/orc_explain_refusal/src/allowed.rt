@@ -15,8 +15,8 @@ pub(crate) fn cancel_in(allowed: &Allowed) -> Option<u64> {
     }
 }
 
-/// Writes the line of the first entries that are allowed, and how many more are. If none is, it says that the term has halted (`has_halted`), or else
-/// that it has gone quiet.
+/// Writes the line of the first entries that are allowed, and how many more are; `answers` has the names of their sites. If none is, it says that the
+/// term has halted (`has_halted`), or else that it has gone quiet: nothing can happen any more.
 pub(crate) fn say_allowed(
     page: &mut Page,
     alloc: Global,
@@ -36,6 +36,7 @@ pub(crate) fn say_allowed(
         }
         say_entry(page, alloc, answers, entry);
     }
+    // `entries` has the first allowed entries alone, and `count` counts all.
     let more = allowed.count().saturating_sub(entries.len() as u64);
     if more > 0 {
         page.tell(" and % more", &[Fill::Number(more)]);

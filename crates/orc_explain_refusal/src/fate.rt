@@ -7,7 +7,7 @@ use orc_rules::entry::Entry;
 use orc_term::arena::{Kind, Single};
 use orc_verdict::numbers_of;
 
-/// What has become of a token, a call, a cell or an otherwise, with the number of the entry by which it left the term.
+/// What has become of a token, a call, a cell or an otherwise, with the number of the entry, from 1, by which it left the term.
 #[derive(Clone, Copy)]
 pub(crate) enum Fate {
     /// Nothing: it is there, or never was.
@@ -73,9 +73,9 @@ impl Watch {
         }
     }
 
-    /// Takes note of the entry with this number, from 1, which has just been applied to the term.
+    /// Takes note of the entry with this number, from 1, which has just been applied; `marked` is the term behind that entry.
     pub(crate) fn note(&mut self, marked: &Marked, entry: &Entry, number: u64) {
-        // A bind drops a pending call first; the `cancel` behind it says so of the call itself.
+        // A bind drops a pending call first; the `cancel` behind the bind says of the call itself that it was cancelled.
         match (self.named, self.fate, entry) {
             (Named::Call(call), Fate::Bound(_), Entry::Cancel(cancelled)) if *cancelled == call => {
                 self.fate = Fate::Cancelled(number);
@@ -84,18 +84,21 @@ impl Watch {
             _ => {}
         }
         match self.place {
+            // What is named wasn't in the term before this entry, which makes it: from here on it has a node.
             None if is_brought(self.named, entry) => self.place = place_of(marked, self.named),
+            // What is named was at that node, and isn't any more: this entry took it away.
             Some(place) if !stands_at(marked, place, self.named) => {
                 if let Fate::Nothing = self.fate {
                     self.fate = self.ended_by(marked, place, entry, number);
                 }
             }
-            // It isn't made yet, or it still stands.
+            // What is named isn't made yet, or it still stands.
             _ => {}
         }
     }
 
-    // The fate of what is named, which was at the node at this place until the entry with this number was applied.
+    // The fate of what is named. It was at the node with the number `place` until the entry with this number was applied; `marked` is the term behind
+    // that entry.
     fn ended_by(&self, marked: &Marked, place: usize, entry: &Entry, number: u64) -> Fate {
         if is_used(self.named, entry) {
             return match self.named {
@@ -124,8 +127,9 @@ impl Watch {
         }
     }
 
-    /// Writes that what is named isn't there, and why: the entry that took it away, or that it never was there.
+    /// Writes that what is named isn't in the term `marked`, and why: the entry that took it away, or that it never was there.
     pub(crate) fn say(&self, marked: &Marked, page: &mut Page) {
+        // The word for what is named, its number, and the next number of its kind.
         let (kind, number, next) = match self.named {
             Named::Token(mark) => ("mark", mark, marked.new_mark()),
             Named::Call(call) => ("call", call, marked.new_call()),

@@ -23,7 +23,7 @@ pub(crate) fn line_of(
     Ok(line)
 }
 
-/// Writes the line of an entry, without its LF.
+/// Writes the line of an entry, without its LF. `answers` has the names of the sites.
 pub(crate) fn say_entry(page: &mut Page, alloc: Global, answers: &Answers, entry: &Entry) {
     match line_of(alloc, answers, Some(entry)) {
         Ok(line) => {

@@ -33,7 +33,7 @@ pub(crate) fn named_by(entry: &Entry) -> Named {
     }
 }
 
-// Whether a node of this kind is what is named.
+// Whether a node of this kind is what is named. A token is named by its mark, whether it stands on a node of the program or bears an answer.
 fn is_named(kind: Kind, named: Named) -> bool {
     match (kind, named) {
         (Kind::Leaf(Tip::Token(mark, _, _)), Named::Token(token)) => mark == token,
@@ -55,7 +55,7 @@ pub(crate) fn stands_at(marked: &Marked, place: usize, named: Named) -> bool {
     }
 }
 
-/// The number of the node that is named; None where there is none. It looks at all nodes.
+/// The number of the node of the term that is what is named; None where there is none. It looks at all nodes.
 pub(crate) fn place_of(marked: &Marked, named: Named) -> Option<usize> {
     for (place, slot) in marked.nodes().iter().enumerate() {
         if is_named(slot.node().kind, named) {

@@ -72,8 +72,8 @@ impl<'r, 's> Names<'r, 's> {
         })
     }
 
-    /// The place, from 0, of the argument for which the scope check made a variable of its own: these have the numbers behind those of the source's
-    /// variables, place by place. None for a variable of the source.
+    /// The place, from 0, of the argument for which the scope check made the variable `name`. The variables that it made have the numbers behind
+    /// those of the source's variables, place by place. None if `name` is a variable of the source.
     pub(crate) fn argument(&self, name: u32) -> Option<usize> {
         (name as usize).checked_sub(self.variables.len())
     }
@@ -93,8 +93,10 @@ impl<'r, 's> Names<'r, 's> {
         page.tell("#%", &[Fill::Number(cell)]);
     }
 
-    /// Writes a sign, with the name that it binds where that is a variable of the source: `>x>`, or `>>` for one without a name.
+    /// Writes the sign `sign` of an operation, with the name that it binds where that is a variable of the source: `>x>`, or `>>` for one without a
+    /// name.
     pub(crate) fn say_sign(&self, page: &mut Page, sign: Sign) {
+        // What stands before the name, and what stands behind it.
         let (before, behind) = match sign {
             Sign::Par => (" | ", ""),
             Sign::Other => (" ; ", ""),

@@ -52,10 +52,12 @@ impl Refused<'_> {
         page.carets(self.line, first, part);
     }
 
-    /// Shows the entry, and says why it is refused.
+    /// Shows the entry, and says behind the carets why it is refused; `why` is the checker's reason. `show` takes the word of the entry's line, from
+    /// 0, under which the carets go, and None for the whole line.
     pub(crate) fn say(&self, page: &mut Page, alloc: Global, why: RuleFault) {
+        // The number of the call whose `cancel` has to come next, if a cancel is due.
         let cancel = cancel_in(self.allowed);
-        // It is shown only where a cancel is due, so 0 isn't.
+        // The number is shown only where a cancel is due, so the 0 that stands for None is never shown.
         let cancelled = Fill::Number(cancel.unwrap_or(0));
         let Some(entry) = self.entry else {
             // Without an entry: the journal ends where a cancel is due.
@@ -105,12 +107,14 @@ impl Refused<'_> {
         // An entry that names no token gets mark 0, which no token has.
         let mark = mark_named(entry).unwrap_or(0);
         match entry_of(&self.replay.marked, self.program, mark) {
+            // The token makes an entry of this kind, but with something else behind the first word.
             Some(other) if other.kind().word() == entry.kind().word() => {
                 self.show(page, None);
                 page.say("this has to be `");
                 say_entry(page, alloc, self.answers, &other);
                 page.say("`\n");
             }
+            // The token makes an entry of another kind, so the carets go under the first word of the line, the kind.
             Some(other) => {
                 self.show(page, Some(0));
                 let word = Fill::Word(other.kind().word());
@@ -152,6 +156,7 @@ impl Refused<'_> {
     // Says which new number of the entry isn't the next one of its kind: the first that isn't.
     fn say_number(&self, page: &mut Page, entry: &Entry) {
         let marked = &self.replay.marked;
+        // The numbers that the entry gives out, of each kind None if it gives out none.
         let new = numbers_of(entry);
         let mark = marked.new_mark();
         // New numbers stand behind the entry's word and what it names, in this order.
@@ -174,8 +179,8 @@ impl Refused<'_> {
         }
     }
 
-    // What the table says of the call that an entry returns, and at what time the call was made. None where the entry returns none, or there is no
-    // such call.
+    // What the table of sites says of the call that an entry returns, and at what time the call was made. None where the entry returns none, or there
+    // is no such call.
     fn returned(&self, entry: &Entry) -> Option<(Found, u64)> {
         let (Entry::Return(call, _, _) | Entry::ReturnHalt(call)) = entry else {
             return None;
@@ -185,7 +190,7 @@ impl Refused<'_> {
         Some((called.found, called.at))
     }
 
-    // Says what the table's answer is, where a return has another one. Its answer is the last word of its line.
+    // Says what the answer is in the table of sites, where a return has another one. The entry's answer is the last word of its line.
     fn say_answer(&self, page: &mut Page, entry: &Entry) {
         // `return CALL MARK VALUE` or `return CALL halt`, words counted from 0.
         let answer = match entry {
@@ -202,7 +207,7 @@ impl Refused<'_> {
         }
     }
 
-    // The entry comes at a wrong time. Of a return this says when its call is due, and of a tick what is wrong with it.
+    // The entry comes at a wrong time. If it is a return this says when the call is due, and else, of a tick, what is wrong with the tick.
     fn say_time(&self, page: &mut Page, entry: &Entry) {
         self.show(page, Some(1));
         let (Entry::Return(call, _, _) | Entry::ReturnHalt(call)) = entry else {
@@ -210,7 +215,7 @@ impl Refused<'_> {
             return;
         };
         let call = Fill::Number(*call);
-        // `at` is the time at which the call was made.
+        // When the call is due; None if it never is. `at` is the time at which the call was made.
         let due = match self.returned(entry) {
             Some((found, at)) => due_time(found, at),
             None => None,
@@ -231,7 +236,8 @@ impl Refused<'_> {
         }
     }
 
-    // Says why a tick isn't allowed: the next due time is another one, something else can happen, or no call is ever due.
+    // Says why a tick isn't allowed, by the first entry that is: a tick to another time, another entry that can come now, or none, since no call is
+    // ever due.
     fn say_tick(&self, page: &mut Page) {
         match self.allowed.entries().first() {
             Some(Entry::Tick(time)) => {

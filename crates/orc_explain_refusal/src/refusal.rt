@@ -39,7 +39,7 @@ impl Drop for Case<'_> {
     }
 }
 
-// The program of a tree. The tree was checked before without a fault, so the error is refused memory.
+// The program of a tree. `answers` has the names of all sites. The tree was checked before without a fault, so the error is refused memory.
 fn program_of(alloc: Global, ast: &Ast, answers: &Answers) -> Result<Program, AllocError> {
     // The check has to know the names of all sites.
     let names = answers.names(alloc)?;
@@ -129,8 +129,8 @@ impl<'s> Case<'s> {
         Ok(())
     }
 
-    // Writes the term before the entry, and below it its marks. `entry` is None where a cancel is due behind the last entry. The error is refused
-    // memory.
+    // Writes the term before the refused entry, and below it its marks. `entry` is None where a cancel is due behind the last entry, and `why` is the
+    // checker's reason. The error is refused memory.
     fn say_term(
         &self,
         page: &mut Page,
@@ -140,6 +140,7 @@ impl<'s> Case<'s> {
         why: RuleFault,
     ) -> Result<(), AllocError> {
         let marked = &replay.marked;
+        // The names of variables, sites and cells; the parts that are written as `stop`; and the nodes from what the entry names up to the whole.
         let names = Names::new(alloc, &self.ast, &self.answers, marked)?;
         let spent = Spent::new(alloc, marked)?;
         let way = Way::new(alloc, marked, &spent, entry, replay.first.named, why)?;

@@ -11,6 +11,7 @@ use std::alloc::{AllocError, Global};
 
 /// The marked term before the refused entry, and what the entries before it have done to what that one names.
 pub(crate) struct Replay {
+    /// The term before the refused entry, with its marks.
     pub marked: Marked,
     /// For each call, call 1 first, the place of its entry, from 0.
     calls: Vec<usize>,
@@ -41,7 +42,7 @@ impl Replay {
         journal: &Journal,
         place: usize,
     ) -> Result<Replay, AllocError> {
-        // Journals of the first version don't record the cancels of a bind.
+        // Journals of the first version don't record the cancels of a bind, so the checker doesn't ask for them.
         let cancels = matches!(journal.version(), Version::Two);
         let marked = Marked::new(alloc, program, cancels)?;
         let (first, second) = match journal.get(place) {

@@ -17,6 +17,8 @@ impl Strip<'_, '_> {
             Some(named) => Some(named.start),
             None => None,
         };
+        // The line goes on behind its end if the term was cut there (`is_cut`), and on both sides if nodes above the named part aren't shown
+        // (`is_inner`).
         let window = Window::of(self.page.len(), named, self.is_cut, self.way.is_inner);
         let text = self.page.as_str().as_bytes();
         let shown = text.get(window.first..window.end).unwrap_or(b"");
@@ -50,7 +52,7 @@ impl Strip<'_, '_> {
         }
         for note in &self.notes {
             if note.column >= window.first && note.column < window.end {
-                // A number that has no room is left out.
+                // The number of the mark, with a blank on both sides. If it has no room it is left out.
                 let column = note.column.saturating_sub(window.first);
                 put(&mut signs, alloc, column, "%", note.mark, false)?;
             }
@@ -68,8 +70,8 @@ impl Strip<'_, '_> {
     }
 }
 
-// Writes one of the two lines, five blanks further in than a note: the `shown` bytes, with `front` before them and `end` behind them if columns are
-// cut off there.
+// Writes one of the two lines, five blanks further in than a note: the bytes `shown`, with `front` before them and `end` behind them if the window
+// cuts off columns there.
 fn show_line(page: &mut Page, window: Window, front: &str, shown: &[u8], end: &str) {
     page.inset();
     page.say("     ");
@@ -85,8 +87,8 @@ fn show_line(page: &mut Page, window: Window, front: &str, shown: &[u8], end: &s
     page.say("\n");
 }
 
-// Puts `words`, in which the number stands for the `%`, into a line from column `start` on, if they have room there: a blank on both sides, or, for
-// the last words of the line, nothing from `start` to its end. What has no room is left out. The error is refused memory.
+// Puts `words`, in which the number stands for the `%`, into the line `signs` from column `start` on, if they have room there: a blank on both sides,
+// or, for the last words of the line (`is_last`), nothing from `start` to the line's end. What has no room is left out. The error is refused memory.
 fn put(
     signs: &mut Vec<u8>,
     alloc: Global,
@@ -99,6 +101,7 @@ fn put(
     page.tell(words, &[Fill::Number(number)]);
     let text = page.finish()?;
     let end = start.saturating_add(text.len());
+    // The columns that have to be blank.
     let room = if is_last {
         (start, signs.len())
     } else {

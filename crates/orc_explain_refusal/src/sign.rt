@@ -29,8 +29,10 @@ impl Sign {
     /// How tightly the sign and its parts have to bind. The levels follow the grammar of sources: `;` 1, `<x<` 2, `|` 3 and `>x>` 4. All but `>x>`
     /// group to the left, so their right part needs a level more.
     pub(crate) fn levels(self) -> Levels {
+        // In this order: the sign's own level, the least levels of its left and right part, and the variables that it binds in these.
         let (own, left, right, bound_left, bound_right) = match self {
             Sign::Other => (1, 1, 2, None, None),
+            // The variable of an opened pruning has become a cell, so the sign binds none.
             Sign::Opened(_) => (2, 2, 3, None, None),
             Sign::Prune(name) => (2, 2, 3, Some(name), None),
             Sign::Par => (3, 3, 4, None, None),

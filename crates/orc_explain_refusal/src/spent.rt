@@ -27,7 +27,7 @@ impl Spent {
     }
 
     // Notes that a token stands in the node `from`, and so in the nodes above it, as far as they have halted. The climb ends at a node that is noted
-    // already, so all calls together note each node once.
+    // already, since those above it are noted, too: so all calls together note each node once.
     fn hold(&mut self, marked: &Marked, from: usize) {
         let mut place = from;
         // No way up is longer than the list of nodes.
@@ -40,6 +40,7 @@ impl Spent {
             }
             *is_held = true;
             match marked.nodes().get(place) {
+                // Node 0 is above the whole term: the climb ends there.
                 Some(slot) if place != 0 => place = slot.node().parent as usize,
                 _ => return,
             }

@@ -132,13 +132,14 @@ impl<'r, 's> Strip<'r, 's> {
                 strip.most = usize::MAX;
                 strip.push(Task::Way(top, 0));
             }
+            // Nothing is named, so the term is written from its top, node 0, on. At level 0 a part needs no brackets.
             None => strip.push(Task::Node(0, 0)),
         }
         strip.write();
         strip
     }
 
-    // Does the tasks until none is left, enough columns are written or memory is refused. The loop has more turns than there are tasks.
+    // Does the tasks until none is left, enough columns (`most`) are written or memory is refused. The loop has more turns than there are tasks.
     fn write(&mut self) {
         for _task in 0..u64::MAX {
             if self.page.len() > self.most {
@@ -241,9 +242,11 @@ impl<'r, 's> Strip<'r, 's> {
         }
     }
 
-    /// Puts the tasks of an operation on the stack, what comes last first; in brackets if its sign binds less tightly than is `wanted` at its place.
+    /// Puts the tasks of an operation on the stack, what is written last first. Brackets stand around it if its sign binds less tightly than
+    /// `wanted`, the level that is needed at its place.
     pub(crate) fn push_joined(&mut self, sign: Sign, wanted: usize, left: Side, right: Side) {
         let levels = sign.levels();
+        // Whether the operation needs brackets.
         let is_inner = levels.own < wanted;
         if is_inner {
             self.push(Task::Say(")"));
@@ -256,7 +259,7 @@ impl<'r, 's> Strip<'r, 's> {
         }
     }
 
-    // Puts the tasks of a side on the stack, what comes last first. If a name is given, the operation's sign binds it in this side.
+    // Puts the tasks of a side on the stack, what is written last first. If a name is given, the operation's sign binds this variable in this side.
     fn push_side(&mut self, side: Side, name: Option<u32>) {
         if side.is_part {
             self.push(Task::Close);

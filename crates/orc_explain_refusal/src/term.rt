@@ -54,8 +54,9 @@ impl<'r, 's> Strip<'r, 's> {
         }
     }
 
-    // The task for a part of a node, to be written at this level, and whether the part becomes `..` where it is long. `below` is the place on the way
-    // of that node's own part; None for a node off the way, and for the named one, whose parts are off it.
+    // The task for a part of a node, to be written at this level (how tightly it has to bind to need no brackets), and whether the part becomes `..`
+    // where it is long. `below` is the place on the way of that node's own part; None for a node off the way, and for the named one, whose parts are
+    // off the way.
     fn part(&self, part: u32, level: usize, below: Option<usize>) -> Side {
         match below {
             Some(place) if self.is_on_way(part, below) => Side {
@@ -69,13 +70,14 @@ impl<'r, 's> Strip<'r, 's> {
         }
     }
 
-    // Puts the tasks for the parts of the node with number `at` on the stack, or writes the node if it has none. `below` is the place on the way of
-    // that node's own part; None for a node off the way, and for the named one.
+    // Puts the tasks for the parts of the node with number `at` on the stack, or writes the node if it has none. `wanted` is how tightly the node has
+    // to bind to need no brackets. `below` is the place on the way of that node's own part; None for a node off the way, and for the named one.
     fn parts_of(&mut self, at: usize, wanted: usize, below: Option<usize>) {
         let kind = match self.replay.marked.nodes().get(at) {
             Some(slot) => slot.node().kind,
             None => Kind::Leaf(Tip::Gone),
         };
+        // The sign between the parts, the parts' numbers, and the scope of a right part that hasn't begun: that one is a node of the program.
         let (sign, left, right, scope) = match kind {
             Kind::Leaf(tip) => return self.tip(tip, wanted),
             // Such a node is written as its part alone.
@@ -115,7 +117,8 @@ impl<'r, 's> Strip<'r, 's> {
         !self.is_on_way(part, below) && self.spent.is_spent(&self.replay.marked, part as usize)
     }
 
-    // Writes a node of the marked term without parts. The number of a token's mark is noted for the line below.
+    // Writes a node of the marked term without parts, or puts the task for it on the stack. The number of a token's mark is noted for the line below.
+    // `wanted` is how tightly the node has to bind to need no brackets.
     fn tip(&mut self, tip: Tip, wanted: usize) {
         if let Tip::Token(mark, _, _) | Tip::Bears(mark, _) = tip {
             let column = self.page.len();
@@ -211,7 +214,8 @@ impl<'r, 's> Strip<'r, 's> {
         None
     }
 
-    // Writes the name of a call and its `(`, and puts the tasks for its arguments and the `)` on the stack, what comes last first.
+    // Writes the name of a call and its `(`, and puts the tasks for its arguments and the `)` on the stack, what is written last first. `scope` says
+    // what names mean in the arguments.
     fn call(&mut self, called: Called, scope: usize) {
         let (name, list) = match called.node {
             TermNode::Site(site, list) => (self.names.site(site), list),
@@ -224,6 +228,7 @@ impl<'r, 's> Strip<'r, 's> {
         self.push(Task::Say(")"));
         let operands = self.program.operands(list);
         for (place, operand) in operands.iter().enumerate().rev() {
+            // An expression that the source has as this argument, which needs no brackets (level 0), or else the literal or name that the call has.
             self.push(match called.given.get(place).copied().flatten() {
                 Some(node) => Task::Source(node, scope, 0),
                 None => Task::Operand(*operand, scope),
@@ -234,13 +239,14 @@ impl<'r, 's> Strip<'r, 's> {
         }
     }
 
-    /// Writes what an argument means in a scope: a value, a cell or void; or a variable, where the term itself binds it.
+    /// Writes what an argument means in a scope: a value, a cell, or void (a variable that will never get a value); or a variable, where the term
+    /// itself binds it.
     pub(crate) fn operand(&mut self, operand: Operand, scope: usize) {
         match operand {
             Operand::Name(name) if self.bound.contains(&name) => {
                 self.names.say_variable(&mut self.page, name);
             }
-            // A literal, or a name that the scope says.
+            // A literal, or a name of which the scope says what it means.
             _ => match self.replay.marked.param(operand, scope) {
                 Param::Is(value) => self.page.value(value),
                 Param::Cell(cell) => self.names.say_cell(&mut self.page, cell),

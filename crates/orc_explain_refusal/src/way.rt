@@ -21,7 +21,8 @@ pub(crate) struct Way {
     pub is_inner: bool,
 }
 
-// The number of the node of the side of which a `lost` or a `right` says that it has halted. None for other entries, or where there is no such side.
+// The number of the node of the side of which a `lost` or a `right` says that it has halted: the right side of a pruning, or the left side of an
+// otherwise. None for other entries, or where there is no such side.
 fn side_of(marked: &Marked, entry: &Entry) -> Option<usize> {
     let named = match entry {
         Entry::Lost(cell) => Named::Cell(*cell),
@@ -65,6 +66,7 @@ impl Way {
             Named::Call(call) => Some((" call %", call)),
             Named::Cell(_) | Named::Otherwise(_) | Named::Nothing => None,
         };
+        // The words behind the carets with their number, and the number of the node at which the way begins.
         let (label, place) = match (why, entry) {
             (RuleFault::Halted, Some(entry)) => (None, side_of(marked, entry)),
             _ if label.is_some() => (label, place_of(marked, named)),
@@ -96,12 +98,12 @@ impl Way {
                 return Ok(());
             };
             let parent = slot.node().parent as usize;
-            // Each parent is a node, so neither `else` is reached.
+            // Each parent is a node, so neither this `else` nor the one above is reached.
             let Some(above) = marked.nodes().get(parent) else {
                 return Ok(());
             };
             if !is_silent(marked, spent, above.node(), place) {
-                // The node above would be one level too many: what is shown ends below it.
+                // The node above would be one level too many: the way ends below it.
                 if levels == LEVELS {
                     self.is_inner = true;
                     return Ok(());
@@ -114,7 +116,7 @@ impl Way {
         Ok(())
     }
 
-    /// Whether a part is named, so that long parts beside the way are cut.
+    /// Whether a part is named, so that long parts beside the way from it upwards become `..`.
     pub(crate) fn is_short(&self) -> bool {
         !self.nodes.is_empty()
     }

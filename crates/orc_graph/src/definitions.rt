@@ -27,6 +27,7 @@ pub(crate) struct Definitions {
     bodies: Vec<Body>,
 }
 
+// Contracts see a list of definitions, each with its own list of parameters. The invariant says that each definition's range lies within `names`.
 impl Model for Definitions {
     ghost use Rattle.std.specs.Prelude.{List, map, length};
     ghost use Rattle.orc_rules.specs.Nodes.{Routine};
@@ -66,6 +67,7 @@ impl Definitions {
         ensures { OnOk result (self.new ≡ self.old ++ record { params = params.now; body = body } ∷ []) }
     {
         let node = short(body)?;
+        // The definition's parameters go behind those of all others; the range says where they stand.
         let params = place(&mut self.names, params)?;
         put(&mut self.bodies, Body { params, node })?;
         Ok(())
@@ -82,7 +84,8 @@ impl Definitions {
         })
     }
 
-    /// Whether the body of each definition is one of the first `nodes` nodes.
+    /// Whether the body of each definition is one of the first `nodes` nodes. `nodes` is how many nodes the graph has, so that each body is a node of
+    /// it.
     pub(crate) fn have_bodies(&self, nodes: usize) -> bool
         ensures { result ≡ true → AllByRecursion (HasBody nodes) self.now }
     {
@@ -101,7 +104,7 @@ impl Definitions {
         self.bodies.len()
     }
 
-    /// The node of the body of the definition with that number. None where there is no such definition.
+    /// The number of the node of the body of the definition with that number. None where there is no such definition.
     pub(crate) fn body(&self, number: usize) -> Option<u32>
         ensures { result ≡ option_map (λ r. r.body) (slice_get self.now number) }
     {
@@ -111,7 +114,7 @@ impl Definitions {
         }
     }
 
-    /// The parameters of the definition with that number, none where there is no such definition.
+    /// The parameters of the definition with that number, as numbers of names; none where there is no such definition.
     pub(crate) fn params(&self, number: usize) -> &[u32]
         ensures { result.now ≡ params_at self.now number }
     {

@@ -34,6 +34,8 @@ pub struct Graph {
     root: u32,
 }
 
+// Contracts see the same as of a program: nodes, lists, definitions (`routines`) and the main term's node. The invariant says that each node stands
+// behind its parts.
 impl Model for Graph {
     ghost use Rattle.std.specs.Prelude.{map};
     ghost use Rattle.orc_rules.specs.Nodes.{Listing, ArePartsFirst};
@@ -112,7 +114,7 @@ fn definitions_of(alloc: Global, program: &Program) -> Result<Definitions, Graph
     Ok(definitions)
 }
 
-// Values as the operands of a call; at most `MOST_ARGUMENTS` of them.
+// Values as the operands of a call. There have to be `MOST_ARGUMENTS` at most, since a call has no more.
 fn operands_of(values: &[Value]) -> Operands
     requires { length values.now ≤ MOST_ARGUMENTS }
     ensures { result ≡ map operand_is values.now }
@@ -240,7 +242,7 @@ impl Graph {
         self.node_or_stop(id)
     }
 
-    /// The operands of the list with that number, none where there is no such list.
+    /// The operands of the list with that number, `MOST_ARGUMENTS` at most; none where there is no such list.
     pub fn operands(&self, list: usize) -> &[Operand]
         ensures value { result.now ≡ slice_index_or self.now.lists list [] }
         ensures len { length result.now ≤ MOST_ARGUMENTS }
@@ -248,7 +250,7 @@ impl Graph {
         self.lists.get(list)
     }
 
-    /// The node of the main term.
+    /// The number of the node of the main term.
     pub fn root(&self) -> u32
         ensures { result ≡ self.now.root }
     {
@@ -262,7 +264,7 @@ impl Graph {
         self.definitions.len()
     }
 
-    /// The node of the body of the definition with that number. None where there is no such definition.
+    /// The number of the node of the body of the definition with that number. None where there is no such definition.
     pub fn body(&self, definition: usize) -> Option<u32>
         ensures { result ≡ option_map (λ r. r.body) (slice_get self.now.routines definition) }
     {

@@ -18,6 +18,7 @@ pub(crate) struct Lists {
     ranges: Vec<Range>,
 }
 
+// Contracts see a list of lists. The invariant says that each range lies within `operands`, and has `MOST_ARGUMENTS` items at most.
 impl Model for Lists {
     ghost use Rattle.std.specs.Prelude.{List, map, length};
     ghost use Rattle.orc_rules.specs.declared.param.Operand.{Operand as Argument};
@@ -79,7 +80,7 @@ impl Lists {
         Ok(())
     }
 
-    /// The list of that number, none where there is no such list.
+    /// The operands of the list with that number, `MOST_ARGUMENTS` at most; none where there is no such list.
     pub(crate) fn get(&self, number: usize) -> &[Operand]
         ensures value { result.now ≡ slice_index_or self.now number [] }
         ensures len { length result.now ≤ MOST_ARGUMENTS }

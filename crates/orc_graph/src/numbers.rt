@@ -77,7 +77,7 @@ pub(crate) fn place<T: Copy + Drop>(items: &mut Vec<T>, list: &[T]) -> Result<Ra
     }
 }
 
-/// The items in a range, which has to be within `items`.
+/// The items in a range. Its start isn't behind its end, and its end isn't behind that of `items`: so the slice is there.
 pub(crate) fn part<T: Copy>(items: &[T], range: Range) -> &[T]
     requires order { range.start ≤ range.end }
     requires within { range.end ≤ length items.now }

@@ -10,9 +10,11 @@ pub enum End {
     Halted,
     /// Nothing can happen any more, though the term has not halted.
     Quiet,
-    /// The journal has as many entries as the limit allows, cancels not counted, and the run is not quiet. Its term may have halted.
+    /// The journal has as many entries as the limit allows, its entries `cancel` not counted, and the run is not quiet. Its term may have
+    /// halted.
     Limit,
-    /// The run needs more tokens and calls, open groups or frames than `MOST_TOKENS`, `MOST_GROUPS` or `MOST_FRAMES` of `orc_rules::limits` allow.
+    /// The run needs more than a limit of `orc_rules::limits` allows: `MOST_TOKENS` tokens and pending calls, `MOST_GROUPS` open groups (the whole,
+    /// right sides of `<x<` and left sides of `;`), or `MOST_FRAMES` frames of a token (the left sides of `>x>` around it).
     Full,
     /// Memory was refused during the run; what it did before is a run all the same.
     Memory,
@@ -23,7 +25,7 @@ pub enum End {
 pub struct Summary {
     /// Why the run ended.
     pub end: End,
-    /// How many entries its journal has, cancels counted.
+    /// How many entries its journal has, its entries `cancel` counted.
     pub entries: u64,
     /// The time at its end, in units of logical time.
     pub now: u64,

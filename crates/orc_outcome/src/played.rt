@@ -10,7 +10,7 @@ pub struct Played {
     pub summary: Summary,
     /// The values that the run published, in order.
     pub published: Vec<Value>,
-    /// Its journal in the second version, the one that has cancels. None if it wasn't kept.
+    /// Its journal in the second version, the one that has an entry `cancel` for each call that is cancelled. None if it wasn't kept.
     pub journal: Option<Journal>,
 }
 
@@ -28,7 +28,8 @@ impl Drop for Played {
 /// Why a program was not run to an end.
 #[derive(Clone, Copy, PartialEq, Eq, Debug)]
 pub enum PlayFault {
-    /// Memory was refused before the run began, while the cancels of a bind were recorded, or while the engine searched for a run.
+    /// Memory was refused before the run began, while the cancels of a bind (of the calls that it dropped) were recorded, or while the engine
+    /// searched for a run.
     Memory,
     /// A mistake of the engine: the rules refused the entry that it chose, or it found no entry although the run is neither halted nor quiet.
     Broken,

@@ -14,8 +14,8 @@ pub enum Due {
     Never,
 }
 
-/// When a call that was made at `made_at` is answered, where the table finds `found`: after the delay, and never where that time would be over
-/// the greatest one, 2^64 - 1.
+/// When a call that was made at `made_at` is answered, where `found` is what the table of sites says of it, an answer with a delay or never: after
+/// the delay, and never where that time would be over the greatest one, 2^64 - 1.
 pub fn due_after(made_at: u64, found: Found) -> Due
     ensures { result ≡ due_from made_at found }
 {

@@ -9,17 +9,20 @@ use crate::gate::Gate;
 pub struct Open;
 
 impl Gate for Open {
+    // What a caller may know of this gate: that it holds nobody.
     ghost holds_nobody = { λ _. Unit {0} };
 
     // Returns at once.
     fn pass(&self, _number: u64) {}
 
+    // False: `pass` returns at once.
     fn may_wait(&self) -> bool
         ensures { result ≡ false }
     {
         false
     }
 
+    // True: a caller need not pass this gate.
     fn is_open(&self) -> bool
         ensures { result ≡ true }
     {

@@ -17,6 +17,7 @@ pub struct Request {
     pub nth: u64,
     /// The logical time at which the call was made.
     pub made_at: u64,
+    // For the prover: `nth` counts from 1.
     pub ghost from_one: { 1 ≤ nth },
 }
 

@@ -27,8 +27,10 @@ impl<'a> Scripted<'a> {
 impl<'a> Sites for Scripted<'a> {
     type Call = SiteCall<'a>;
 
+    // What a caller may know of these sites: that they go by the table.
     ghost by_table = { λ _. Unit {0} };
 
+    // Begins a call, which is due when the table says. It needs no memory, so there is no error.
     fn call(&self, request: &Request) -> Result<SiteCall<'a>, AllocError>
         ensures { IfOk result (λ call. (call.answers.now ≡ self.now.answers.now) × (call.request ≡ request.now) × (call.moment ≡ request.now.made_at)) }
     {
@@ -38,6 +40,7 @@ impl<'a> Sites for Scripted<'a> {
     // Nothing is kept of a call outside its own future, so there is nothing to undo.
     fn cancel(&self, _number: u64) {}
 
+    // False: no call, poll or cancel of these sites waits for another thread.
     fn may_wait(&self) -> bool
         ensures { result ≡ false }
     {

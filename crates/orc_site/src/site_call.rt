@@ -69,7 +69,7 @@ impl<'a> SiteCall<'a> {
     }
 }
 
-// The answer in what the table has found for a call. Nobody asks it of a call that is never answered; that would be halt.
+// The answer in what the table has found for a call. For a call that is never answered it is halt, but nobody asks for that.
 fn reply(found: Found) -> Answer
     ensures { result ≡ answer_of found }
 {
@@ -85,7 +85,7 @@ impl SiteCall<'_> {
     ghost use Rattle.orc_site.specs.Call.{IsExact, IsSameCall};
     ghost use Rattle.orc_site.specs.declared.site_call.State.TheVariants.{Fresh as StateFresh};
 
-    // What the table says of this call: its answer and the delay, or never.
+    // What the table of sites says of this call: its answer and the delay, or never.
     fn find(&self) -> Found
         ensures { result ≡ found self.now.answers.now self.now.request }
     {
@@ -93,7 +93,7 @@ impl SiteCall<'_> {
             .find(self.request.site, &self.request.args, self.request.nth)
     }
 
-    // Asks the table when the call is due, and keeps that as the state.
+    // Asks the table when the call is due, and keeps that as the state, which isn't `Fresh` then. Table, request, source and moment stay.
     fn begin(&mut self)
         ensures same { IsSameCall self.old self.new × (self.new.moment ≡ self.old.moment) }
         ensures begun { ¬ (self.new.state ≡ StateFresh) }
@@ -104,7 +104,8 @@ impl SiteCall<'_> {
         };
     }
 
-    // Answers from the due time on. Before it the task leaves its waker, to be woken when that time comes. `begin` has come first.
+    // Ready with the table's answer from the due time on. Before it the task leaves its waker, to be woken when that time comes. `begin` has come
+    // first, so the state isn't `Fresh`. Table, request, source and moment stay, and so does what the context noted before.
     fn advance(&mut self, cx: &mut Context<'_>) -> Poll<Answer>
         requires { ¬ (self.old.state ≡ StateFresh) }
         ensures same { IsSameCall self.old self.new × (self.new.moment ≡ self.old.moment) }
@@ -135,12 +136,13 @@ impl Future for SiteCall<'_> {
 
     type Output = Answer;
 
+    // For the prover: a pending poll needs that the call's own source wakes the task, and a ready one gives the table's answer to a call that is due.
     ghost needs = { λ call source. source ≡ call.source.id };
 
     ghost gives = { IsReply };
 
     /// Ready exactly where the due time isn't later than the greatest moment that was handed in, with the table's answer, and again so at each later
-    /// poll. Where it pends it has registered, to be woken when that time comes.
+    /// poll. Where it pends it has registered, to be woken when that time comes, and it may be polled again. Table, request, source and moment stay.
     fn poll(&mut self, cx: &mut Context<'_>) -> Poll<Answer>
         ensures value { IfReady result (IsReply self.old) }
         ensures again { OnPending result ⊤ }
@@ -161,6 +163,8 @@ impl SiteFuture for SiteCall<'_> {
     ghost use Rattle.std.specs.Prelude.{max};
     ghost use Rattle.orc_site.specs.Call.{due_of, IsSameCall};
 
+    // What the trait asks, for the prover: the moment, the due time, that the call may be polled at any time, and that it answers only once it is
+    // due.
     ghost moment = { λ call. call.moment };
 
     ghost when = { due_of };
@@ -169,7 +173,7 @@ impl SiteFuture for SiteCall<'_> {
 
     ghost early = { λ call answer is. is.0 };
 
-    // If `now` is the due time or later, the waker is dropped, which wakes its task.
+    // Takes `now` as the moment if it is later than all before. If the due time has come then, the waker is dropped, which wakes its task.
     fn at(&mut self, now: u64)
         ensures moment { self.new.moment ≡ max self.old.moment now }
         ensures when { due_of self.new ≡ due_of self.old }
@@ -184,6 +188,7 @@ impl SiteFuture for SiteCall<'_> {
         self.moment = moment;
     }
 
+    // The due time by the table, counted from the time at which the call was made.
     fn due(&self) -> Due {
         due_after(self.request.made_at, self.find())
     }

@@ -16,8 +16,10 @@ const LOOKS: u64 = 2_000_000_000;
 pub struct Slow;
 
 impl Gate for Slow {
+    // Returns at once: the gate holds no call.
     fn pass(&self, _number: u64) {}
 
+    // False: then `run_pool` passes the gate with each call.
     fn is_open(&self) -> bool {
         false
     }
@@ -51,6 +53,7 @@ impl Turnstile {
 }
 
 impl Gate for Turnstile {
+    // Counts the call, and returns once `wanted` calls have come, or gives up after `LOOKS` looks at how many have.
     fn pass(&self, _number: u64) {
         self.entered.fetch_add(1, Ordering::SeqCst);
         for _ in 0..LOOKS {
@@ -96,6 +99,7 @@ impl<'a, R: Clock> Sleepy<'a, R> {
 impl<'a, R: Clock> Sites for Sleepy<'a, R> {
     type Call = SiteCall<'a>;
 
+    // Begins a call as the table answers it. The worker's thread sleeps first, if the site is `Ask`.
     fn call(&self, request: &Request) -> Result<SiteCall<'a>, AllocError> {
         if self.site == Some(request.site) {
             thread::sleep(self.rt, Duration::from_micros(self.sleep));
@@ -106,6 +110,7 @@ impl<'a, R: Clock> Sites for Sleepy<'a, R> {
     // A call that is cancelled has nothing to stop: it has slept already, or will.
     fn cancel(&self, _number: u64) {}
 
+    // False: then `run_pool` makes each call by these sites.
     fn goes_by_table(&self) -> bool {
         false
     }

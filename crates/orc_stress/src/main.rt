@@ -227,6 +227,7 @@ fn number_of(words: &[String], place: usize, otherwise: u32) -> u32 {
     }
 }
 
+// Does what the words of the command line say, and gives status 0, or `UNKNOWN` if the first word is no program's name and no number.
 fn main(rt: HostRuntime) -> io::Result<ExitCode> {
     let alloc = rt.alloc();
     let words = env::args(&rt)?.collect::<Vec<String>>(alloc)?;

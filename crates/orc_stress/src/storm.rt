@@ -89,9 +89,9 @@ pub const STORMS: [Storm; 8] = [
         published: 1,
         values: &[1, 2],
     },
-    // More races one after another, 2,100, than the engine has words for groups, 2,048. A bind kills the group of the side that it drops, and that
-    // group's word has to become free again. The last loop publishes 700. The races are in three loops, since the term may get deeper with each round
-    // of a loop, and the check takes 10,000 levels.
+    // More races one after another, 2,100, than the engine has words for groups, 2,048. A group is what runs in one branch, here in the right side of
+    // a `<x<`. A bind kills the group of the side that it drops, and that group's word has to become free again. The last loop publishes 700. The
+    // races are in three loops, since the term may get deeper with each round of a loop, and the check takes 10,000 levels.
     Storm {
         name: "kills",
         source: b"def loop(n) = Lt(n, 700) >b> (Iff(b) >> n | Ift(b) >> (x <x< (n | Never() | Rwait(5))) >> Add(n, 1) >m> loop(m))\nloop(0) >> loop(0) >> loop(0)",
@@ -132,7 +132,7 @@ pub const NAP: Storm = Storm {
 pub const ALONE: [Storm; 3] = [DUE, ASKS, NAP];
 
 impl Storm {
-    /// A program that makes `workers` calls in parallel, one for each worker, and publishes their answers.
+    /// A program (`source`) that makes `workers` calls in parallel, one for each worker, and publishes their answers.
     pub fn held(source: &'static [u8], workers: usize) -> Storm {
         Storm {
             name: "held",
@@ -176,7 +176,7 @@ impl Storm {
 }
 
 /// Runs a program on `workers` workers with these sites and this gate, and keeps the journal. The limit of 100,000 entries is more than any storm
-/// has.
+/// has. The error is the engine's fault.
 pub fn run<R, S, G>(
     rt: &R,
     alloc: Global,

@@ -3,8 +3,9 @@
 ghost use Rattle.std.specs.Prelude.{◌≡◌, ◌+◌, IfSome};
 ghost use Rattle.orc_subrun.specs.Moved.{cell_in, mark_in};
 
-/// How a part's own run is numbered in the enclosing run. The part's mark 1 is that of the token which stood there; its marks from 2 on are that
-/// run's next marks; its calls and cells are counted on behind those that were made and opened there.
+/// How a part's own run is numbered in the enclosing run; a *part* is a call of a definition that is run by itself. The part's mark 1 is that of the
+/// token which stood there; its marks from 2 on are the enclosing run's next marks; its calls and cells are counted on behind those that the
+/// enclosing run made and opened.
 #[derive(Clone, Copy)]
 pub struct Numbering {
     /// The mark of the token that stood where the part is.
@@ -18,7 +19,7 @@ pub struct Numbering {
 }
 
 impl Numbering {
-    /// The mark in the enclosing run for the part's own one. None if `mark + own` doesn't fit 64 bits or is under 2.
+    /// The mark in the enclosing run for the mark `own` of the part, counted from 1. None if `mark + own` doesn't fit 64 bits or is under 2.
     #[inline(always)]
     pub fn mark_of(&self, own: u64) -> Option<u64>
         ensures { IfSome result (λ mark. mark ≡ mark_in self.now own) }
@@ -31,7 +32,7 @@ impl Numbering {
         sum.checked_sub(2)
     }
 
-    /// The number in the enclosing run for the part's own call, both from 1. None if it doesn't fit 64 bits.
+    /// The number in the enclosing run for the part's call `own`, both from 1. None if it doesn't fit 64 bits.
     #[inline(always)]
     pub fn call_of(&self, own: u64) -> Option<u64>
         ensures { IfSome result (λ call. call ≡ self.now.calls + own) }
@@ -39,7 +40,7 @@ impl Numbering {
         self.calls.checked_add(own)
     }
 
-    /// The number in the enclosing run for the part's own cell, both from 1. None if it doesn't fit 64 bits.
+    /// The number in the enclosing run for the part's cell `own`, both from 1. None if it doesn't fit 64 bits.
     #[inline(always)]
     pub fn cell_of(&self, own: u64) -> Option<u64>
         ensures { IfSome result (λ cell. cell ≡ cell_in self.now own) }

@@ -10,11 +10,12 @@ use orc_rules::value::Value;
 /// A node without parts. Each but `Gone` is a part of the term: a `stop` without a token, a token, or a pending call.
 #[derive(Clone, Copy)]
 pub enum Tip {
-    /// No part of the term: the node was dropped with a side. Its number stays its own.
+    /// No part of the term: the node was dropped with a side, as with the right side of a `<x<` that has published. No other node gets its number.
     Gone,
     /// A `stop` without a token: a token has ended here, or a call has halted.
     Ended,
-    /// A token: its mark, the node of the program on which it stands, and the scope that says what the names mean there.
+    /// A token: its mark (the number by which entries name it), the node of the program on which it stands, and the scope that says what the names
+    /// mean there.
     Token(u64, u32, u32),
     /// A token that bears the answer of a call: its mark, and the value.
     Bears(u64, Value),
@@ -30,7 +31,8 @@ pub enum Single {
     /// `f ; g`, whose part f was entered and hasn't published: the mark of the token that entered it, which is the otherwise's number, the node of
     /// the program for g, and g's scope.
     Entered(u32, u32, u32),
-    /// A node that means just its part: an otherwise whose left side has published, a pruning whose cell is bound or lost, or node 0.
+    /// A node that means just its part: an otherwise whose left side has published, a pruning whose right side has published or halted (its cell is
+    /// bound or lost), or node 0.
     Passed,
 }
 

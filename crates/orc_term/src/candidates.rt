@@ -1,5 +1,5 @@
-//! The sides that may have halted. A *side* is the right side of an opened pruning, or the left side of an entered otherwise: once it has halted a
-//! `lost` or a `right` ends it.
+//! The sides that may have halted. A *side* is the right side of an opened pruning (`<x<`), or the left side of an entered otherwise (`;`): once it
+//! has halted, an entry `lost` or `right` of the journal ends it.
 
 ghost use Rattle.std.specs.Prelude.{◌≡◌, ◌∷◌, ℕ, false, [], IfOk, Some, slice_get};
 ghost use Rattle.orc_term.specs.Sides.{MayBe, AreKnown, is_side, is_side_at, has_ended, is_set, HasEnded};
@@ -10,16 +10,17 @@ use std::alloc::{AllocError, Global};
 use std::collections::VecDeque;
 use std::marker::Model;
 
-/// The nodes of all sides that have halted, and some other nodes. The question for a halted side looks at these alone. If memory for one was
-/// refused, all nodes are candidates from then on.
+/// The nodes among which a side that has halted is looked for: those of all such sides, and some other nodes. If memory for one was refused, all
+/// nodes are candidates from then on.
 #[derive(Drop)]
 pub struct Candidates {
-    /// In the order in which they were added.
+    /// The numbers of the nodes, in the order in which they were added.
     places: VecDeque<u32>,
     /// Whether memory for a place was refused. Then all nodes are candidates, whatever `places` has.
     all: bool,
 }
 
+// Contracts see the flag `all`, and the list of places as `listed`.
 impl Model for Candidates {
     ghost use Rattle.orc_term.specs.Sides.{Places};
 
@@ -39,7 +40,7 @@ pub fn is_side(kind: Kind, part: usize) -> bool
     }
 }
 
-/// Whether the node at a place is a side of its parent.
+/// Whether the node with the number `place` is a side of its parent: the right side of an opened pruning, or the left side of an entered otherwise.
 pub(crate) fn is_side_at(nodes: &Nodes, place: usize) -> bool
     ensures { result ≡ is_side_at nodes.now.items place }
 {
@@ -57,7 +58,7 @@ fn is_set(flags: &Vec<bool>, place: usize) -> bool
     }
 }
 
-/// Whether the node at a place is a side, and has halted by its flag.
+/// Whether the node with the number `place` is a side, and has halted by its flag.
 fn has_ended(nodes: &Nodes, flags: &Vec<bool>, place: usize) -> bool
     ensures { result ≡ has_ended nodes.now.items flags.now.items place }
 {
@@ -77,7 +78,7 @@ fn any_ended(nodes: &Nodes, flags: &Vec<bool>) -> Option<usize>
 }
 
 impl Candidates {
-    /// No places.
+    /// No candidates.
     pub fn new(alloc: Global) -> Candidates
         ensures { result ≡ record { all = false; listed = [] } }
     {
@@ -98,7 +99,8 @@ impl Candidates {
         })
     }
 
-    /// Adds a node that may be a side which has halted. If memory for it is refused, all nodes are candidates from then on.
+    /// Adds a node that may be a side which has halted. If memory for it is refused, all nodes are candidates from then on. The clauses say that the
+    /// node is a candidate now (`MayBe`), and that each earlier candidate still is one.
     pub fn add(&mut self, place: u32)
         ensures added { MayBe self.new place }
         ensures kept { (p : ℕ) → MayBe self.old p → MayBe self.new p }
@@ -136,13 +138,15 @@ impl Candidates {
     }
 }
 
-/// The node of a side that has halted, and None if there is none: of several the one that was added first, or the least where all are candidates. All
-/// sides that have halted have to be candidates. Candidates before the one that is given are taken out; that one stays a candidate.
+/// The node of a side that has halted, and None if there is none: of several the one that was added first, or, where all nodes are candidates, the
+/// one with the least number. `flags` says of each node whether it has halted. All sides that have halted have to be candidates (`AreKnown`), and
+/// still are so afterwards. Candidates that were added before the one that is given are taken out; that one stays a candidate.
 pub fn ended_side(nodes: &Nodes, flags: &Vec<bool>, candidates: &mut Candidates) -> Option<usize>
     requires { AreKnown nodes.now.items flags.now.items candidates.old }
     ensures ends { HasEnded nodes.now.items flags.now.items result }
     ensures known { AreKnown nodes.now.items flags.now.items candidates.new }
 {
+    // Memory for a candidate was refused once, so all nodes are looked at.
     if candidates.are_all() {
         return any_ended(nodes, flags);
     }

@@ -22,7 +22,7 @@ pub fn flag_at(flags: &Vec<bool>, i: usize) -> bool
     }
 }
 
-/// Writes the flag of node `i`. Where there is no such node nothing changes.
+/// Writes the flag of node `i`. Where there is no such node nothing changes. The room that the list has reserved stays.
 #[inline(always)]
 pub fn write_flag(flags: &mut Vec<bool>, i: usize, flag: bool)
     ensures items { flags.new.items ≡ slice_set flags.old.items i flag }
@@ -75,8 +75,8 @@ fn halts_next(nodes: &Nodes, flags: &Vec<bool>, place: u32) -> Option<u32>
     }
 }
 
-/// Adds the flag of the new node with the number `place`. If it is set, the node becomes a candidate: a side that may have halted. There is room for
-/// the flag.
+/// Adds the flag of the new node with the number `place` at the end, for which room has to be reserved. If the flag is set, the node becomes a
+/// candidate: a node that may be a side which has halted. Candidates stay so.
 #[inline(always)]
 pub fn push_flag(flags: &mut Vec<bool>, candidates: &mut Candidates, place: u32, flag: bool)
     requires { vec_len flags.old < vec_capacity flags.old }
@@ -91,7 +91,8 @@ pub fn push_flag(flags: &mut Vec<bool>, candidates: &mut Candidates, place: u32,
     }
 }
 
-/// Sets the flag of the node at `place`, which has halted. If it is a side, it becomes a candidate.
+/// Sets the flag of the node with the number `place`, which has halted. If the node is a side (the right side of an opened pruning or the left side
+/// of an entered otherwise), it becomes a candidate: the search for halted sides looks at it.
 fn set_flag(nodes: &Nodes, flags: &mut Vec<bool>, candidates: &mut Candidates, place: u32)
     ensures items { flags.new.items ≡ slice_set flags.old.items place true }
     ensures capacity { vec_capacity flags.new ≡ vec_capacity flags.old }
@@ -104,8 +105,9 @@ fn set_flag(nodes: &Nodes, flags: &mut Vec<bool>, candidates: &mut Candidates, p
     }
 }
 
-/// If `halted` is true, sets the flag of node `from`, which hadn't halted, and of each node above it that halts with it. Sides among them become
-/// candidates. Otherwise nothing changes.
+/// If `halted` is true, sets the flag of node `from`, which hadn't halted, and of each node above it that halts with it, so that the flags of the
+/// whole term are right again (`Settles`). Sides among these nodes become candidates: the search for halted sides looks at them. If `halted` is
+/// false, nothing changes.
 #[inline(always)]
 pub fn settle(
     nodes: &Nodes,

@@ -28,7 +28,8 @@ pub struct Nodes {
     ranks: Ranks,
 }
 
-// Contracts see the nodes, and `room`: how many more `push_within` can add.
+// Contracts see the nodes, and `room`: how many more `push_within` can add. The invariant says that hints, list and ranks are as the fields' comments
+// say.
 
 impl Model for Nodes {
     ghost use Rattle.std.specs.Prelude.{◌-◌, ◌^◌, min, vec_len, vec_capacity};
@@ -95,7 +96,8 @@ fn is_restless(kind: Kind) -> bool
     }
 }
 
-// Takes out of a list of node numbers those whose nodes have no token any more. The list loses its order.
+// Takes out of a list of node numbers those whose nodes have no token any more. If all nodes with a token were in the list, they still are. The list
+// loses its order.
 fn keep_restless(items: &Vec<Slot>, list: &mut Vec<u32>)
     ensures { AreListed items.now.items list.old.items → AreListed items.now.items list.new.items }
 {
@@ -117,6 +119,7 @@ fn reserve_listed(items: &Vec<Slot>, list: &mut Vec<u32>) -> Result<(), AllocErr
     ensures listed { AreListed items.now.items list.old.items → AreListed items.now.items list.new.items }
     ensures room { IfOk result (λ _. vec_len list.new + 2 ≤ vec_capacity list.new) }
 {
+    // Two more fit already.
     if list.capacity() - list.len() >= 2 {
         return Ok(());
     }
@@ -151,7 +154,7 @@ fn stored_hint(hints: &Vec<u32>, i: u32) -> u32
     }
 }
 
-// Writes the hint of node `i`. Where there is no such node nothing changes.
+// Writes the hint of node `i`: the number of that node itself or of one above it. Where there is no such node nothing changes.
 fn set_hint(hints: &mut Vec<u32>, i: u32, hint: u32)
     ensures items { hints.new.items ≡ slice_set hints.old.items i hint }
     ensures len { vec_len hints.new ≡ vec_len hints.old }
@@ -229,7 +232,7 @@ impl Nodes {
         *self.items.allocator()
     }
 
-    /// How many nodes there are.
+    /// How many nodes there are, with those that are gone: fewer than 2^63.
     pub fn len(&self) -> usize
         ensures count { result ≡ length self.now.items }
         ensures fits { result < 2 ^ 63 }
@@ -237,7 +240,7 @@ impl Nodes {
         self.items.len()
     }
 
-    /// The number of the next node. It and the one after it have 32 bits, since there is room for two.
+    /// The number that the next node gets. Room for two nodes has to be reserved, so this number and the one after it fit 32 bits.
     pub fn next_number(&self) -> u32
         requires { 2 ≤ self.now.room }
         ensures count { result ≡ length self.now.items }
@@ -246,7 +249,7 @@ impl Nodes {
         self.items.len() as u32
     }
 
-    /// The nodes in the order of their numbers.
+    /// The nodes in the order of their numbers, with those that are gone.
     pub fn items(&self) -> &[Slot]
         ensures { result.now ≡ self.now.items }
     {
@@ -298,7 +301,8 @@ impl Nodes {
         &self.restless
     }
 
-    /// A bound on how many nodes are one below another under node 0. None if memory or a rank was refused, until the ranks are renewed.
+    /// A bound on how many nodes are one below another under node 0: the greatest rank, since each node has a greater rank than its parent. None if
+    /// memory or a rank was refused, until the ranks are renewed.
     pub fn levels_below(&self) -> Option<usize>
         ensures { IfSome result (AreLevelsAtMost self.now.items) }
     {
@@ -309,8 +313,8 @@ impl Nodes {
         }
     }
 
-    /// Looks at all nodes to give them the least ranks, so that `levels_below` is as small as ranks can make it; None if memory is
-    /// refused. The nodes stay.
+    /// Looks at all nodes to give them the least ranks (numbers that grow downwards), so that `levels_below` is as small as ranks can make it. If
+    /// memory is refused, `levels_below` is None. The nodes stay.
     pub fn renew_ranks(&mut self)
         ensures { self.new ≡ self.old }
     {
@@ -329,6 +333,7 @@ impl Nodes {
         ensures items { self.new.items ≡ self.old.items }
         ensures room { IfOk result (λ _. 2 ≤ self.new.room) }
     {
+        // The numbers of both new nodes have to fit 32 bits.
         fits(self.items.len() + 2)?;
         self.items.try_reserve(2)?;
         self.hints.try_reserve(2)?;
@@ -336,7 +341,8 @@ impl Nodes {
         Ok(())
     }
 
-    /// Adds a node, with the number `next_number`. Refused memory for its rank is no error: then `levels_below` is None until `renew_ranks`.
+    /// Adds a node at the end, with the number `next_number`. Room for it has to be reserved, and is used up. Refused memory for its rank is no
+    /// error: then `levels_below` is None until `renew_ranks`.
     #[inline(always)]
     pub fn push_within(&mut self, node: Node)
         requires { 1 ≤ self.old.room }
@@ -347,6 +353,7 @@ impl Nodes {
         let hint = hint_below(&self.items, &self.hints, number, node.parent);
         // The rank comes first: `add` asks for the nodes without the new one.
         self.ranks.add(&self.items, node);
+        // Each of these calls is of the function in `room.rt` that adds an item to one list.
         push_within(&mut self.items, Slot::new(node));
         push_within(&mut self.hints, hint);
         // Whether the node has a token isn't asked here: nodes without one are taken out later.
@@ -380,8 +387,9 @@ impl Nodes {
         push_within(&mut self.restless, i);
     }
 
-    /// Puts the `|` of number `both`, whose left part is node `i` and whose parent is that of node `i`, in the place of node `i`, and node `i` with
-    /// all that is below it under the `|`. No hint changes, since a `|` lets everything through.
+    /// Puts the `|` with the number `both` in the place of node `i`, and node `i` with all that is below it under the `|`. The `|` is newer than node
+    /// `i`, has node `i` as its left part and the next node, `both` + 1, as its right part, and has the same parent as node `i`. No hint changes,
+    /// since a `|` lets everything through.
     #[inline(always)]
     pub fn lift(&mut self, i: u32, both: u32)
         requires { IsBeside self.old.items i both }

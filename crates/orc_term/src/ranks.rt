@@ -20,15 +20,16 @@ pub struct Ranks {
     pub numbers: Vec<u32>,
     /// At least as great as every rank.
     pub most: u32,
-    /// False once memory or a rank of over 32 bits was refused, or a test of `add`, `write` or `lift` failed. Then nothing is known of the ranks until
-    /// `renew`.
+    /// False once memory or a rank of over 32 bits was refused, or a test of `add`, `write` or `lift` failed. Then nothing is known of the ranks
+    /// until `renew`.
     pub are_kept: bool,
 }
 
-// How many numbers are left free above a node that comes below another, so that the first `|` that a send puts there costs nothing.
+// How many ranks are left free above a node that comes below another. A `send`, by which a value enters a `>x>`, puts a `|` there: the first such `|`
+// takes the free rank, and no other rank has to grow.
 const FREE: u32 = 1;
 
-// The most `|` above a node that are counted: no checked term has more levels.
+// The most `|` above a node that `queue_above` counts: no checked term has more levels.
 const LONGEST_QUEUE: u32 = MOST_LEVELS as u32;
 
 // How much greater a new node's rank is than that of the node above it. The only new node with two parts is the `|` of a send, which takes the free
@@ -143,12 +144,12 @@ fn queue_above(items: &Vec<Slot>, at: usize) -> u32 {
     LONGEST_QUEUE
 }
 
-// A gap to leave while ranks grow.
+// Which free ranks are left while ranks grow: some right above one node, for the `|` that later sends put there.
 #[derive(Clone, Copy)]
 struct Gap {
-    // The node above which the gap is left.
+    // The number of the node right above which they are left.
     below: usize,
-    // By how much its rank is to exceed that of the node above it.
+    // By how much this node's rank is to exceed that of the node above it.
     step: u32,
 }
 
@@ -165,8 +166,8 @@ fn step_to(part: usize, gap: Gap) -> u32
     }
 }
 
-// Adds rank 0 for each of `len` nodes, and the numbers of all nodes to the list `late` of those whose parts may need greater ranks. Node 0 is added
-// once more as the last one, which is settled first. The error is refused memory.
+// Adds rank 0 for each of `len` nodes to `numbers`, which is empty before, and the numbers of all nodes to `late`, the list of the nodes whose parts
+// may need greater ranks. Node 0 is added once more as the last one, since `settle` begins with the last. The error is refused memory.
 fn push_all(numbers: &mut Vec<u32>, late: &mut Vec<usize>, len: usize) -> Result<(), AllocError>
     ensures len { IfOk result (λ _. numbers.old.items ≡ [] → length numbers.new.items ≡ len) }
     ensures none { IfOk result (λ _. numbers.old.items ≡ [] → (i : ℕ) → rank numbers.new.items i ≡ 0) }
@@ -204,8 +205,8 @@ impl Ranks {
         })
     }
 
-    /// Ranks a node that is added behind the others. Ranks aren't kept from then on if memory or a rank is refused, or if a part of the node doesn't
-    /// stand apart (`stands_apart`).
+    /// Gives a rank to `node`, which the caller adds behind the others (`items`) right afterwards. The ranks aren't kept from then on (nothing is
+    /// known of them) if memory or a rank is refused, or if a part of the node is that node itself or names it as its parent already.
     #[inline(always)]
     pub fn add(&mut self, items: &Vec<Slot>, node: Node)
         ensures { AreKept items.now.items self.old → AreKept (items.now.items ++ node ∷ []) self.new }
@@ -231,7 +232,7 @@ impl Ranks {
     }
 
     /// Node `i` is about to become `node`, below the same parent. No rank changes. If a part of `node` doesn't have a greater rank than node `i`, the
-    /// ranks aren't kept any longer.
+    /// ranks aren't kept any longer: nothing is known of them until `renew`.
     #[inline(always)]
     pub fn write(&mut self, items: &Vec<Slot>, i: usize, node: Node)
         ensures { ((x : NodeOf) → slice_get items.now.items i ≡ Some x → Follows x node) → AreKept items.now.items self.old → AreKept (slice_set items.now.items i node) self.new }
@@ -241,8 +242,9 @@ impl Ranks {
         }
     }
 
-    /// Node `i` went below node `both`, which took its place below `parent`. Ranks below `both` grow if there was no free one for it. They aren't
-    /// kept any longer if memory or a rank is refused, or if the rank of `both` isn't greater than that of `parent`.
+    /// Node `i` went below node `both`, a `|` that took its place below `parent`. Ranks below `both` grow if there was no free one for `both`. The
+    /// ranks aren't kept any longer (nothing is known of them) if memory or a rank is refused, or if the rank of `both` isn't greater than that of
+    /// `parent`.
     #[inline(always)]
     pub fn lift(&mut self, items: &Vec<Slot>, i: usize, both: usize, parent: usize)
         ensures { (nodes : List NodeOf) → parent ≡ NodeOf.parent (slice_index_or nodes i nowhere) → items.now.items ≡ lifted nodes i both → AreKept nodes self.old → AreKept items.now.items self.new }
@@ -269,19 +271,22 @@ impl Ranks {
         ensures { AreRankedBut items.now.items self.old.numbers.items self.old.most (both ∷ []) → AreKept items.now.items self.new }
     {
         self.are_kept = false;
+        // The nodes whose parts may need greater ranks: at first `both` alone.
         let mut late = Vec::new(*self.numbers.allocator());
         if late.push(both).is_ok() {
             let gap = Gap {
                 below: i,
-                // One more for `both`, and one since a step leaves one rank less free than it is long.
+                // `queue_above` counts the `|` above `both`. One more is for `both` itself, and one since a step leaves one rank less free than it is
+                // long.
                 step: queue_above(items, both).saturating_add(2),
             };
             self.are_kept = self.settle(items, late, gap);
         }
     }
 
-    // Makes the rank of a part greater than that of node `above`. If it has to grow, the part is put on the list `late`, of the nodes whose parts may
-    // need greater ranks. False if memory or a rank is refused, or if node `above` is a part of itself, for which no rank would do.
+    // Makes the rank of `part` greater than that of node `above`: by the gap's step if the part is the gap's node, and else by 1. If the rank has to
+    // grow, the part is put on the list `late`, of the nodes whose parts may need greater ranks. False if memory or a rank is refused, or if node
+    // `above` is a part of itself, for which no rank would do.
     #[inline(always)]
     fn settle_part(
         &mut self,
@@ -316,8 +321,9 @@ impl Ranks {
         true
     }
 
-    // Makes the ranks of all parts of node `above`, which has this kind, greater than its own. Parts whose ranks grow are put on the list `late`.
-    // False if memory or a rank is refused, or if the node is a part of itself.
+    // Makes the ranks of all parts of node `above`, which has this kind, greater than that of node `above`. Parts whose ranks grow are put on the
+    // list `late`, of the nodes whose parts may need greater ranks; `gap` says above which node ranks are left free. False if memory or a rank is
+    // refused, or if the node is a part of itself.
     #[inline(always)]
     fn settle_parts(
         &mut self,
@@ -339,8 +345,8 @@ impl Ranks {
         }
     }
 
-    // Makes the ranks of the parts of all nodes on the list `late` greater than theirs, the last node first, and so for the parts that this adds to
-    // the list. False if memory or a rank is refused, or if the nodes are no tree.
+    // Makes the ranks of the parts of all nodes on the list `late` greater than the ranks of these nodes, the last node first, and so for the parts
+    // that this adds to the list. `gap` says above which node ranks are left free. False if memory or a rank is refused, or if the nodes are no tree.
     fn settle(&mut self, items: &Vec<Slot>, late: Vec<usize>, gap: Gap) -> bool
         ensures { result ≡ true → AreRankedBut items.now.items self.old.numbers.items self.old.most late.items → AreRankedBut items.now.items self.new.numbers.items self.new.most [] }
     {
@@ -356,6 +362,7 @@ impl Ranks {
                 return false;
             }
         }
+        // The turns weren't enough, so the nodes are no tree.
         false
     }
 

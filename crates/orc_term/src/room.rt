@@ -14,8 +14,8 @@ pub fn push_within<T: Drop>(items: &mut Vec<T>, item: T)
     items.push_reserved(item);
 }
 
-/// Reserves memory for two more nodes with their flags and two more marks, the most that one entry adds. The error is refused memory, or a node's
-/// number of over 32 bits. What the lists have stays.
+/// Reserves memory for two more nodes with their flags and two more marks, the most that one entry adds. `flags` says of each node whether it has
+/// halted, and `marks` has the node of each mark. The error is refused memory, or a node's number of over 32 bits. What the lists have stays.
 pub fn reserve(
     nodes: &mut Nodes,
     flags: &mut Vec<bool>,
@@ -43,7 +43,8 @@ pub fn fits(number: usize) -> Result<(), AllocError>
 }
 
 /// Reserves memory for two more nodes with their flags and two more marks, for an entry whose new nodes keep `first` and `second`, numbers of nodes
-/// of the program. The error is refused memory, or a number of over 32 bits.
+/// of the program. `flags` says of each node whether it has halted, and `marks` has the node of each mark. The error is refused memory, or a number
+/// of over 32 bits. What the lists have stays.
 pub fn reserve_numbered(
     nodes: &mut Nodes,
     flags: &mut Vec<bool>,

@@ -23,7 +23,7 @@ fn push_parts(found: &mut Vec<u32>, kind: Kind) -> Result<(), AllocError>
     Ok(())
 }
 
-/// The numbers of the nodes of the part at `root`: that node, and then those below it. The error is refused memory.
+/// The numbers of the nodes of the part of the term at node `root`: that node, and then those below it. The error is refused memory.
 pub fn nodes_of(alloc: Global, nodes: &Nodes, root: u32) -> Result<Vec<u32>, AllocError>
     ensures { IfOk result (λ found. AreNodesOf nodes.now.items root found.items) }
 {
@@ -31,13 +31,14 @@ pub fn nodes_of(alloc: Global, nodes: &Nodes, root: u32) -> Result<Vec<u32>, All
     found.push(root)?;
     // The list grows in the loop: each of its nodes adds its parts.
     for next in 0..nodes.len() {
+        // Each node that was found has added its parts: no more are to come.
         if next == found.len() {
             return Ok(found);
         }
         let node = nodes.node_at(found[next] as usize);
         push_parts(&mut found, node.kind)?;
     }
-    // A side has each node at most once, and never node 0, so that the loop has returned before.
+    // Not reached: a part of the term has each node at most once, and never node 0, so the loop has returned before.
     Err(AllocError)
 }
 
@@ -73,7 +74,7 @@ pub fn falling_calls(alloc: Global, nodes: &Nodes, side: &Vec<u32>) -> Result<Ve
     Ok(calls)
 }
 
-/// Makes the nodes of the list `found` gone. Each keeps its number, and all others stay as they are.
+/// Makes the nodes of the list `found` gone. Each keeps its number, and all others stay as they are. No node becomes a side by it.
 pub fn drop_nodes(nodes: &mut Nodes, found: &Vec<u32>)
     ensures dropped { IsDropped nodes.old.items found.now.items nodes.new.items }
     ensures len { length nodes.new.items ≡ length nodes.old.items }

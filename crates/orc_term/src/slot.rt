@@ -46,7 +46,7 @@ impl Model for Slot {
 }
 
 impl Slot {
-    /// Stores a node.
+    /// Stores a node as the `Flat` of its kind: its parent first, then the kind's own fields, and last the numbers of its parts.
     #[inline(always)]
     pub fn new(node: Node) -> Slot
         ensures { result ≡ node }
@@ -79,7 +79,7 @@ impl Slot {
         Slot { flat }
     }
 
-    /// The node that is stored.
+    /// The node that is stored: a `Flat` has its parent first, then the kind's own fields, and last the numbers of its parts.
     #[inline(always)]
     pub fn node(&self) -> Node
         ensures { result ≡ self.now }

@@ -48,7 +48,7 @@ pub(crate) fn taker_here(above: Kind, place: usize, parent: u32) -> Option<Taker
     }
 }
 
-/// What takes a publication of the node at `from`. None if that node is no part of the term.
+/// What takes a publication of the node with the number `from`. None if that node is no part of the term.
 #[inline(always)]
 pub fn way_up(nodes: &Nodes, from: usize) -> Option<Taker>
     ensures taker { IfSome result (IsTaker nodes.now.items from) }
@@ -60,6 +60,7 @@ pub fn way_up(nodes: &Nodes, from: usize) -> Option<Taker>
     for _steps in 0..nodes.len() {
         // A hint leads to a node up to which nothing takes the publication or is changed by it.
         place = nodes.hint(place);
+        // Node 0 is above the whole term: nothing takes the publication.
         if place == 0 {
             return Some(Taker::Whole);
         }
@@ -74,8 +75,8 @@ pub fn way_up(nodes: &Nodes, from: usize) -> Option<Taker>
     None
 }
 
-/// Does to the nodes what a publication of the node at `from` does: each otherwise between it and what takes it loses its right side. Shortens the
-/// hints on the way for later walks.
+/// Does to the nodes what a publication of the node at `from` does: each otherwise between that node and what takes the publication loses its right
+/// side, since its left side has published. Shortens the hints on the way for later walks.
 #[inline(always)]
 pub fn rise(nodes: &mut Nodes, from: u32)
     ensures rises { Rises nodes.old.items from nodes.new.items }
@@ -88,6 +89,7 @@ pub fn rise(nodes: &mut Nodes, from: u32)
     for _steps in 0..nodes.len() {
         // Up to this node nothing takes the publication or is changed by it.
         let top = nodes.hint(place as usize);
+        // Node 0 is above the whole term: nothing takes the publication.
         if top == 0 {
             return;
         }
