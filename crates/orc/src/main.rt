@@ -31,6 +31,7 @@ enum Input<F> {
 }
 
 impl<F: Read> Read for Input<F> {
+    // Reads bytes into the front of `room`, and gives how many; 0 at the end of the file or of standard input.
     fn read(&mut self, room: &mut [u8]) -> io::Result<usize> {
         match self {
             Input::File(file) => file.read(room),
@@ -87,9 +88,11 @@ impl<R: rt::Files + AllocGlobal> SystemFiles<'_, R> {
 }
 
 impl<R: rt::Files + AllocGlobal> Files for SystemFiles<'_, R> {
+    // What `open` gives: an open file or standard input.
     type Reader = Input<R::File>;
 
-    // The first bytes of a file, `MOST` at most: a device may have no end. A text of `MOST` bytes is over each command's limit, which reports that.
+    // The first bytes of the file of a path, or of standard input for `-`, `MOST` at most: a device may have no end. A text of `MOST` bytes is over
+    // each command's limit, and the command reports that. The error is why the file can't be opened or read.
     fn read(&mut self, path: &str) -> Result<Vec<u8>, ReadFault> {
         let mut bytes = Vec::new(self.rt.alloc());
         let mut front = self.open_input(path)?.take(MOST);
@@ -111,35 +114,40 @@ fn failed(rt: &impl Eprint, line: &str, status: u8) -> ExitCode {
     ExitCode::from(status)
 }
 
-// The exit if memory is refused before any command has begun, with the line and the status that a command would give. That line names no file, so the
-// empty name isn't seen.
+// Writes that memory was refused, and gives the exit for that, before any command has begun. The line and the status are those that a command would
+// give. That line names no file, so the empty name isn't seen.
 fn refused(rt: &impl Eprint) -> ExitCode {
     let failure = Failure::Unread("", ReadFault::Memory);
     let _ = eprintln!(rt; "{failure}");
     ExitCode::from(failure.status())
 }
 
-// Whether the command is the one that explains on standard output, too. The words begin with the program's name.
+// Whether the command is `test`, the one that explains on standard output, too. `words` is the command line, which begins with the program's name, so
+// the command is word 1.
 fn is_test(words: &[String]) -> bool {
     match words.get(1) {
         Some(word) => word.as_str() == TESTING,
+        // There is no command.
         None => false,
     }
 }
 
-// Whether mistakes are explained without `--explain`: as the environment variable says, or, if it isn't set, if standard error is a terminal. For
-// `orc test` standard output has to be one too, so that a table that goes to a file doesn't depend on where standard error goes.
+// Whether mistakes are explained though the command line has no `--explain`: as the environment variable says, or, if it isn't set, if standard error
+// is a terminal. For `orc test` standard output has to be one too, so that a table that goes to a file doesn't depend on where standard error goes.
 fn explains(rt: &HostRuntime, words: &[String]) -> bool {
     match env::var(rt, EXPLAIN) {
+        // The variable is set.
         Ok(word) => word.as_str() == "1",
         Err(_) => rt.stderr().is_terminal() && (!is_test(words) || rt.stdout().is_terminal()),
     }
 }
 
-// Puts the option behind a command that takes it, unless it is among the words. The error is refused memory.
+// Puts the option `--explain` behind the command, if the command takes that option and it isn't among the words of the command line yet. The error is
+// refused memory.
 fn ask_for_explanations(alloc: Global, words: &mut Vec<String>) -> Result<(), AllocError> {
     let takes_it = match words.get(1) {
         Some(word) => EXPLAINING.iter().any(|command| word.as_str() == *command),
+        // There is no command.
         None => false,
     };
     if takes_it && !words.iter().any(|word| word.as_str() == OPTION) {
@@ -149,7 +157,8 @@ fn ask_for_explanations(alloc: Global, words: &mut Vec<String>) -> Result<(), Al
     Ok(())
 }
 
-// Has the library do the command line. Whatever goes wrong before that is memory or an argument that isn't text.
+// Has the library `orc_run` do the command line, and ends with its status. Whatever goes wrong before that is refused memory or an argument that
+// isn't UTF-8.
 fn main(rt: HostRuntime) -> ExitCode {
     let alloc = rt.alloc();
     let args = match env::args(&rt) {
@@ -158,6 +167,7 @@ fn main(rt: HostRuntime) -> ExitCode {
         // Any other error is an argument that isn't text: a mistake in the command line (status 2).
         Err(_) => return failed(&rt, "error: an argument is not UTF-8", 2),
     };
+    // The words of the command line, the program's name first. The only error is refused memory.
     let Ok(mut words) = args.collect::<Vec<String>>(alloc) else {
         return refused(&rt);
     };
@@ -165,6 +175,7 @@ fn main(rt: HostRuntime) -> ExitCode {
     if explains(&rt, words.as_slice()) && ask_for_explanations(alloc, &mut words).is_err() {
         return refused(&rt);
     }
+    // Standard input is looked at here, before any file is opened: `standard_input` asks for that.
     let mut files = SystemFiles {
         rt: &rt,
         stdin: standard_input(rt.stdin()),

@@ -15,13 +15,14 @@ use orc_rules::entry::RuleFault;
 use orc_rules::program::Program;
 
 impl Marked {
-    /// `cancel K`: a bind dropped call `k` while it was pending; its cancel was due, and isn't any longer. The error is Cancel: another call's cancel
-    /// is the next one, or none is due. `program` is there for the contract alone.
+    /// The entry `cancel K`: a bind dropped call `k` while it was pending, so the cancel of `k` was due; after this entry it isn't any longer. The
+    /// error is Cancel: another call's cancel is the next one, or none is due; nothing has changed then. `program` is there for the contract alone.
     pub(crate) fn cancel(&mut self, program: &Program, k: u64) -> Result<(), RuleFault>
         ensures done { IfOk result (λ _. Enters (code program.now) (entry.Cancel k) self.old self.new) }
         ensures refused { OnErr result (self.new ≡ self.old) }
         ensures reason { IfErr result (λ r. (t : Table) → IsRightlyRefused program.now t (entry.Cancel k) self.old r) }
     {
+        // `rest` keeps the list of the cancels that are due; this takes `k` off it.
         self.rest.cancel(k)
     }
 }

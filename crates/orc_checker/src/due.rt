@@ -25,7 +25,7 @@ impl Model for Due {
 }
 
 impl Due {
-    /// No nodes.
+    /// The empty set: no node waits for a call.
     pub(crate) fn new(alloc: Global) -> Due
         ensures { result ≡ [] }
     {
@@ -34,7 +34,7 @@ impl Due {
         }
     }
 
-    /// A copy of the notes. The error is refused memory.
+    /// A copy of the set of times and nodes. The error is refused memory.
     pub(crate) fn copy(&self) -> Result<Due, AllocError>
         ensures { IfOk result (λ d. d ≡ self.now) }
     {
@@ -42,7 +42,8 @@ impl Due {
         Ok(Due { nodes })
     }
 
-    /// Notes a node with the time at which its call is due; does nothing if there is no time. The error is refused memory; the notes so far stay.
+    /// Adds `node`, a node of the marked term that waits for a call, with the time at which the call is due. If `time` is None, the call is never
+    /// due, and nothing is added. The error is refused memory; what was noted stays.
     #[inline(always)]
     fn put(&mut self, time: Option<u64>, node: u32) -> Result<(), AllocError>
         ensures noted { OnOk result (IfSome time (λ t. IsNoted self.new t node)) }
@@ -54,7 +55,8 @@ impl Due {
         Ok(())
     }
 
-    /// Notes a node with the time at which its call is due; `time` is None where that is never. The error is Memory; what was noted stays.
+    /// Adds `node`, a node of the marked term that waits for a call, with the time at which the call is due; nothing is added where that is never
+    /// (`time` is None). The error is Memory; what was noted stays.
     #[inline(always)]
     pub(crate) fn note(&mut self, time: Option<u64>, node: u32) -> Result<(), RuleFault>
         ensures noted { OnOk result (IfSome time (λ t. IsNoted self.new t node)) }
@@ -64,7 +66,7 @@ impl Due {
         self.put(time, node).map_err(|_| RuleFault::Memory)
     }
 
-    /// The earliest time with its node. None where nothing is noted.
+    /// The earliest due time that is noted, with the node that waits for the call. None where nothing is noted.
     pub(crate) fn first(&self) -> Option<(u64, u32)>
         ensures { MatchOption result (self.now ≡ []) (IsFirst self.now) }
     {
@@ -74,7 +76,7 @@ impl Due {
         }
     }
 
-    /// Drops the note with the earliest time.
+    /// Drops the note with the earliest time; nothing changes where nothing is noted.
     pub(crate) fn drop_first(&mut self)
         ensures { Drops self.old self.new }
     {

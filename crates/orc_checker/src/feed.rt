@@ -28,7 +28,7 @@ use orc_term::room::{push_within, reserve};
 use orc_term::walk::{Taker, rise, way_up};
 
 /// Puts a new `|` above node `at` of the marked term. That node becomes the left part of the `|` and keeps its number; the right part is a new node
-/// with this tip.
+/// without parts, whose kind `tip` says. The caller has reserved room for the two new nodes, and node `at` has to be there.
 #[inline(always)]
 fn graft(nodes: &mut Nodes, at: u32, tip: Tip)
     requires there { at < length nodes.old.items }
@@ -50,14 +50,15 @@ fn graft(nodes: &mut Nodes, at: u32, tip: Tip)
         kind: Kind::Leaf(tip),
         parent: both,
     });
-    // The `|` takes the place of node `at` in the node above.
+    // In the node above, the `|` takes the place of node `at`, which is under the `|` from now on.
     nodes.lift(at, both);
 }
 
 impl Marked {
-    /// `send S A V`: token `s`, which stands on the value `v`, ends, and token `a` is on a copy of the right side of the `>x>` that takes `v`, in a
-    /// new scope where x is `v`. The errors: Cancel where a cancel is due, Mark where there is no token `s`, Form where it doesn't stand on `v` or no
-    /// `>x>` takes `v`, Number where `a` isn't the next mark, and Memory.
+    /// The entry `send S A V`: token `s`, which stands on the value `v`, ends, and token `a` is on a copy of the right side of the `>x>` that takes
+    /// `v`, in a new scope where x is `v`. The errors: Cancel where a cancel is due, Mark where there is no token `s`, Form where it doesn't stand on
+    /// `v` or no `>x>` takes `v`, Number where `a` isn't the next mark, and Memory. `Enters` promises that the entry leads from the old state to the
+    /// new one. After an error nothing has changed, and the error is Memory or names a condition that the entry breaks.
     pub(crate) fn send(
         &mut self,
         program: &Program,
@@ -69,11 +70,14 @@ impl Marked {
         ensures refused { OnErr result (self.new ≡ self.old) }
         ensures reason { IfErr result (λ r. (t : Table) → IsRightlyRefused program.now t (entry.Send s a v) self.old r) }
     {
+        // `bearer` says where token `s` stands: `at` is its node in the marked term, and `parent` the node above. The token has to stand on the value
+        // `v`.
         let bearer = self.bearer(program, s, v)?;
-        // A token's node is a part of the term, so the walk finds what takes its publication.
+        // `way_up` goes up from the token's node to what takes its publication. The node is a part of the term, so the answer isn't None.
         let Some(taker) = way_up(&self.nodes, bearer.at as usize) else {
             return Err(RuleFault::Form);
         };
+        // `Fed` means that a `>x>` takes it. Refused where a pruning takes it, or nothing does.
         let Taker::Fed(at) = taker else {
             return Err(RuleFault::Form);
         };

@@ -28,13 +28,15 @@ impl Model for Halts {
     ghost invariant = { λ h. length h.flags.items ≤ length h.active.items };
 }
 
-// Whether the term of a node of the program has halted. `flags` has the flags of the nodes before it, and its parts are among these.
+// Whether the term of `node`, a node of the program, has halted. `flags` has the flags of the nodes before it, and its parts, f and g, are among
+// these.
 fn flag_of(flags: &Vec<bool>, node: TermNode) -> bool
     ensures { result ≡ node_flag flags.now.items node }
 {
     match node {
         TermNode::Stop => true,
         TermNode::Par(f, g) => flag_at(flags, f) && flag_at(flags, g),
+        // g starts only when f publishes, so f alone counts.
         TermNode::Seq(f, _, _) => flag_at(flags, f),
         // An operand, a call, a `<x<` and a `;` have a step of their own still to make, or wait for it.
         _ => false,
@@ -42,7 +44,7 @@ fn flag_of(flags: &Vec<bool>, node: TermNode) -> bool
 }
 
 impl Halts {
-    /// The flags of a program's nodes. The error is refused memory.
+    /// The flags of all nodes of a program: `AreHalts` says that each is true exactly if the node's term has halted. The error is refused memory.
     pub fn new(alloc: Global, program: &Program) -> Result<Halts, AllocError>
         ensures { IfOk result (λ h. AreHalts (code program.now) h) }
     {
@@ -67,7 +69,8 @@ impl Halts {
         Ok(Halts { flags, active })
     }
 
-    /// Whether the term of that node of the program has halted; true where there is no such node.
+    /// Whether the term of the program's node of number `node` has halted before anything has happened in it, as `stop` has; true where there is no
+    /// such node.
     pub fn at(&self, node: usize) -> bool
         ensures { result ≡ halt_flag self.now node }
     {

@@ -6,8 +6,8 @@ use crate::rest::Called;
 use orc_rules::value::{Answer, Found, Value};
 use std::marker::Model;
 
-// A call and what the table says of it, in one enum with a variant for each kind of answer, so that no call takes more than 32 bytes: first its node,
-// then when it was made, the delay of its answer, and the value.
+// A call and what the table of sites says of it, in one enum with a variant for each kind of answer, so that no call takes more than 32 bytes. The
+// fields, in this order: the call's node in the marked term, the time at which it was made, the delay of its answer, and the value.
 #[derive(Clone, Copy)]
 enum Flat {
     Never(u32, u64),
@@ -17,7 +17,7 @@ enum Flat {
     Signal(u32, u64, u64),
 }
 
-/// A call that was made, as it is kept, in 32 bytes.
+/// A call that was made, in the 32 bytes in which the checker keeps it. `Kept::called` gives the call back.
 #[derive(Clone, Copy)]
 pub struct Kept {
     flat: Flat,
@@ -38,7 +38,7 @@ impl Model for Kept {
 }
 
 impl Kept {
-    /// Stores a call.
+    /// Packs a call into its 32 bytes. Nothing is lost: `called` gives the same call back.
     pub fn new(called: Called) -> Kept
         ensures { result ≡ called }
     {
@@ -58,7 +58,7 @@ impl Kept {
         Kept { flat }
     }
 
-    /// The call that is stored.
+    /// The call that was packed by `new`.
     pub fn called(&self) -> Called
         ensures { result ≡ self.now }
     {

@@ -40,7 +40,7 @@ fn cells_around(alloc: Global, nodes: &Nodes, from: u32) -> Result<Vec<u64>, All
 {
     let mut cells = Vec::new(alloc);
     let mut place = from;
-    // Each step goes to the node above. The bound shows that the loop ends.
+    // Each step goes from the node at `place` to the one above. The bound shows that the loop ends.
     for _steps in 0..nodes.len() {
         // Node 0 is the top. The cells were found from the innermost pruning outwards.
         if place == 0 {
@@ -62,6 +62,7 @@ impl Marked {
     fn cells_of(&self, alloc: Global, s: u64) -> Result<Vec<u64>, RuleFault>
         ensures { IfOk result (λ cells. (x : Context) (l : Listing) (p : Place) → Spells x (code l) self.now p → StandsInside p s cells.items) }
     {
+        // Where token `s` stands: `at` is its node in the marked term.
         let holder = self.holder(s)?;
         match cells_around(alloc, &self.nodes, holder.at) {
             Ok(cells) => Ok(cells),
@@ -69,8 +70,9 @@ impl Marked {
         }
     }
 
-    /// The label of an entry, whether the entry is allowed or not: None for a move of marks (`end`, `fork`, `seq`, `other`) or a tick. Only a `call`
-    /// has errors: Cancel where a cancel is due, Mark where there is no such token, Memory.
+    /// The label of an entry, which is what those outside see of the step (`Silent`: that something happened), whether the entry is allowed or not.
+    /// None for a move of marks (`end`, `fork`, `seq`, `other`), which uses no rule of Orc, or a tick. Only a `call` has errors: Cancel where a
+    /// cancel is due, Mark where there is no such token, Memory.
     fn label(&self, alloc: Global, entry: &Entry) -> Result<Option<Label>, RuleFault>
         ensures { IfOk result (λ label. (x : Context) (l : Listing) (p : Place) → Spells x (code l) self.now p → IsLabel p entry.now label) }
     {
@@ -100,8 +102,9 @@ impl Marked {
         }
     }
 
-    /// Applies one entry and gives its label, None for a move of marks or a tick. `answers` is the table of what sites answer. After a RuleFault
-    /// nothing has changed. The fault names a condition that the entry breaks, not always the first such one.
+    /// Applies one entry and gives its label, which is what those outside see of the step; None for a move of marks (`end`, `fork`, `seq`, `other`)
+    /// or a tick. `answers` is the table of what sites answer. After a RuleFault nothing has changed. The fault names a condition that the entry
+    /// breaks, not always the first such one.
     pub fn apply(
         &mut self,
         alloc: Global,

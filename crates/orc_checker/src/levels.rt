@@ -6,8 +6,8 @@ ghost use Rattle.orc_term.specs.Ranks.{AreLevelsAtMost};
 use crate::marked::Marked;
 
 impl Marked {
-    /// A bound on the depth of the marked term: at most so many nodes are one below another under node 0. None while that isn't known, after memory
-    /// for it was refused.
+    /// A bound on the depth of the marked term: at most so many nodes are one below another under node 0, which is above the whole term. None while
+    /// that isn't known, after memory for it was refused.
     pub fn levels_below(&self) -> Option<usize>
         ensures { IfSome result (AreLevelsAtMost self.now.nodes) }
     {

@@ -18,11 +18,13 @@ pub(crate) fn node_by(nodes: &Nodes, places: &Vec<u32>, number: u64) -> Option<(
             Some(node) => Some((*place, node)),
             None => None,
         },
+        // The number is beyond the table's end.
         None => None,
     }
 }
 
-/// The tip of a node of this kind, where token `s` is on it: on a node of the program, or on a value. None where it isn't.
+/// The tip of a node of this kind, if the token with mark `s` is on that node: the token stands on a node of the program, or on a value. None where
+/// the token isn't there, since the node has become another one.
 pub(crate) fn tip_with(kind: Kind, s: u64) -> Option<Tip>
     ensures { result ≡ tip_with kind s }
 {
@@ -35,7 +37,7 @@ pub(crate) fn tip_with(kind: Kind, s: u64) -> Option<Tip>
     }
 }
 
-/// Whether a node of this kind waits for call `k`.
+/// Whether a node of this kind still waits for call `k`: the call that was put there may have returned since.
 pub(crate) fn waits_with(kind: Kind, k: u64) -> bool
     ensures { result ≡ waits_with kind k }
 {

@@ -42,7 +42,7 @@ pub struct Marked {
     pub(crate) scopes: Vec<StoredScope>,
     /// What has become of each cell, by its number; a cell that is neither bound nor lost has its own number here. There is no cell 0.
     pub(crate) cells: Vec<Bound>,
-    /// The node on which each mark was put, even if it is used up; there is no mark 0.
+    /// For each mark, the number of a token, the node of the marked term on which it was put, even if the token is gone; there is no mark 0.
     pub(crate) marks: Vec<u32>,
     /// Which terms of the program have halted, by the program's nodes.
     pub(crate) halts: Halts,
@@ -92,7 +92,7 @@ impl Model for Marked {
     ghost invariant = { λ m. AreNoted m.nodes.items m.rest.calls m.due × AreKnown m.nodes.items m.flags.items m.candidates × AreIndexed m.nodes.items (record { marks = m.marks.items; prunings = m.prunings.items; calls = m.rest.calls; cells = m.cells.items }) × (length m.prunings.items ≡ length m.cells.items) };
 }
 
-/// Where a token stands on a node of the program.
+/// Where a token stands that is on a node of the program, and not on a value that a call gave.
 #[derive(Clone, Copy)]
 pub(crate) struct Spot {
     /// The token's node in the marked term.
@@ -116,7 +116,7 @@ pub(crate) struct Holder {
     pub tip: Tip,
 }
 
-/// A new node below that of `spot`: token `mark` on node `node` of the program, in the scope of `spot`.
+/// A new node of the marked term below that of `spot`: token `mark`, which stands on node `node` of the program, in the scope of `spot`.
 pub(crate) fn token_node(mark: u64, node: u32, spot: Spot) -> Node
     ensures { result ≡ record { kind = AtLeaf (IsToken mark node spot.scope); parent = spot.at } }
 {
@@ -205,7 +205,7 @@ impl Marked {
         })
     }
 
-    /// The same marked term once more, on which an entry can be tried. The error is refused memory.
+    /// A copy of the marked term and of all that goes with it, on which an entry can be tried. The error is refused memory.
     pub fn copy(&self, alloc: Global) -> Result<Self, AllocError>
         ensures { IfOk result (λ m. m ≡ self.now) }
     {
@@ -267,7 +267,8 @@ impl Marked {
         }
     }
 
-    /// Where token `s` stands. None if there is no such token: no node was given this mark, or its node has become another one.
+    /// Where the token with mark `s` stands: on a node of the program, or on a value that a call gave. None if there is no such token: no node was
+    /// given this mark, or its node has become another one.
     fn token(&self, s: u64) -> Option<Holder>
         ensures there { IfSome result (λ t. at self.now.nodes t.parent t.at (AtLeaf t.tip)) }
         ensures carries { IfSome result (λ t. Carries s t.tip) }
@@ -283,7 +284,8 @@ impl Marked {
         })
     }
 
-    /// Where token `s` stands. The errors: Cancel where a cancel is due, Mark where there is no such token.
+    /// Where the token with mark `s` stands: on a node of the program, or on a value that a call gave. The errors: Cancel where a cancel is due, so
+    /// that the next entry has to be a `cancel`; Mark where there is no such token. `Lacks` says that the error is one of these, with its cause.
     pub(crate) fn holder(&self, s: u64) -> Result<Holder, RuleFault>
         ensures free { IfOk result (λ _. self.now.rest.to_cancel ≡ []) }
         ensures there { IfOk result (λ t. at self.now.nodes t.parent t.at (AtLeaf t.tip)) }
@@ -297,8 +299,8 @@ impl Marked {
         self.token(s).ok_or(RuleFault::Mark)
     }
 
-    /// Where token `s` stands on a node of the program. The errors: Cancel where a cancel is due, Mark where there is no such token, Form where it
-    /// stands on a value that a call gave.
+    /// Where the token with mark `s` stands, if it is on a node of the program. The errors: Cancel where a cancel is due, Mark where there is no such
+    /// token, Form where it stands on a value that a call gave.
     pub(crate) fn spot(&self, s: u64) -> Result<Spot, RuleFault>
         ensures free { IfOk result (λ _. self.now.rest.to_cancel ≡ []) }
         ensures there { IfOk result (λ t. at self.now.nodes t.parent t.at (AtLeaf (IsToken s t.node t.scope))) }
@@ -317,8 +319,8 @@ impl Marked {
         }
     }
 
-    /// Where token `s` stands on the value `v`. The errors: Cancel where a cancel is due, Mark where there is no such token, Form where it stands on
-    /// anything else.
+    /// Where the token with mark `s` stands, if it is on the value `v`. The errors: Cancel where a cancel is due, Mark where there is no such token,
+    /// Form where it stands on anything else.
     #[inline(always)]
     pub(crate) fn bearer(&self, program: &Program, s: u64, v: Value) -> Result<Holder, RuleFault>
         ensures free { IfOk result (λ _. self.now.rest.to_cancel ≡ []) }
@@ -330,12 +332,15 @@ impl Marked {
     {
         let holder = self.holder(s)?;
         match self.value_under(program, holder.tip) {
+            // `w` is the value on which the token stands.
             Some(w) if w == v => Ok(holder),
+            // It stands on another value, or on no value.
             _ => Err(RuleFault::Form),
         }
     }
 
-    /// The value on which a token with this tip stands. None where it stands on anything else, and for a tip without a token.
+    /// The value on which a token with this tip (what is on the token's node) stands. None where the token stands on anything else, and for a tip
+    /// without a token.
     #[inline(always)]
     pub(crate) fn value_under(&self, program: &Program, tip: Tip) -> Option<Value>
         ensures lives { IfSome result (λ v. living_kind (AtLeaf tip) ≡ 1) }
@@ -343,6 +348,7 @@ impl Marked {
         ensures other { (s : ℕ) (v : TheValue) → (result ≡ Some v → ⊥) → BearsOther (code program.now) self.now.cells self.now.scopes s tip v }
     {
         match tip {
+            // The value is the answer of a call.
             Tip::Bears(_, v) => Some(v),
             Tip::Token(_, node, scope) => match program.node(node as usize) {
                 TermNode::Operand(operand) => {

@@ -19,18 +19,21 @@ use orc_term::flags::push_flag;
 use orc_term::room::{fits, push_within, reserve_numbered};
 
 impl Marked {
-    /// `end S`: token `s` on a `stop` is removed. The errors: Cancel where a cancel is due, Mark where there is no token `s`, and Form where it isn't
-    /// on a `stop`.
+    /// The entry `end S`: the token with mark `s`, which stands on a `stop`, is removed. The errors: Cancel where a cancel is due, Mark where there
+    /// is no token `s`, and Form where it isn't on a `stop`. `Enters` promises that the entry leads from the old state to the new one. After an error
+    /// nothing has changed, and the error is Memory or names a condition that the entry breaks.
     pub(crate) fn end(&mut self, program: &Program, s: u64) -> Result<(), RuleFault>
         ensures done { IfOk result (λ _. Enters (code program.now) (entry.End s) self.old self.new) }
         ensures refused { OnErr result (self.new ≡ self.old) }
         ensures reason { IfErr result (λ r. (t : Table) → IsRightlyRefused program.now t (entry.End s) self.old r) }
     {
+        // Where token `s` stands: `at` is its node in the marked term and `parent` the node above; `node` is the node of the program on which the
+        // token stands, read in `scope`.
         let spot = self.spot(s)?;
         let TermNode::Stop = program.node(spot.node as usize) else {
             return Err(RuleFault::Form);
         };
-        // What is left is a `stop` without a token.
+        // The token's node becomes `Ended`, a `stop` without a token. Its parent stays.
         self.nodes.write_node(
             spot.at as usize,
             Node {
@@ -41,8 +44,10 @@ impl Marked {
         Ok(())
     }
 
-    /// `fork S A B`: token `s` on `f | g` gives way to token `a` on f and token `b` on g. The errors: Cancel where a cancel is due, Mark where there
-    /// is no token `s`, Form where it isn't on a `|`, Number where `a` and `b` aren't the next two marks, and Memory.
+    /// The entry `fork S A B`: token `s`, the one with that mark, on `f | g` gives way to token `a` on f and token `b` on g. The errors: Cancel where
+    /// a cancel is due, Mark where there is no token `s`, Form where it isn't on a `|`, Number where `a` and `b` aren't the next two marks, and
+    /// Memory. `Enters` promises that the entry leads from the old state to the new one. After an error nothing has changed, and the error is Memory
+    /// or names a condition that the entry breaks.
     pub(crate) fn fork(
         &mut self,
         program: &Program,
@@ -54,6 +59,8 @@ impl Marked {
         ensures refused { OnErr result (self.new ≡ self.old) }
         ensures reason { IfErr result (λ r. (t : Table) → IsRightlyRefused program.now t (entry.Fork s a b) self.old r) }
     {
+        // Where token `s` stands: `at` is its node in the marked term and `parent` the node above; `node` is the node of the program on which the
+        // token stands, read in `scope`.
         let spot = self.spot(s)?;
         let TermNode::Par(f, g) = program.node(spot.node as usize) else {
             return Err(RuleFault::Form);
@@ -78,7 +85,8 @@ impl Marked {
         // The nodes on which the marks `a` and `b` are.
         push_within(&mut self.marks, n);
         push_within(&mut self.marks, n + 1);
-        // A side such as `stop` has halted before anything moves in it.
+        // `halts` says of each node of the program whether its term has halted from the start, as a `stop` has. These are the flags of the two new
+        // nodes.
         let left = self.halts.at(f);
         let right = self.halts.at(g);
         push_flag(&mut self.flags, &mut self.candidates, n, left);
@@ -86,13 +94,17 @@ impl Marked {
         Ok(())
     }
 
-    /// `seq S A`: token `s` on `f >x> g` gives way to token `a` on f. The errors: Cancel where a cancel is due, Mark where there is no token `s`,
-    /// Form where it isn't on a `>x>`, Number where `a` isn't the next mark, and Memory.
+    /// The entry `seq S A`: token `s`, the one with that mark, on `f >x> g` gives way to token `a` on f. The errors: Cancel where a cancel is due,
+    /// Mark where there is no token `s`, Form where it isn't on a `>x>`, Number where `a` isn't the next mark, and Memory. `Enters` promises that the
+    /// entry leads from the old state to the new one. After an error nothing has changed, and the error is Memory or names a condition that the entry
+    /// breaks.
     pub(crate) fn seq(&mut self, program: &Program, s: u64, a: u64) -> Result<(), RuleFault>
         ensures done { IfOk result (λ _. Enters (code program.now) (entry.Seq s a) self.old self.new) }
         ensures refused { OnErr result (self.new ≡ self.old) }
         ensures reason { IfErr result (λ r. (t : Table) → IsRightlyRefused program.now t (entry.Seq s a) self.old r) }
     {
+        // Where token `s` stands: `at` is its node in the marked term and `parent` the node above; `node` is the node of the program on which the
+        // token stands, read in `scope`.
         let spot = self.spot(s)?;
         let TermNode::Seq(f, x, g) = program.node(spot.node as usize) else {
             return Err(RuleFault::Form);
@@ -113,20 +125,25 @@ impl Marked {
             },
         );
         self.nodes.push_within(token_node(a, f as u32, spot));
+        // Mark `a` is put on node n: `marks` has the node of each mark.
         push_within(&mut self.marks, n);
-        // An f such as `stop` has halted before anything moves in it.
+        // `halts` says of each node of the program whether its term has halted from the start, as a `stop` has. That is the flag of the new node.
         let halted = self.halts.at(f);
         push_flag(&mut self.flags, &mut self.candidates, n, halted);
         Ok(())
     }
 
-    /// `other S A`: token `s` on `f ; g` gives way to token `a` on f, and `s` is the otherwise's number from now on. The errors: Cancel where a
-    /// cancel is due, Mark where there is no token `s`, Form where it isn't on a `;`, Number where `a` isn't the next mark, and Memory.
+    /// The entry `other S A`: token `s`, the one with that mark, on `f ; g` (an otherwise) gives way to token `a` on f, and `s` is the otherwise's
+    /// number from now on. The errors: Cancel where a cancel is due, Mark where there is no token `s`, Form where it isn't on a `;`, Number where `a`
+    /// isn't the next mark, and Memory. `Enters` promises that the entry leads from the old state to the new one. After an error nothing has changed,
+    /// and the error is Memory or names a condition that the entry breaks.
     pub(crate) fn other(&mut self, program: &Program, s: u64, a: u64) -> Result<(), RuleFault>
         ensures done { IfOk result (λ _. Enters (code program.now) (entry.Other s a) self.old self.new) }
         ensures refused { OnErr result (self.new ≡ self.old) }
         ensures reason { IfErr result (λ r. (t : Table) → IsRightlyRefused program.now t (entry.Other s a) self.old r) }
     {
+        // Where token `s` stands: `at` is its node in the marked term and `parent` the node above; `node` is the node of the program on which the
+        // token stands, read in `scope`.
         let spot = self.spot(s)?;
         let TermNode::Other(f, g) = program.node(spot.node as usize) else {
             return Err(RuleFault::Form);
@@ -149,8 +166,9 @@ impl Marked {
             },
         );
         self.nodes.push_within(token_node(a, f as u32, spot));
+        // Mark `a` is put on node n: `marks` has the node of each mark.
         push_within(&mut self.marks, n);
-        // An f such as `stop` has halted before anything moves in it.
+        // `halts` says of each node of the program whether its term has halted from the start, as a `stop` has. That is the flag of the new node.
         let halted = self.halts.at(f);
         push_flag(&mut self.flags, &mut self.candidates, n, halted);
         Ok(())

@@ -54,8 +54,8 @@ pub enum Next {
     Wait,
 }
 
-// Adds the values that the operands have in `scope` to `args`, which then has `MOST_ARGUMENTS` at most; it recurses once an operand. False where an
-// operand has no value: `args` is of no use then.
+// Adds the values that the operands have in scope `scope` to `args`, which then has `MOST_ARGUMENTS` at most; `cells` says what has become of each
+// cell. The function recurses once an operand. False where an operand has no value: `args` is of no use then.
 fn push_values(
     scopes: &[StoredScope],
     cells: &[Bound],
@@ -67,12 +67,14 @@ fn push_values(
     ensures { AreOrdered scopes.now → AddsValues cells.now scopes.now scope operands.now args.old args.new result }
 {
     match operands {
+        // No operand is left: all have values.
         [] => true,
         [operand, operands @ ..] => match meaning(scopes, cells, *operand, scope) {
             Some(Bound::Is(value)) => {
                 args.push(value);
                 push_values(scopes, cells, operands, scope, args)
             }
+            // The operand stands for a cell that isn't bound yet, is void, or is a name that the scope doesn't have: the call can't be made now.
             Some(Bound::Cell(_)) => false,
             Some(Bound::Void) => false,
             None => false,
@@ -80,7 +82,8 @@ fn push_values(
     }
 }
 
-// What a token can do on a call of `site` with these operands in `scope`: call it, end since an argument is void, or wait for cells.
+// What a token can do on a call of the site of number `site` with these operands in scope `scope`, where `cells` says what has become of each cell:
+// call it, end since an argument is void, or wait for cells.
 fn call_from(
     scopes: &[StoredScope],
     cells: &[Bound],
@@ -102,8 +105,8 @@ fn call_from(
     }
 }
 
-// What a token can do on node `node` of the program in `scope`. None on a value, since that depends on what takes the publication (`publication`
-// tells it), and on a call of a definition that isn't there, which no checked program has.
+// What a token can do on node `node` of the program in scope `scope`, where `cells` says what has become of each cell. None on a value, since that
+// depends on what takes the publication (`publication` tells it), and on a call of a definition that isn't there, which no checked program has.
 fn move_from(
     program: &Program,
     scopes: &[StoredScope],
@@ -124,8 +127,11 @@ fn move_from(
             None => None,
         },
         TermNode::Operand(operand) => match meaning(scopes, cells, operand, scope) {
+            // The operand is a value.
             Some(Bound::Is(_)) => None,
+            // Its cell was lost: the token ends.
             Some(Bound::Void) => Some(Next::Void),
+            // Its cell is neither bound nor lost yet.
             Some(Bound::Cell(_)) => Some(Next::Wait),
             // A free name, which no checked program has.
             None => Some(Next::Wait),
@@ -159,10 +165,13 @@ fn operand_at(program: &Program, node: usize, position: usize) -> Option<Operand
 }
 
 impl Marked {
-    /// What a token can do next. None where there is no such token, or a cancel is due.
+    /// What the token with the mark `token` can do next. None where there is no such token, or a cancel is due: then the next entry has to be that
+    /// `cancel`. `Offers` promises that the entry of the answer fits here, whatever new numbers it takes.
     pub fn next(&self, program: &Program, token: u64) -> Option<Next>
         ensures { IfSome result (λ n. (x : Context) (p : Place) → x.definitions ≡ definitions program.now → Spells x (code program.now) self.now p → Offers x p token n) }
     {
+        // Where the token stands: `at` is its node in the marked term, and `tip` what is on that node. The error is one of the two for which this
+        // gives None.
         let holder = match self.holder(token) {
             Ok(holder) => holder,
             Err(_) => return None,
@@ -186,13 +195,17 @@ impl Marked {
         }
     }
 
-    // What a token at node `at` of the marked term, on this value, can do, by what takes its publication. None if the node is no part of the term.
+    // What a token at node `at` of the marked term, which stands on this value, can do: publish the value, by the entry of what takes the
+    // publication. None if the node is no part of the term.
     fn publication(&self, at: usize, value: Value) -> Option<Next>
         ensures { IfSome result (IsPublished self.now.nodes at value) }
     {
         match way_up(&self.nodes, at) {
+            // Nothing takes it: the whole program publishes it.
             Some(Taker::Whole) => Some(Next::Publish(value)),
+            // A `>x>` takes it.
             Some(Taker::Fed(_)) => Some(Next::Send(value)),
+            // The pruning of this cell takes it.
             Some(Taker::Bound(cell, _)) => Some(Next::Bind(cell, value)),
             None => None,
         }
@@ -203,6 +216,7 @@ impl Marked {
     pub fn awaited(&self, program: &Program, token: u64, position: usize) -> Option<u64>
         ensures { IfSome result (λ c. (x : Context) (p : Place) → x.definitions ≡ definitions program.now → Spells x (code program.now) self.now p → AwaitsAt p token position c) }
     {
+        // Where the token stands: `node` is the node of the program on which it stands, read in `scope`.
         let spot = match self.spot(token) {
             Ok(spot) => spot,
             Err(_) => return None,
@@ -210,6 +224,7 @@ impl Marked {
         let operand = operand_at(program, spot.node as usize, position)?;
         match meaning(&self.scopes, &self.cells, operand, spot.scope as usize) {
             Some(Bound::Cell(cell)) => Some(cell),
+            // It is a value, void, or a free name: nothing is awaited at this position.
             _ => None,
         }
     }

@@ -12,21 +12,22 @@ ghost use Rattle.orc_checker.specs.Checker.{Spells};
 use crate::marked::Marked;
 
 impl Marked {
-    /// The next mark, from 2 on: the one that the next new token must have.
+    /// The next mark, from 2 on: the number that the next new token must have. Token 1 is there from the beginning. `marks` has an item for 0, too,
+    /// so its length is the next mark.
     pub fn new_mark(&self) -> u64
         ensures { result ≡ length self.now.marks }
     {
         self.marks.len() as u64
     }
 
-    /// The next cell, from 1 on.
+    /// The number, from 1 on, that the next pruning to be opened must give its cell. `cells` has an item for 0, too, so its length is the next cell.
     pub fn new_cell(&self) -> u64
         ensures { result ≡ length self.now.cells }
     {
         self.cells.len() as u64
     }
 
-    /// The next call, from 1 on.
+    /// The number, from 1 on, that the next call of a site must have. The list of calls has no item for 0.
     pub fn new_call(&self) -> u64
         ensures { result ≡ length self.now.rest.calls + 1 }
     {
@@ -40,7 +41,7 @@ impl Marked {
         self.rest.next_cancel()
     }
 
-    /// The time, in units of logical time.
+    /// The time to which the journal's entries have come, in units of logical time.
     pub fn now(&self) -> u64
         ensures { (x : Context) (l : Listing) (p : Place) → Spells x (code l) self.now p → result ≡ p.now }
     {

@@ -40,7 +40,8 @@ pub(crate) struct Otherwise {
 }
 
 impl Marked {
-    /// The nodes of the side whose topmost node is `root`, for a caller that drops it afterwards. The error is Memory.
+    /// The numbers of the nodes of the part of the marked term whose topmost node is `root`, for a caller that drops that part afterwards. The error
+    /// is Memory.
     pub(crate) fn side_at(&self, root: u32) -> Result<Vec<u32>, RuleFault>
         ensures nodes { IfOk result (λ side. AreNodesOf self.now.nodes root side.items) }
         ensures refused { IfErr result (λ r. r ≡ reason.Memory) }
@@ -52,7 +53,8 @@ impl Marked {
         }
     }
 
-    /// Where otherwise `s` stands. None if there is no such otherwise, or it has published.
+    /// Where otherwise `s` stands, an entered `f ; g` whose number is the mark of the token that entered it. None if there is no such otherwise, or f
+    /// has published.
     pub(crate) fn find_otherwise(&self, s: u64) -> Option<Otherwise>
         ensures there { IfSome result (λ o. at self.now.nodes o.parent o.at (AtOne (IsEntered s o.node o.scope) o.left)) }
         ensures missing { IfNone result (NoOtherwise self.now.nodes s) }
@@ -69,7 +71,8 @@ impl Marked {
         })
     }
 
-    /// Where otherwise `s` stands. The errors: Cancel where a cancel is due, Mark where there is no such otherwise.
+    /// Where otherwise `s` stands. The errors: Cancel where a cancel is due, Mark where there is no such otherwise. `Lacks` in the contract says that
+    /// the error is one of these two, with its cause.
     fn otherwise(&self, s: u64) -> Result<Otherwise, RuleFault>
         ensures free { IfOk result (λ _. self.now.rest.to_cancel ≡ []) }
         ensures there { IfOk result (λ o. at self.now.nodes o.parent o.at (AtOne (IsEntered s o.node o.scope) o.left)) }
@@ -82,18 +85,22 @@ impl Marked {
         self.find_otherwise(s).ok_or(RuleFault::Mark)
     }
 
-    /// `right S A`: token `a` on the right side takes the place of otherwise `s`, whose left side is dropped. The errors: Cancel where a cancel is
-    /// due, Mark where there is no otherwise `s`, Number where `a` isn't the next mark, Halted where the left side hasn't halted, and Memory.
+    /// The entry `right S A`: token `a` on the right side takes the place of otherwise `s`, whose left side is dropped. The errors: Cancel where a
+    /// cancel is due, Mark where there is no otherwise `s`, Number where `a` isn't the next mark, Halted where the left side hasn't halted, and
+    /// Memory. `Enters` promises that the entry leads from the old state to the new one. After an error nothing has changed, and the error is Memory
+    /// or names a condition that the entry breaks.
     pub(crate) fn right(&mut self, s: u64, a: u64) -> Result<(), RuleFault>
         ensures done { IfOk result (λ _. (code : ℕ → Term) → Enters code (entry.Right s a) self.old self.new) }
         ensures refused { OnErr result (self.new ≡ self.old) }
         ensures reason { IfErr result (λ r. (l : Listing) (t : Table) → IsRightlyRefused l t (entry.Right s a) self.old r) }
     {
+        // `left` is the left side's node in the marked term, `node` the right side's in the program, read in `scope`.
         let otherwise = self.otherwise(s)?;
         self.expect_mark(a)?;
         if !self.part_has_halted(otherwise.left as usize) {
             return Err(RuleFault::Halted);
         }
+        // The nodes of the left side, to be dropped below.
         let side = self.side_at(otherwise.left)?;
         // Memory for what is added below comes first, so that nothing fails once the term has changed.
         reserve(&mut self.nodes, &mut self.flags, &mut self.marks).map_err(|_| RuleFault::Memory)?;
@@ -106,7 +113,8 @@ impl Marked {
             },
         );
         drop_nodes(&mut self.nodes, &side);
-        // The otherwise hadn't halted. Its right side may have from the start, as a `stop` has.
+        // The otherwise hadn't halted. Its right side may have halted from the start, as a `stop` has: then `settle` flags the node, and those above
+        // it that halt by that.
         let halted = self.halts.at(otherwise.node as usize);
         settle(
             &self.nodes,

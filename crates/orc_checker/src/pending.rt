@@ -16,10 +16,12 @@ fn due_of(calls: &Vec<Kept>, call: u64) -> Option<u64>
     ensures due { IfSome result (IsDueOf calls.now.items call) }
     ensures never { IfNone result ((t : ℕ) → IsDueOf calls.now.items call t → ⊥) }
 {
+    // Calls count from 1, and call k is at place k - 1.
     if call == 0 {
         return None;
     }
     match calls.get((call - 1) as usize) {
+        // No call of this number was made.
         None => None,
         Some(made) => {
             let known = made.called();
@@ -28,8 +30,8 @@ fn due_of(calls: &Vec<Kept>, call: u64) -> Option<u64>
     }
 }
 
-/// Whether node `i` of the marked term waits for a call that is due at that time. False for a node without a call, or whose call is due at another
-/// time or never.
+/// Whether node `i` of the marked term waits for a call that is due at the time `time`. `calls` has all calls that were made. False for a node
+/// without a call, or whose call is due at another time or never.
 fn waits_until(nodes: &Nodes, calls: &Vec<Kept>, i: usize, time: u64) -> bool
     ensures { Decides result (IsDueAt nodes.now.items calls.now.items i time) }
 {
@@ -45,8 +47,8 @@ fn waits_until(nodes: &Nodes, calls: &Vec<Kept>, i: usize, time: u64) -> bool
     }
 }
 
-/// The least due time of the calls that pend, None if none is ever due. The notes before it are of calls that pend no more: they are taken out of
-/// `due`.
+/// The least due time of the calls that pend, None if none is ever due. `due` has notes of due times with nodes; the clause `AreNoted` asks that each
+/// pending call that is ever due has one. The notes before the answer are of calls that pend no more: they are taken out of `due`.
 fn next_due(nodes: &Nodes, calls: &Vec<Kept>, due: &mut Due) -> Option<u64>
     requires { AreNoted nodes.now.items calls.now.items due.old }
     ensures next { IsNext nodes.now.items calls.now.items result }
@@ -64,7 +66,7 @@ fn next_due(nodes: &Nodes, calls: &Vec<Kept>, due: &mut Due) -> Option<u64>
 
 impl Rest {
     /// The least due time of the calls for which nodes wait, in units of logical time. None if none is ever due. Earlier notes, of nodes that wait no
-    /// more, are taken out of `due`.
+    /// more, are taken out of `due`. The clause `AreNoted` asks that `due` has a note of each pending call that is ever due.
     pub(crate) fn next_due(&self, nodes: &Nodes, due: &mut Due) -> Option<u64>
         requires { AreNoted nodes.now.items self.now.calls due.old }
         ensures next { IsNext nodes.now.items self.now.calls result }
@@ -73,7 +75,7 @@ impl Rest {
         next_due(nodes, &self.calls, due)
     }
 
-    /// Sets the time.
+    /// Sets the time now, in units of logical time. All else that is kept stays.
     pub(crate) fn set_time(&mut self, time: u64)
         ensures { self.new ≡ record { calls = self.old.calls; counts = self.old.counts; time = time; to_cancel = self.old.to_cancel; cancels = self.old.cancels } }
     {

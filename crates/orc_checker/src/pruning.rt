@@ -29,7 +29,7 @@ use orc_term::side::{drop_nodes, falling_calls, nodes_of};
 use orc_term::walk::{Taker, way_up};
 use std::alloc::AllocError;
 
-/// Where a pruning stands; all are nodes of the marked term.
+/// Where a pruning (`f <x< g`, opened) stands; all fields are numbers of nodes of the marked term.
 #[derive(Clone, Copy)]
 pub(crate) struct Pruning {
     /// The pruning itself.
@@ -42,7 +42,8 @@ pub(crate) struct Pruning {
     pub right: u32,
 }
 
-/// Reserves memory for one more scope, whose number has the 32 bits in which nodes keep it. The error is refused memory, or that 32 bits are too few.
+/// Reserves memory for one more scope (a name with its meaning, behind an earlier scope), whose number has the 32 bits in which nodes keep it. The
+/// error is refused memory, or that 32 bits are too few.
 pub(crate) fn reserve_scope(scopes: &mut Vec<StoredScope>) -> Result<(), AllocError>
     ensures items { scopes.new.items ≡ scopes.old.items }
     ensures room { IfOk result (λ _. vec_len scopes.new < vec_capacity scopes.new) }
@@ -79,7 +80,7 @@ pub(crate) fn scope_count(scopes: &Vec<StoredScope>) -> u32
     scopes.len() as u32
 }
 
-/// Writes what has become of cell `c`: a value or void. At another number than a cell's nothing changes.
+/// Writes into the table `cells` what has become of cell `c`: a value, or void if it was lost. If `c` is over the last cell's number nothing changes.
 fn bind_cell(cells: &mut Vec<Bound>, c: u64, bound: Bound)
     ensures { cells.new.items ≡ slice_set cells.old.items c bound }
 {
@@ -102,9 +103,10 @@ impl Marked {
         }
     }
 
-    /// `open S C A B`: token `s` on `f <x< g` gives way to token `a` on f and token `b` on g, and x is cell `c` in f, by a new scope. The errors:
-    /// Cancel where a cancel is due, Mark where there is no token `s`, Form where it isn't on a `<x<`, Number where `c`, `a` or `b` isn't the next
-    /// one, and Memory.
+    /// The entry `open S C A B`: token `s` on `f <x< g` gives way to token `a` on f and token `b` on g, and x is cell `c` in f, by a new scope. The
+    /// errors: Cancel where a cancel is due, Mark where there is no token `s`, Form where it isn't on a `<x<`, Number where `c`, `a` or `b` isn't the
+    /// next one, and Memory. `Enters` promises that the entry leads from the old state to the new one. After an error nothing has changed, and the
+    /// error is Memory or names a condition that the entry breaks.
     pub(crate) fn open(
         &mut self,
         program: &Program,
@@ -117,6 +119,8 @@ impl Marked {
         ensures refused { OnErr result (self.new ≡ self.old) }
         ensures reason { IfErr result (λ r. (t : Table) → IsRightlyRefused program.now t (entry.Open s c a b) self.old r) }
     {
+        // Where token `s` stands: `at` is its node in the marked term and `parent` the node above; `node` is the node of the program on which the
+        // token stands, read in `scope`.
         let spot = self.spot(s)?;
         let TermNode::Prune(f, x, g) = program.node(spot.node as usize) else {
             return Err(RuleFault::Form);
@@ -161,7 +165,8 @@ impl Marked {
         // The nodes on which the marks `a` and `b` are.
         push_within(&mut self.marks, n);
         push_within(&mut self.marks, n + 1);
-        // A side such as `stop` has halted before anything moves in it.
+        // `halts` says of each node of the program whether its term has halted from the start, as a `stop` has. These are the flags of the two new
+        // nodes.
         let left = self.halts.at(f);
         let right = self.halts.at(g);
         push_flag(&mut self.flags, &mut self.candidates, n, left);
@@ -211,7 +216,8 @@ impl Marked {
 
     /// `bind S C V`: token `s` publishes `v` from the right side of cell `c`'s pruning. The cell becomes `v`, the right side is dropped, and the
     /// cancels of its calls are due. The errors: Cancel where a cancel is due, Mark where there is no token `s` or no open cell `c`, Form where the
-    /// token doesn't stand on `v` or anything else takes its publication, and Memory.
+    /// token doesn't stand on `v` or anything else takes its publication, and Memory. `Applies` promises that the entry leads from the old state to
+    /// the new one. After an error nothing has changed, and the error is Memory or names a condition that the entry breaks.
     pub(crate) fn bind(
         &mut self,
         program: &Program,
@@ -223,12 +229,14 @@ impl Marked {
         ensures refused { OnErr result (self.new ≡ self.old) }
         ensures reason { IfErr result (λ r. (t : Table) → IsRightlyRefused program.now t (entry.Bind s c v) self.old r) }
     {
+        // `bearer` says where token `s` stands: `at` is its node in the marked term. The token has to stand on the value `v`.
         let bearer = self.bearer(program, s, v)?;
         self.unbound(c)?;
-        // A token's node is a part of the term, so the walk finds what takes its publication.
+        // `way_up` goes up from the token's node to what takes its publication. The node is a part of the term, so the answer isn't None.
         let Some(taker) = way_up(&self.nodes, bearer.at as usize) else {
             return Err(RuleFault::Form);
         };
+        // Refused where a `>x>` takes the publication, or nothing does.
         let Taker::Bound(cell, at) = taker else {
             return Err(RuleFault::Form);
         };
@@ -267,7 +275,8 @@ impl Marked {
         Ok(())
     }
 
-    /// Where the pruning of cell `c` stands. None if the term has no such pruning, or none any more.
+    /// Where the pruning of cell `c` stands. None if the term has no such pruning, or none any more: `NoPruning` says that no node of the term is
+    /// that pruning.
     pub(crate) fn find_pruning(&self, c: u64) -> Option<Pruning>
         ensures there { IfSome result (λ o. at self.now.nodes o.parent o.at (AtTwo (IsSide c) o.left o.right)) }
         ensures missing { IfNone result (NoPruning self.now.nodes c) }
@@ -283,7 +292,8 @@ impl Marked {
         })
     }
 
-    /// Where the pruning of cell `c` stands. The errors: Cancel where a cancel is due, Mark where there is no such pruning.
+    /// Where the pruning of cell `c` stands. The errors: Cancel where a cancel is due, Mark where there is no such pruning. `Lacks` in the contract
+    /// says that the error is one of these two, with its cause.
     fn pruning(&self, c: u64) -> Result<Pruning, RuleFault>
         ensures free { IfOk result (λ _. self.now.rest.to_cancel ≡ []) }
         ensures there { IfOk result (λ o. at self.now.nodes o.parent o.at (AtTwo (IsSide c) o.left o.right)) }
@@ -298,16 +308,20 @@ impl Marked {
 
     /// `lost C`: cell `c` becomes void, and the right side of its pruning is dropped. The errors: Cancel where a cancel is due, Mark where there is
     /// no such pruning or the cell is bound, Halted where the right side hasn't halted, and Memory. `program` is there for the contract alone.
+    /// `Applies` promises that the entry leads from the old state to the new one. After an error nothing has changed, and the error is Memory or
+    /// names a condition that the entry breaks.
     pub(crate) fn lost(&mut self, program: &Program, c: u64) -> Result<(), RuleFault>
         ensures done { IfOk result (λ _. (t : Table) → Applies program.now t (entry.Lost c) self.old self.new) }
         ensures refused { OnErr result (self.new ≡ self.old) }
         ensures reason { IfErr result (λ r. (t : Table) → IsRightlyRefused program.now t (entry.Lost c) self.old r) }
     {
+        // The pruning's nodes in the marked term: the pruning itself, the node above, and both sides.
         let pruning = self.pruning(c)?;
         self.unbound(c)?;
         if !self.part_has_halted(pruning.right as usize) {
             return Err(RuleFault::Halted);
         }
+        // The nodes of the right side, to be dropped below.
         let side = self.side_at(pruning.right)?;
         // The pruning's node means just its left side from now on. No flag changes: a pruning whose right side has halted has halted exactly if its
         // left side has.

@@ -15,7 +15,7 @@ use orc_term::slot::Slot;
 use orc_term::walk::{Taker, way_up};
 
 impl Marked {
-    /// The nodes, by their numbers: of the term, and those that are gone.
+    /// All nodes of the marked term, node 0 first, and among them those that were dropped: they are gone, but keep their numbers.
     pub fn nodes(&self) -> &[Slot]
         ensures { result.now ≡ self.now.nodes }
     {
@@ -29,7 +29,8 @@ impl Marked {
         &self.rest.calls
     }
 
-    /// What an operand means in a scope: a value, a cell or void. A name that the scope doesn't have means itself.
+    /// What an operand (a value or a name) means in scope `scope`: a value, a cell that is neither bound nor lost, or void. A name that the scope
+    /// doesn't have means itself.
     pub fn param(&self, operand: Operand, scope: usize) -> Param
         ensures { AreOrdered self.now.scopes → close_param (env_of self.now.cells self.now.scopes scope) (param_of operand) ≡ result }
     {
@@ -45,7 +46,8 @@ impl Marked {
         }
     }
 
-    /// What takes a publication of the node of that number. None where no such node is part of the term.
+    /// What takes a publication of the node of number `place` in the marked term: a `>x>`, a pruning, or nothing, so that the whole program publishes
+    /// it. None where no such node is part of the term.
     pub fn taker(&self, place: usize) -> Option<Taker>
         ensures taker { IfSome result (λ w. (n : ℕ) (k : List Frame) (t : Tree) → Stands self.now.nodes n place k t → w ≡ takes k) }
         ensures none { IfNone result ((n : ℕ) (k : List Frame) (t : Tree) → Stands self.now.nodes n place k t → ⊥) }

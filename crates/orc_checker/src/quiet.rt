@@ -31,7 +31,8 @@ impl Marked {
         self.rest.next_due(&self.nodes, &mut self.due)
     }
 
-    /// Whether a rule that is no return can be used, with the program's definitions: a side has halted, or a token can move.
+    /// Whether a rule of Orc that is no return of a call can be used, with the program's definitions: a side of a pruning or otherwise has halted, so
+    /// that it can be dropped, or a token can move.
     pub fn can_move(&mut self, program: &Program) -> bool
         ensures moves { (x : Context) (p : Place) → x.definitions ≡ definitions program.now → Spells x (code program.now) self.old p → result ≡ can_move x.definitions (erase p.marked) }
         ensures same { self.new ≡ self.old }

@@ -76,7 +76,7 @@ impl Rest {
         }
     }
 
-    /// A copy. The error is refused memory.
+    /// A copy of all that is kept. The error is refused memory.
     pub(crate) fn copy(&self, alloc: Global) -> Result<Rest, AllocError>
         ensures { IfOk result (λ r. r ≡ self.now) }
     {
@@ -138,14 +138,14 @@ impl Rest {
         self.calls.len()
     }
 
-    /// The time, in units of logical time.
+    /// The time to which the journal's entries have come, in units of logical time.
     pub(crate) fn time(&self) -> u64
         ensures { result ≡ self.now.time }
     {
         self.time
     }
 
-    /// Whether a cancel is due.
+    /// Whether a cancel is due: a bind has dropped a pending call, and the entry that says so hasn't come. Only a `cancel` is allowed then.
     pub(crate) fn has_cancels(&self) -> bool
         ensures free { result ≡ false → self.now.to_cancel ≡ [] }
         ensures due { result ≡ true → self.now.to_cancel ≡ [] → ⊥ }
@@ -153,14 +153,14 @@ impl Rest {
         !self.to_cancel.is_empty()
     }
 
-    /// The least call whose cancel is due. None where none is.
+    /// The least number of a call whose cancel is due: the list has the least last. None where no cancel is due.
     pub(crate) fn next_cancel(&self) -> Option<u64>
         ensures { result ≡ slice_get self.now.to_cancel 0 }
     {
         self.to_cancel.last().copied()
     }
 
-    /// Makes the cancels of these calls due, that of the list's last call first. They replace those that were due.
+    /// Makes the cancels of the calls with these numbers due, that of the list's last call first. They replace those that were due.
     pub(crate) fn set_cancels(&mut self, calls: Vec<u64>)
         ensures { self.new ≡ record self.old { to_cancel = reverse calls.items } }
     {

@@ -25,7 +25,7 @@ use orc_term::flags::settle;
 use orc_term::room::{fits, push_within};
 use std::alloc::Global;
 
-/// The definition of a number, from 0. None if there is no such definition, which no checked program calls.
+/// The definition of number `number`, from 0, as calls in the program name it. None if there is no such definition, which no checked program calls.
 pub(crate) fn definition(program: &Program, number: u32) -> Option<&Definition>
     ensures there { IfSome result (λ d. slice_get (definitions program.now) number ≡ Some (definition_of program.now (routine_of d.now))) }
     ensures none { IfNone result (slice_get (definitions program.now) number ≡ None) }
@@ -36,7 +36,7 @@ pub(crate) fn definition(program: &Program, number: u32) -> Option<&Definition>
     }
 }
 
-/// Adds a scope. The error is Memory; the list is unchanged then.
+/// Adds `scope` (a name, its meaning, and the scope that it extends) at the end of `scopes`. The error is Memory; the list is unchanged then.
 fn push_scope(scopes: &mut Vec<StoredScope>, scope: Scope) -> Result<(), RuleFault>
     ensures items { OnOk result (scopes.new.items ≡ scopes.old.items ++ scope ∷ []) }
     ensures why { IfErr result (λ r. r ≡ reason.Memory) }
@@ -46,7 +46,7 @@ fn push_scope(scopes: &mut Vec<StoredScope>, scope: Scope) -> Result<(), RuleFau
         .map_err(|_| RuleFault::Memory)
 }
 
-/// Adds scopes. The error is Memory; the list is unchanged then.
+/// Adds the scopes `added` at the end of `scopes`. The error is Memory; the list is unchanged then.
 #[inline(always)]
 fn extend_scopes(scopes: &mut Vec<StoredScope>, added: &Vec<StoredScope>) -> Result<(), RuleFault>
     ensures items { OnOk result (scopes.new.items ≡ scopes.old.items ++ added.now.items) }
@@ -112,12 +112,15 @@ fn parameter_scopes(
 impl Marked {
     /// `def S A`: token `a` on the definition's body takes the place of token `s` on the call. The errors: Cancel where a cancel is due, Mark where
     /// there is no token `s`, Form where it isn't on a call of a definition that is there, or the call's arguments don't fit the parameters, Number
-    /// where `a` isn't the next mark, and Memory.
+    /// where `a` isn't the next mark, and Memory. `Applies` promises that the entry leads from the old state to the new one. After an error nothing
+    /// has changed, and in a closed program, whose calls all fit their definitions, the error is Memory or names a condition that the entry breaks.
     pub(crate) fn def(&mut self, program: &Program, s: u64, a: u64) -> Result<(), RuleFault>
         ensures done { IfOk result (λ _. (t : Table) → Applies program.now t (entry.Def s a) self.old self.new) }
         ensures refused { OnErr result (self.new ≡ self.old) }
         ensures reason { IfErr result (λ r. (t : Table) → IsProgram (definitions program.now) (source program.now) → IsRightlyRefused program.now t (entry.Def s a) self.old r) }
     {
+        // Where token `s` stands: `at` is its node in the marked term and `parent` the node above; `node` is the node of the program on which the
+        // token stands, read in `scope`.
         let spot = self.spot(s)?;
         let TermNode::Call(number, list) = program.node(spot.node as usize) else {
             return Err(RuleFault::Form);
@@ -126,6 +129,7 @@ impl Marked {
             return Err(RuleFault::Form);
         };
         self.expect_mark(a)?;
+        // The call's arguments, which have their meaning in the scope of token `s`.
         let operands = program.operands(list);
         let (added, scope) = parameter_scopes(
             self.nodes.allocator(),

@@ -25,7 +25,8 @@ pub enum Side {
     Left(u64),
 }
 
-// The side that node `part` is; `above` is the kind of the node above it. None if it is no side.
+// The side that node `part` of the marked term is, where `above` is the kind of the node above it. None if the node is no side: neither the right
+// part of an opened pruning nor the left part of an entered otherwise.
 fn side_of(above: Kind, part: usize) -> Option<Side>
     ensures { result ≡ side_of above part }
 {
@@ -41,14 +42,16 @@ fn side_of(above: Kind, part: usize) -> Option<Side>
 }
 
 impl Marked {
-    /// The answer of a call and the time at which it is due, in units of logical time. None where no such call pends, or it is never due.
+    /// The answer of the call of number `call` and the time at which it is due, in units of logical time. None where no such call pends, or it is
+    /// never due.
     pub fn due(&self, call: u64) -> Option<(Answer, u64)>
         ensures { IfSome result (λ d. (x : Context) (l : Listing) (p : Place) → Spells x (code l) self.now p → PendsUntil x p call d) }
     {
         // A law that the prover is shown; nothing runs.
         program_is_source();
+        // None if no call of this number pends.
         let pending = self.find_call(call)?;
-        // Otherwise the table says never.
+        // If the answer isn't `After`, the table says that the call never returns.
         let Found::After(answer, _) = pending.called.found else {
             return None;
         };
@@ -58,7 +61,8 @@ impl Marked {
         }
     }
 
-    /// Whether the right side of a cell's pruning has halted. None where there is no such pruning any more.
+    /// Whether the right side of the pruning `f <x< g` of this cell, which is g, has halted, so that the cell can be lost. None where there is no
+    /// such pruning any more.
     pub fn right_has_halted(&self, cell: u64) -> Option<bool>
         ensures { IfSome result (λ b. (x : Context) (l : Listing) (p : Place) → Spells x (code l) self.now p → RightIs p cell b) }
     {
@@ -66,7 +70,8 @@ impl Marked {
         Some(self.part_has_halted(pruning.right as usize))
     }
 
-    /// Whether the left side of an otherwise has halted. None where there is no such otherwise any more, or it has published.
+    /// Whether the left side of the otherwise `f ; g` of this number, which is f, has halted, so that g can start. None where there is no such
+    /// otherwise any more, or it has published.
     pub fn left_has_halted(&self, otherwise: u64) -> Option<bool>
         ensures { IfSome result (λ b. (x : Context) (l : Listing) (p : Place) → Spells x (code l) self.now p → LeftIs p otherwise b) }
     {
@@ -74,8 +79,9 @@ impl Marked {
         Some(self.part_has_halted(entered.left as usize))
     }
 
-    /// A side that has halted, and None where none has. Of several it is the first that became a candidate, or the one whose node has the least
-    /// number where memory for candidates was refused. The term stays the same.
+    /// A side that has halted, and None where none has. Sides that may have halted are listed as candidates. Of several that have halted the answer
+    /// is the first that became a candidate, or the one whose node has the least number where memory for candidates was refused. The term stays the
+    /// same: only the list of candidates gets shorter.
     pub fn halted_side(&mut self) -> Option<Side>
         ensures side { (x : Context) (l : Listing) (p : Place) → Spells x (code l) self.old p → FindsSide p result }
         ensures same { self.new ≡ self.old }

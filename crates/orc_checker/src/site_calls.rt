@@ -43,7 +43,8 @@ pub(crate) struct Pending {
 impl Marked {
     /// `call S K M(args)`: token `s` on a call of the site M, whose number is `site`, gives way to call `k`, which pends. The errors: Cancel where a
     /// cancel is due, Mark where there is no token `s`, Form where it isn't on a call of `site` whose arguments have the values `args`, Number where
-    /// `k` isn't the next call, and Memory.
+    /// `k` isn't the next call, and Memory. `EntersBy` promises that the entry leads from the old state to the new one. After an error nothing has
+    /// changed, and the error is Memory or names a condition that the entry breaks.
     pub(crate) fn call(
         &mut self,
         program: &Program,
@@ -57,10 +58,13 @@ impl Marked {
         ensures refused { OnErr result (self.new ≡ self.old) }
         ensures reason { IfErr result (λ r. IsRightlyRefused program.now answers.now (entry.Call s k site args.now) self.old r) }
     {
+        // Where token `s` stands: `at` is its node in the marked term and `parent` the node above; `node` is the node of the program on which the
+        // token stands, read in `scope`.
         let spot = self.spot(s)?;
         let TermNode::Site(named, list) = program.node(spot.node as usize) else {
             return Err(RuleFault::Form);
         };
+        // The call's arguments as the program has them: values and names.
         let operands = program.operands(list);
         if named != site
             || !are_arguments(
@@ -95,7 +99,7 @@ impl Marked {
         Ok(())
     }
 
-    /// Tests that `k`, the number of a new call, is the next one. The error is Number: `k` is another number.
+    /// Tests that `k`, the number of a new call, is the next one: one more than the calls that were made. The error is Number: `k` is another number.
     fn expect_call(&self, k: u64) -> Result<(), RuleFault>
         ensures next { IfOk result (λ _. k ≡ suc (length self.now.rest.calls)) }
         ensures refused { IfErr result (λ r. (r ≡ reason.Number) × (k ≡ suc (length self.now.rest.calls) → ⊥)) }
@@ -108,7 +112,8 @@ impl Marked {
         }
     }
 
-    /// Where call `k` pends. None if there was no such call, or it has returned or been dropped with a side.
+    /// Where call `k` pends: its node in the marked term, and what is kept of it. None if there was no such call, or it has returned or been dropped
+    /// with a side of a pruning or otherwise.
     pub(crate) fn find_call(&self, k: u64) -> Option<Pending>
         ensures there { IfSome result (λ w. at self.now.nodes w.parent w.at (AtLeaf (Waits k))) }
         ensures call { IfSome result (λ w. IsCall self.now.rest k w.called) }
@@ -127,7 +132,8 @@ impl Marked {
         })
     }
 
-    /// Where call `k` pends. The errors: Cancel where a cancel is due, Mark where no such call pends.
+    /// Where call `k` pends. The errors: Cancel where a cancel is due, Mark where no such call pends. `Lacks` says that the error is one of these,
+    /// with its cause.
     fn pending(&self, k: u64) -> Result<Pending, RuleFault>
         ensures free { IfOk result (λ _. self.now.rest.to_cancel ≡ []) }
         ensures there { IfOk result (λ w. at self.now.nodes w.parent w.at (AtLeaf (Waits k))) }
@@ -146,7 +152,8 @@ impl Marked {
 
     /// `return K A V`: call `k` returns the value `v`, and token `a` is on it. The errors: Cancel where a cancel is due, Mark where no call `k`
     /// pends, Number where `a` isn't the next mark, Answer where the table says another answer or never, Time where the answer isn't due now, and
-    /// Memory.
+    /// Memory. `EntersBy` promises that the entry leads from the old state to the new one. After an error nothing has changed, and the error is
+    /// Memory or names a condition that the entry breaks.
     pub(crate) fn return_value(
         &mut self,
         answers: &Answers,
@@ -158,6 +165,7 @@ impl Marked {
         ensures refused { OnErr result (self.new ≡ self.old) }
         ensures reason { IfErr result (λ r. (l : Listing) → IsRightlyRefused l answers.now (entry.Return k a v) self.old r) }
     {
+        // Where the call pends: `at` is its node in the marked term, `parent` the node above, and `called` has what the table said of it.
         let pending = self.pending(k)?;
         self.expect_mark(a)?;
         is_due_now(pending.called, Answer::Value(v), self.rest.time())?;
@@ -180,12 +188,14 @@ impl Marked {
     }
 
     /// `return K halt`: call `k` halts, and its node becomes a `stop` without a token. The errors: Cancel where a cancel is due, Mark where no call
-    /// `k` pends, Answer where the table says another answer or never, and Time where the answer isn't due now.
+    /// `k` pends, Answer where the table says another answer or never, and Time where the answer isn't due now. `EntersBy` promises that the entry
+    /// leads from the old state to the new one. After an error nothing has changed, and the error names a condition that the entry breaks.
     pub(crate) fn return_halt(&mut self, answers: &Answers, k: u64) -> Result<(), RuleFault>
         ensures done { IfOk result (λ _. (c : ℕ → Term) → EntersBy answers.now.sites c (entry.ReturnHalt k) self.old self.new) }
         ensures refused { OnErr result (self.new ≡ self.old) }
         ensures reason { IfErr result (λ r. (l : Listing) → IsRightlyRefused l answers.now (entry.ReturnHalt k) self.old r) }
     {
+        // Where the call pends: `at` is its node in the marked term, `parent` the node above, and `called` has what the table said of it.
         let pending = self.pending(k)?;
         is_due_now(pending.called, Answer::Halt, self.rest.time())?;
         self.nodes.write_node(

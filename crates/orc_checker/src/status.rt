@@ -15,7 +15,7 @@ use crate::marked::Marked;
 use orc_term::flags::flag_at;
 
 impl Marked {
-    /// Whether the term has halted.
+    /// Whether the whole marked term has halted: nothing in it can call or publish any more. A flag of that is kept, so nothing is searched.
     pub fn has_halted(&self) -> bool
         ensures { (x : Context) (l : Listing) (p : Place) → Spells x (code l) self.now p → result ≡ has_halted (erase p.marked) }
     {
@@ -23,7 +23,8 @@ impl Marked {
         flag_at(&self.flags, 0)
     }
 
-    /// Whether the part of the marked term at a node has halted; true where there is no such node.
+    /// Whether the part of the marked term whose topmost node has the number `node` has halted, by the flag that is kept for it; true where there is
+    /// no such node.
     pub fn part_has_halted(&self, node: usize) -> bool
         ensures { result ≡ flag self.now.flags node }
     {

@@ -33,6 +33,7 @@ fn is_ready(scopes: &[StoredScope], cells: &[Bound], operand: Operand, scope: us
 {
     match meaning(scopes, cells, operand, scope) {
         Some(Bound::Cell(_)) => false,
+        // A value can be published, and a token on void can end.
         Some(_) => true,
         // A free name, which no checked program has.
         None => false,
@@ -45,6 +46,7 @@ fn are_values(scopes: &[StoredScope], cells: &[Bound], operands: &[Operand], sco
     ensures { AreOrdered scopes.now → result ≡ is_some (values_of (params_in cells.now scopes.now scope operands.now)) }
 {
     match operands {
+        // No operand is left: all are values.
         [] => true,
         [operand, operands @ ..] => match meaning(scopes, cells, *operand, scope) {
             Some(Bound::Is(_)) => are_values(scopes, cells, operands, scope),
@@ -61,8 +63,9 @@ fn is_callable(scopes: &[StoredScope], cells: &[Bound], operands: &[Operand], sc
     are_values(scopes, cells, operands, scope) || has_void(scopes, cells, operands, scope)
 }
 
-/// Whether a node of the program can move in a scope by a rule of its own. `halts` says for each node whether its term has halted. The function flags
-/// in `active` the parts by whose moves the node can move too, and clears no flag.
+/// Whether a node of the program can move in scope `scope` by a rule of its own, not by one of its parts. `cells` says what has become of each cell.
+/// `halts` says for each node whether its term has halted. The function flags in `active` the parts by whose moves the node can move too, and clears
+/// no flag.
 fn wakes(
     program: &Program,
     halts: &Vec<bool>,
@@ -78,7 +81,7 @@ fn wakes(
     // A fact that the prover is shown: each node stands behind its parts. Nothing runs.
     program.are_parts_first();
     match program.node(node) {
-        // Its token can only end, which uses no rule.
+        // A token on a `stop` can only end, which uses no rule of Orc.
         TermNode::Stop => false,
         TermNode::Operand(operand) => is_ready(scopes, cells, operand, scope),
         TermNode::Site(_, list) => is_callable(scopes, cells, program.operands(list), scope),
@@ -87,6 +90,7 @@ fn wakes(
             // No checked program calls a definition that it doesn't have.
             None => false,
         },
+        // A `|` moves by its sides alone: both are flagged, and the caller looks at them.
         TermNode::Par(f, g) => {
             write_flag(active, f, true);
             write_flag(active, g, true);
@@ -97,7 +101,7 @@ fn wakes(
             write_flag(active, f, true);
             false
         }
-        // It can be opened.
+        // A token on `f <x< g` can open it.
         TermNode::Prune(_, _, _) => true,
         // Once the left side has halted, the right one can start.
         TermNode::Other(f, _) => {
@@ -107,8 +111,8 @@ fn wakes(
     }
 }
 
-/// Whether the term at a node of the program can move in a scope: the node or one of its parts. `active` has a flag for each node of the program and
-/// is overwritten.
+/// Whether the term at node `node` of the program can move in scope `scope`: the node itself or one of its parts. `halts` says for each node whether
+/// its term has halted, and `cells` what has become of each cell. `active` has a flag for each node of the program and is overwritten.
 fn can_term_move(
     program: &Program,
     halts: &Vec<bool>,
@@ -178,11 +182,13 @@ fn can_token_move(
         ),
         // The value can be published.
         Kind::Leaf(Tip::Bears(_, _)) => true,
+        // A `stop` without a token, a pending call, a dropped node, or a node with parts.
         _ => false,
     }
 }
 
-/// Whether some token of the marked term can move. All tokens are on restless nodes, which are listed, so no others are looked at.
+/// Whether some token of the marked term can move. All tokens are on the nodes of the list `restless`, so no others are looked at. Of `halts` only
+/// scratch flags change.
 pub(crate) fn can_some_move(
     program: &Program,
     halts: &mut Halts,

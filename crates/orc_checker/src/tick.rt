@@ -16,7 +16,8 @@ use orc_rules::program::Program;
 
 impl Marked {
     /// `tick T`: the time becomes `t`, in units of logical time. The errors: Cancel where a cancel is due, and Time where no pending call is ever
-    /// due, `t` isn't the least due time or isn't later than now, or something else can happen now.
+    /// due, `t` isn't the least due time or isn't later than now, or something else can happen now. `Applies` promises that the entry leads from the
+    /// old state to the new one. After an error nothing has changed, and the error names a condition that the entry breaks.
     pub(crate) fn tick(&mut self, program: &Program, t: u64) -> Result<(), RuleFault>
         ensures done { IfOk result (λ _. (sites : Table) → Applies program.now sites (entry.Tick t) self.old self.new) }
         ensures refused { OnErr result (self.new ≡ self.old) }
@@ -25,9 +26,11 @@ impl Marked {
         // Laws that the prover is shown; nothing runs.
         program_is_source();
         tests_are_right();
+        // While a cancel is due no other entry is allowed.
         if self.rest.has_cancels() {
             return Err(RuleFault::Cancel);
         }
+        // The least time at which a pending call is due. None if no pending call is ever due: then the time can't go on.
         let Some(due) = self.rest.next_due(&self.nodes, &mut self.due) else {
             return Err(RuleFault::Time);
         };

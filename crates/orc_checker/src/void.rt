@@ -24,13 +24,14 @@ use orc_rules::program::{Program, TermNode};
 use orc_term::arena::{Kind, Node, Tip};
 use orc_term::flags::settle;
 
-/// Whether an operand is void in scope `scope`, where `cells` says what has become of each cell.
+/// Whether an operand is void in scope `scope`: a name for a cell that was lost. `cells` says what has become of each cell.
 fn is_void(scopes: &[StoredScope], cells: &[Bound], operand: Operand, scope: usize) -> bool
     ensures void { result ≡ true → AreOrdered scopes.now → IsVoid (param (close_param (env_of cells.now scopes.now scope) (param_of operand))) }
     ensures other { result ≡ false → AreOrdered scopes.now → IsVoid (param (close_param (env_of cells.now scopes.now scope) (param_of operand))) → ⊥ }
 {
     match meaning(scopes, cells, operand, scope) {
         Some(Bound::Void) => true,
+        // It is a value, a cell that isn't bound yet, or a name that the scope doesn't have.
         _ => false,
     }
 }
@@ -46,6 +47,7 @@ pub(crate) fn has_void(
     ensures { AreOrdered scopes.now → result ≡ has_void (params_in cells.now scopes.now scope operands.now) }
 {
     match operands {
+        // No operand is left, so none is void.
         [] => false,
         [operand, operands @ ..] => match meaning(scopes, cells, *operand, scope) {
             Some(Bound::Void) => true,
@@ -55,7 +57,8 @@ pub(crate) fn has_void(
 }
 
 impl Marked {
-    /// Whether the token at `spot` stands on void, or on a call of a site with a void argument.
+    /// Whether the token at `spot` stands on void, or on a call of a site with a void argument. The clause `running` adds that what it stands on
+    /// hasn't halted then.
     fn on_void(&self, program: &Program, spot: Spot) -> bool
         ensures void { result ≡ true → AreOrdered self.now.scopes → IsVoid (close (env_of self.now.cells self.now.scopes spot.scope) (code program.now spot.node)) }
         ensures other { result ≡ false → AreOrdered self.now.scopes → IsVoid (close (env_of self.now.cells self.now.scopes spot.scope) (code program.now spot.node)) → ⊥ }
@@ -78,13 +81,16 @@ impl Marked {
         }
     }
 
-    /// `void S`: token `s` ends. The errors: Cancel where a cancel is due, Mark where there is no token `s`, and Form where it isn't on void or on a
-    /// call of a site with a void argument.
+    /// The entry `void S`: token `s`, the one with that mark, ends. The errors: Cancel where a cancel is due, Mark where there is no token `s`, and
+    /// Form where it isn't on void or on a call of a site with a void argument. `Enters` promises that the entry leads from the old state to the new
+    /// one. After an error nothing has changed, and the error is Memory or names a condition that the entry breaks.
     pub(crate) fn void(&mut self, program: &Program, s: u64) -> Result<(), RuleFault>
         ensures done { IfOk result (λ _. Enters (code program.now) (entry.Void s) self.old self.new) }
         ensures refused { OnErr result (self.new ≡ self.old) }
         ensures reason { IfErr result (λ r. (t : Table) → IsRightlyRefused program.now t (entry.Void s) self.old r) }
     {
+        // Where token `s` stands: `at` is its node in the marked term and `parent` the node above; `node` is the node of the program on which the
+        // token stands, read in `scope`.
         let spot = self.spot(s)?;
         if !self.on_void(program, spot) {
             return Err(RuleFault::Form);

@@ -22,8 +22,8 @@ pub(crate) fn up_to(most: Option<u64>, number: u64) -> bool
 }
 
 impl Event {
-    // Whether a happening counts: it meets the event, at the time `by` at the latest. `found` is scratch memory: what is in it before and after
-    // doesn't matter. The error is refused memory.
+    // Whether a happening counts: it meets the event (is what the event describes), at the time `by` at the latest, where None is no bound. `found`
+    // is scratch memory: what is in it before and after doesn't matter. The error is refused memory.
     fn counts(
         &self,
         by: Option<u64>,
@@ -38,7 +38,8 @@ impl Event {
         Ok(up_to(by, happening.time))
     }
 
-    /// How many happenings meet the event, at the time `by` at the latest, where None is no bound. The error is refused memory.
+    /// How many happenings meet the event (are what it describes), at the time `by` at the latest, in units of logical time, where None is no bound.
+    /// The error is refused memory.
     pub(crate) fn number(
         &self,
         alloc: Global,
@@ -51,6 +52,7 @@ impl Event {
         let mut found = Vec::new(alloc);
         let mut number: u64 = 0;
         for at in 0..happenings.len() {
+            // The happening meets the event in time.
             if self.counts(by, &happenings[at], &mut found)? {
                 number += 1;
             }
@@ -59,7 +61,7 @@ impl Event {
     }
 
     /// The place, from 0, of the happening that is one too many: of those up to the time `by` that meet the event, the one behind the first `most`.
-    /// None if there is no such happening. The error is refused memory.
+    /// None as `most` or `by` is no bound. None if there is no such happening. The error is refused memory.
     #[tactic(auto, using(crate::proofs::Placed::goes_on, crate::proofs::Placed::stops, crate::proofs::Placed::done))]
     pub(crate) fn first_too_many(
         &self,
@@ -84,8 +86,8 @@ impl Event {
         Ok(None)
     }
 
-    // How many calls that meet the event are pending after a happening, if `out` of them were pending before it. `found` is scratch memory. The error
-    // is refused memory.
+    // How many calls that meet the event are pending after the happening, if `out` of them were pending before it. The clause asks that the sum
+    // doesn't overflow. `found` is scratch memory. The error is refused memory.
     fn out_after(
         &self,
         out: u64,
@@ -96,9 +98,11 @@ impl Event {
         ensures count { IfOk result (λ n. n ≡ out_after self.now out happening.now) }
         ensures most { IfOk result (λ n. n ≤ out + 1) }
     {
+        // A publication doesn't change how many calls pend.
         let Occurrence::Call(site, args, phase) = &happening.what else {
             return Ok(out);
         };
+        // The call is made, and pends from now on.
         if *phase == Phase::Called {
             return Ok(if self.is_met(happening, found)? {
                 out + 1

@@ -23,7 +23,7 @@ pub struct Bound {
     pub(crate) value: Value,
 }
 
-// The value that a variable has; None if it has none yet.
+// The value that the variable of number `variable` has in the list `given`; None if it has none yet.
 fn value_in(given: &[Bound], variable: u32) -> Option<Value>
     ensures { result ≡ value_in given.now variable }
 {
@@ -41,7 +41,7 @@ fn value_in(given: &[Bound], variable: u32) -> Option<Value>
     }
 }
 
-// Whether these are the same variables with the same values, in the same order. The contract promises nothing of the answer false.
+// Whether `one` and `other` have the same variables with the same values, in the same order. The contract promises nothing of the answer false.
 fn are_same(one: &[Bound], other: &[Bound]) -> bool
     ensures { result ≡ true → one.now ≡ other.now }
 {
@@ -79,16 +79,19 @@ pub(crate) fn is_known(known: &[Vec<Bound>], given: &[Bound]) -> bool
 }
 
 impl Slot {
-    // Whether the value can stand in the slot, where `given` are the values that variables have. A variable without a value gets this one. The error
-    // is refused memory; so it is in the functions below.
+    // Whether the value can stand in the slot (a value, `_` or a variable), where `given` are the values that variables have. A variable without a
+    // value gets this one. The error is refused memory; so it is in the functions below.
     fn fit(self, value: Value, given: &mut Vec<Bound>) -> Result<bool, AllocError>
         ensures { IfOk result (λ fits. fit self value given.old.items ≡ cond fits (Some given.new.items) None) }
     {
         match self {
+            // `_` takes any value.
             Slot::Any => Ok(true),
             Slot::Literal(wanted) => Ok(is_same(wanted, value)),
             Slot::Variable(variable) => match value_in(given.as_slice(), variable) {
+                // The variable has a value already, which this one has to be.
                 Some(wanted) => Ok(is_same(wanted, value)),
+                // The variable has no value yet, so it gets this one.
                 None => {
                     given.push(Bound { variable, value })?;
                     Ok(true)
@@ -107,8 +110,10 @@ fn fit_all(slots: &[Slot], values: &[Value], given: &mut Vec<Bound>) -> Result<b
     let mut others = values;
     loop {
         match rest {
+            // No slot is left, so no value may be left.
             [] => return Ok(others.is_empty()),
             [slot, more @ ..] => match others {
+                // A slot is left, but no value.
                 [] => return Ok(false),
                 [value, behind @ ..] => {
                     if !slot.fit(*value, given)? {
@@ -123,8 +128,8 @@ fn fit_all(slots: &[Slot], values: &[Value], given: &mut Vec<Bound>) -> Result<b
 }
 
 impl Wanted {
-    // Whether what became of a call is what is wanted. The value of an answer must also fit its slot, whose variable may get it in `given`. The error
-    // is refused memory.
+    // Whether what became of a call (`phase`) is what is wanted of it (`self`). The value of an answer must also fit its slot, whose variable may get
+    // it in `given`. The error is refused memory.
     fn fit(self, phase: Phase, given: &mut Vec<Bound>) -> Result<bool, AllocError>
         ensures { IfOk result (λ fits. fit_phase self phase given.old.items ≡ cond fits (Some given.new.items) None) }
     {
@@ -140,16 +145,18 @@ impl Wanted {
 }
 
 impl Simple {
-    // Whether what happened is what this describes. If so, `given` has the values that its variables had before, and those that they got by this. The
-    // error is refused memory.
+    // Whether what happened is what this alternative of an event describes: such a call, or such a publication. If so, `given` has the values that
+    // its variables had before, and those that they got by this. The error is refused memory.
     fn meets(&self, what: &Occurrence, given: &mut Vec<Bound>) -> Result<bool, AllocError>
         ensures { IfOk result (λ met. meets_one self.now what.now given.old.items ≡ cond met (Some given.new.items) None) }
     {
         match (self, what) {
             (Simple::Call(site, slots, wanted), Occurrence::Call(called, args, phase)) => {
+                // The call is one of another site.
                 if *site != *called {
                     return Ok(false);
                 }
+                // The arguments of the call have to fit the event's slots.
                 if !fit_all(slots.as_slice(), args.as_slice(), given)? {
                     return Ok(false);
                 }
@@ -176,6 +183,7 @@ impl Event {
         let mut rest = self.alternatives.as_slice();
         loop {
             match rest {
+                // No alternative is left: the happening meets none.
                 [] => return Ok(false),
                 [simple, more @ ..] => {
                     // Each alternative begins with the values `given`: one that isn't met may have added others.
@@ -199,6 +207,7 @@ impl Event {
     ) -> Result<bool, AllocError>
         ensures { IfOk result (λ met. met ≡ is_met self.now happening.now) }
     {
+        // No variable has a value before.
         self.meets(happening, &[], found)
     }
 }

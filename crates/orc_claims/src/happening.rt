@@ -27,7 +27,7 @@ pub enum Occurrence {
 /// What happens, and when.
 #[derive(Drop)]
 pub struct Happening {
-    /// In units of logical time.
+    /// When it happens, in units of logical time.
     pub time: u64,
     pub what: Occurrence,
 }

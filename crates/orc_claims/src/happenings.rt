@@ -37,7 +37,7 @@ impl Model for Happenings {
 }
 
 impl Happenings {
-    /// Those of no entries, at time 0.
+    /// The happenings before any entry was read: none, at time 0.
     pub fn new(alloc: Global) -> Happenings
         ensures { result ≡ begin }
     {
@@ -48,22 +48,22 @@ impl Happenings {
         }
     }
 
-    /// What happened, in its order.
+    /// What happened so far, in the order of the journal's entries.
     pub fn as_slice(&self) -> &[Happening]
         ensures { result.now ≡ self.now.happened }
     {
         self.happened.as_slice()
     }
 
-    /// The time to which the entries have come.
+    /// The time to which the entries that were read have come, in units of logical time.
     pub fn time(&self) -> u64
         ensures { result ≡ self.now.time }
     {
         self.time
     }
 
-    // Adds a happening: what became of the call of this number. It adds nothing if there is no such call, which no accepted journal has. The error is
-    // refused memory, and then nothing changes.
+    // Adds a happening: what became of the call of number `call`, from 1. Nothing is added if there is no such call; no accepted journal names one.
+    // The error is refused memory, and then nothing changes.
     fn become_of(&mut self, call: u64, phase: Phase) -> Result<(), AllocError>
         ensures told { OnOk result (self.new ≡ becomes self.old (made_as call self.old.made) phase) }
         ensures refused { OnErr result (self.new ≡ self.old) }
@@ -72,6 +72,7 @@ impl Happenings {
         let Some(place) = call.checked_sub(1) else {
             return Ok(());
         };
+        // The call's site and arguments, which the happening has, too.
         let Some(made) = self.made.get(place as usize) else {
             return Ok(());
         };
@@ -82,7 +83,8 @@ impl Happenings {
         Ok(())
     }
 
-    // Adds the happening that a call is made. The call gets the next number. The error is refused memory, and then nothing changes.
+    // Adds the happening that a call of the site of number `site` is made. The call gets the next number. The error is refused memory, and then
+    // nothing changes.
     fn make(&mut self, site: u32, args: &Args) -> Result<(), AllocError>
         ensures told { OnOk result (self.new ≡ calls self.old site args.now) }
         ensures refused { OnErr result (self.new ≡ self.old) }
@@ -127,7 +129,7 @@ impl Happenings {
                 self.time = *time;
                 Ok(())
             }
-            // All other entries only move marks or settle cells, which nobody outside sees.
+            // All other entries only move the tokens of the run or settle the cells of its prunings, which nobody outside sees.
             _ => Ok(()),
         }
     }

@@ -14,8 +14,9 @@ use crate::happening::Happening;
 use std::alloc::{AllocError, Global};
 
 impl Event {
-    /// Whether one of these happenings meets the event, where variables have the values `given`, and at most `most` units after the time `since`;
-    /// None is no bound. `found` is scratch memory: what is in it before and after doesn't matter. The error is refused memory.
+    /// Whether one of these happenings meets the event (is what it describes), where variables have the values `given`, and at most `most` units
+    /// after the time `since`; `most` as None is no bound. `found` is scratch memory: what is in it before and after doesn't matter. The error is
+    /// refused memory.
     pub(crate) fn any_meets(
         &self,
         given: &[Bound],
@@ -42,8 +43,9 @@ impl Event {
         }
     }
 
-    // Whether a happening doesn't meet the event, or an earlier one met the other event with the same values of the variables. `known` lists values
-    // with which an earlier one met the other event; what is found is added, so that it isn't looked for again. The error is refused memory.
+    // Whether a happening is as `E only after F` asks, where E is this event and F is `other`: the happening doesn't meet E, or one in `before` met F
+    // with the same values of the variables. `known` lists values with which an earlier happening met F, as the clause `AreMet` asks; values that are
+    // found are added, so that they aren't looked for again. The error is refused memory.
     fn is_prepared(
         &self,
         alloc: Global,
@@ -61,6 +63,7 @@ impl Event {
         if !self.meets(happening, &[], &mut given)? {
             return Ok(true);
         }
+        // An earlier happening met the other event with these values; that was found before.
         if is_known(known.as_slice(), given.as_slice()) {
             return Ok(true);
         }
@@ -74,8 +77,8 @@ impl Event {
         Ok(true)
     }
 
-    /// The place, from 0, of the first happening that meets the event though none before it met the other event with the same values of the
-    /// variables; None if there is no such happening. The error is refused memory.
+    /// The place, from 0, of the first happening that breaks `E only after F`, where E is this event and F is `other`: it meets E, though none before
+    /// it met F with the same values of the variables; None if there is no such happening. The error is refused memory.
     #[tactic(auto, using(crate::proofs::Placed::goes_on, crate::proofs::Placed::stops, crate::proofs::Placed::done, crate::proofs::Known::still_met))]
     pub(crate) fn first_unprepared(
         &self,
@@ -96,7 +99,8 @@ impl Event {
         Ok(None)
     }
 
-    // Whether one of the happenings before met the other event with values with which this happening meets this event. The error is refused memory.
+    // Whether a happening breaks `no E after F`, where E is this event and F is `other`: one of the happenings in `before` met F with values with
+    // which `happening` meets E. The error is refused memory.
     fn any_forbids(
         &self,
         alloc: Global,
@@ -126,8 +130,8 @@ impl Event {
         }
     }
 
-    /// The place, from 0, of the first happening that meets the event with the values with which one before it met the other; None if there is none.
-    /// The error is refused memory.
+    /// The place, from 0, of the first happening that breaks `no E after F`, where E is this event and F is `other`: it meets E with the values with
+    /// which one before it met F. None if there is none. The error is refused memory.
     #[tactic(auto, using(crate::proofs::Placed::goes_on, crate::proofs::Placed::stops, crate::proofs::Placed::done))]
     pub(crate) fn first_forbidden(
         &self,
@@ -145,8 +149,8 @@ impl Event {
         Ok(None)
     }
 
-    // Whether a happening doesn't meet the event, or a later one meets the other event with the same values of the variables, at most `within` units
-    // later. The error is refused memory.
+    // Whether a happening is as `each E then F within N` asks, where E is this event, F is `other` and N is `within` (None: no bound): the happening
+    // doesn't meet E, or one in `behind` meets F with the same values of the variables, at most N units later. The error is refused memory.
     fn is_followed(
         &self,
         alloc: Global,
@@ -168,8 +172,9 @@ impl Event {
         other.any_meets(given.as_slice(), happening.time, within, behind, &mut found)
     }
 
-    /// The place, from 0, of the first happening that meets the event though none behind it meets the other event with the same values of the
-    /// variables, at most `within` units later; None if there is no such happening. The error is refused memory.
+    /// The place, from 0, of the first happening that breaks `each E then F within N`, where E is this event, F is `other` and N is `within` (None:
+    /// no bound): it meets E, though none behind it meets F with the same values of the variables, at most N units later; None if there is no such
+    /// happening. The error is refused memory.
     #[tactic(auto, using(crate::proofs::Placed::goes_on, crate::proofs::Placed::stops, crate::proofs::Placed::done))]
     pub(crate) fn first_unfollowed(
         &self,

@@ -9,7 +9,7 @@ use orc_rules::builtin::is_same;
 use orc_rules::value::Value;
 use std::alloc::{AllocError, Global};
 
-/// The values that were published, in order. The error is refused memory.
+/// The values that were published in a run, in the order of its happenings. The error is refused memory.
 pub(crate) fn published(alloc: Global, happenings: &[Happening]) -> Result<Vec<Value>, AllocError>
     ensures { IfOk result (λ values. values.items ≡ published happenings.now) }
 {
@@ -36,8 +36,10 @@ pub(crate) fn are_in_order(wanted: &[Option<Value>], values: &[Value]) -> bool
     let mut others = values;
     loop {
         match rest {
+            // No value is wanted any more, so none may be left.
             [] => return others.is_empty(),
             [slot, more @ ..] => match others {
+                // A value is wanted, but none is left.
                 [] => return false,
                 [value, behind @ ..] => {
                     if let Some(wanted) = slot
@@ -53,7 +55,7 @@ pub(crate) fn are_in_order(wanted: &[Option<Value>], values: &[Value]) -> bool
     }
 }
 
-// How often a value is among these.
+// How often `value` is among `values`.
 fn times(value: Value, values: &[Value]) -> usize
     ensures { result ≡ times value values.now }
 {
@@ -85,7 +87,7 @@ fn each_as_often(first: &[Value], values: &[Value], others: &[Value]) -> bool
     true
 }
 
-/// Whether these are the same values in any order, each as often. It takes the time of their number squared.
+/// Whether `values` are the wanted ones in any order, each as often. It takes the time of their number squared.
 pub(crate) fn are_same_in_any_order(wanted: &[Value], values: &[Value]) -> bool
     ensures { result ≡ are_same_in_any_order wanted.now values.now }
 {
@@ -97,12 +99,14 @@ pub(crate) fn are_same_in_any_order(wanted: &[Value], values: &[Value]) -> bool
 pub(crate) fn is_one_of(wanted: &[Value], values: &[Value]) -> bool
     ensures { result ≡ is_one_of wanted.now values.now }
 {
+    // False where no value was published, or more than one.
     let [value] = values else {
         return false;
     };
     let mut rest = wanted;
     loop {
         match rest {
+            // It is none of the wanted ones.
             [] => return false,
             [wanted, more @ ..] => {
                 if is_same(*wanted, *value) {

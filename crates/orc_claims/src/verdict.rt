@@ -30,7 +30,8 @@ pub struct Judged {
     pub tested: bool,
 }
 
-// Whether a run ended in an allowed way: `halted` allows Halted, `quiet` allows Quiet. A run that was cut is Running, which is never allowed.
+// Whether a run that ended as `end` says ended in an allowed way: `halted` allows Halted, `quiet` allows Quiet. A run that was cut is Running, which
+// is never allowed.
 fn ends_so(halted: bool, quiet: bool, end: State) -> bool
     ensures { result ≡ ends_so halted quiet end }
 {
@@ -41,7 +42,7 @@ fn ends_so(halted: bool, quiet: bool, end: State) -> bool
     }
 }
 
-// Whether a greatest number is 0: the claim is that something never happens. False if there is no greatest number.
+// Whether the greatest number of a claim's count is 0: the claim is that something never happens. False if there is no greatest number (None).
 fn is_none_at_all(most: Option<u64>) -> bool
     ensures { result ≡ is_none_at_all most }
 {
@@ -52,8 +53,8 @@ fn is_none_at_all(most: Option<u64>) -> bool
 }
 
 impl Plain {
-    // The place, from 0, of the first happening at which a claim fails; None if it fails at none, though perhaps at the end. The error is refused
-    // memory.
+    // The place, from 0, of the first happening at which this claim (without its conditions) fails; None if it fails at none, though perhaps at the
+    // end of the run. The error is refused memory.
     fn place(&self, alloc: Global, happenings: &[Happening]) -> Result<Option<usize>, AllocError>
         ensures { IfOk result (λ at. at ≡ place self.now happenings.now) }
     {
@@ -104,7 +105,8 @@ impl Plain {
         }
     }
 
-    // The verdict on a claim whose conditions are met. `end` is how the run ended, and `now` when. The error is refused memory.
+    // The verdict on this claim, whose conditions are met: it holds, or where it fails. `end` is how the run ended, and `now` when. The error is
+    // refused memory.
     fn verdict(
         &self,
         alloc: Global,
@@ -114,6 +116,7 @@ impl Plain {
     ) -> Result<Verdict, AllocError>
         ensures { IfOk result (λ v. v ≡ verdict_plain self.now happenings.now end now) }
     {
+        // A happening breaks the claim.
         if let Some(at) = self.place(alloc, happenings)? {
             return Ok(Verdict::FailsAt(at));
         }
@@ -138,9 +141,11 @@ impl Plain {
                 // Counted from time 0, `by` is a wait as well as a time.
                 event.any_meets(&[], 0, *by, happenings, &mut found)
             }
+            // Tested if the claim's first event happens, at any time.
             Plain::AtOnce(event, _) | Plain::OnlyAfter(event, _) | Plain::EachThen(event, _, _) => {
                 event.any_meets(&[], 0, None, happenings, &mut found)
             }
+            // `no E after F` is tested if an F happens.
             Plain::NoneAfter(_, other) => other.any_meets(&[], 0, None, happenings, &mut found),
             // A claim on the end or on all publications.
             _ => Ok(true),
@@ -148,7 +153,7 @@ impl Plain {
     }
 }
 
-// Whether all conditions are met in the run. The error is refused memory.
+// Whether all conditions are met in the run: the event of each happens, or with `no` doesn't happen. The error is refused memory.
 fn come_true(
     alloc: Global,
     conditions: &[Condition],
@@ -186,6 +191,7 @@ impl Claim {
     ) -> Result<Judged, AllocError>
         ensures { IfOk result (λ j. j ≡ judged self.now happenings.now end now) }
     {
+        // A condition isn't met, so the claim asks nothing of this run.
         if !come_true(alloc, self.conditions.as_slice(), happenings)? {
             return Ok(Judged {
                 verdict: Verdict::Holds,

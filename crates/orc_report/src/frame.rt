@@ -23,7 +23,7 @@ const SHOWN: u64 = 100;
 /// How many columns before the place that is pointed at are shown at most.
 const BEFORE: u64 = 60;
 
-// The line that begins at this byte, without its LF and the blanks at its end.
+// The line that begins at the byte `start` of the text, without its LF and the blanks at its end. Empty where `start` is beyond the text's end.
 fn line_from(text: &[u8], start: usize) -> &[u8] {
     let rest = text.get(start..).unwrap_or(b"");
     let end = match rest.iter().position(|byte| *byte == b'\n') {
@@ -44,7 +44,8 @@ pub fn left_out(column: u64) -> u64 {
     column.saturating_sub(BEFORE).saturating_sub(1)
 }
 
-/// How many decimal digits a number has.
+/// How many decimal digits a number has, from 1 on; the clauses say that 10 to the power of the answer is over the number, and that no smaller answer
+/// would do.
 pub fn digits(number: u64) -> u64
     ensures some { 1 ≤ result }
     ensures most { number < 10 ^ result }
@@ -58,18 +59,20 @@ pub fn digits(number: u64) -> u64
 }
 
 impl Page {
-    /// Writes the beginning of a line without a number: blanks as wide as the numbers are, and the bar.
+    /// Writes the beginning of a line without a number: blanks as wide as the numbers of the lines that are shown, and the bar `|` that stands behind
+    /// these numbers.
     pub fn margin(&mut self) {
         self.inset();
         self.say(" |");
     }
 
-    /// Writes as many blanks as the numbers at the left are wide.
+    /// Writes as many blanks as the gutter is wide: the column at the left in which the numbers of lines stand.
     pub fn inset(&mut self) {
         self.fill(' ', self.gutter);
     }
 
-    /// Makes room at the left for numbers as wide as this one, the greatest that will be shown. Until it is called there is room for one digit.
+    /// Makes the gutter at the left wide enough for `number`, the greatest number of a line that will be shown. Until it is called there is room for
+    /// one digit.
     pub fn widen(&mut self, number: u64) {
         self.gutter = digits(number);
     }
@@ -87,12 +90,13 @@ impl Page {
         self.say_number(", column ", place.column as u64, "");
     }
 
-    // Writes the columns of a line without its `first` ones: a blank before them, or ` ..` if columns are left out. The byte at `place` is a column
-    // of its own, even in the middle of a character: a fault may be there. Blanks are counted, and written before what follows them, so no line ends
-    // with one. Of a character of several bytes the first is written, as `?`.
+    // Writes up to 100 columns (characters) of `line` behind its `first` ones, which are left out: a blank before them, or ` ..` if columns are left
+    // out. The byte at `place` is a column of its own, even in the middle of a character: a fault may be there. Blanks are counted, and written
+    // before what follows them, so no line ends with one. Of a character of several bytes the first is written, as `?`.
     fn columns(&mut self, line: &[u8], first: u64, place: usize) {
         let mut blanks: u64 = 1;
         if first > 0 {
+            // Columns are left out in front.
             self.say(" ..");
             blanks = 0;
         }
@@ -100,6 +104,7 @@ impl Page {
         // The last column that is shown, counted from 1.
         let last = first.saturating_add(SHOWN);
         for (at, byte) in line.iter().enumerate() {
+            // Each character is one column; its further bytes are none.
             if begins_character(*byte) || at == place {
                 column = column.saturating_add(1);
                 if column > first && column <= last {
@@ -113,15 +118,17 @@ impl Page {
                 }
             }
         }
+        // The line has more columns than are shown.
         if column > last {
             self.fill(' ', blanks);
             self.say("..");
         }
     }
 
-    /// Writes a line with its number, from 1: at most 100 of its columns, behind the `first` ones, which are left out. The byte of the line at
-    /// `place`, from 0, is a column of its own, even where no character begins.
+    /// Writes the line `line` of a text with its number, from 1: at most 100 of its columns, behind the `first` ones, which are left out. The byte of
+    /// the line at `place`, from 0, is a column of its own, even where no character begins.
     pub fn row(&mut self, number: u64, line: &[u8], first: u64, place: usize) {
+        // The numbers stand at the right of the gutter.
         self.fill(' ', self.gutter.saturating_sub(digits(number)));
         self.number(number);
         self.say(" |");
@@ -157,6 +164,7 @@ impl Page {
     pub fn point(&mut self, document: &Document, span: Span) {
         let text = document.text;
         let at = span.start.min(text.len());
+        // The line and column of the span's first byte, both from 1, and where its line begins.
         let place = place_of(text, at);
         self.widen(place.line as u64);
         self.inset();
@@ -167,11 +175,13 @@ impl Page {
         self.say("\n");
         self.margin();
         self.say("\n");
+        // `first` is how many columns of the line are left out in front.
         let line = line_from(text, place.start);
         let first = left_out(place.column as u64);
         // `start` and `end` are the span's places in the line, in bytes.
         let start = at.saturating_sub(place.start);
         self.row(place.line as u64, line, first, start);
+        // The end may lie in a later line; `carets` stops at this line's end.
         let end = span.end.saturating_sub(place.start);
         self.carets(line, first, Span { start, end });
     }

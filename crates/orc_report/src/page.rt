@@ -14,14 +14,14 @@ const LONGEST_WORD: usize = 100;
 #[derive(Drop)]
 pub struct Page {
     text: String,
-    // Whether memory was refused.
+    // Whether memory for a piece of the text was refused; then nothing more is written.
     is_refused: bool,
-    /// How many columns the numbers of lines take that stand at the left of shown lines.
+    /// The gutter's width: how many columns the numbers of lines take, which stand at the left of the lines that are shown.
     pub(crate) gutter: u64,
 }
 
 impl Page {
-    /// An empty text.
+    /// An empty text, with a gutter (the column of lines' numbers at the left) of one digit.
     pub fn new(alloc: Global) -> Page {
         Page {
             text: String::new(alloc),
@@ -64,9 +64,10 @@ impl Page {
         }
     }
 
-    /// Writes words as they stand.
+    /// Writes `text` as it stands, or nothing once memory was refused.
     pub fn say(&mut self, text: &str) {
         if !self.is_refused {
+            // The only error is refused memory.
             self.is_refused = self.text.push_str(text).is_err();
         }
     }
@@ -95,14 +96,15 @@ impl Page {
         self.is_refused
     }
 
-    /// Writes one character as it stands.
+    /// Writes one character as it stands, or nothing once memory was refused.
     pub fn sign(&mut self, sign: char) {
         if !self.is_refused {
+            // The only error is refused memory.
             self.is_refused = self.text.push(sign).is_err();
         }
     }
 
-    // Writes an item as `Display` does.
+    // Writes an item in the form that its `Display` gives, or nothing once memory was refused.
     fn print<T: fmt::Display + Drop>(&mut self, item: T) {
         if !self.is_refused {
             self.is_refused = write!(self.text, "{item}").is_err();
@@ -121,13 +123,14 @@ impl Page {
         self.say(behind);
     }
 
-    /// Writes a number below a million, with a comma behind its thousands.
+    /// Writes a number below a million in decimal, with a comma behind its thousands, as 12,345.
     pub fn grouped(&mut self, number: u64) {
         if number < 1_000 {
             return self.number(number);
         }
         self.number(number / 1_000);
         self.say(",");
+        // Behind the comma stand three digits, zeros too.
         let units = number % 1_000;
         self.number(units / 100);
         self.number(units / 10 % 10);
@@ -143,7 +146,7 @@ impl Page {
         }
     }
 
-    /// Writes a call's values in their brackets, with commas between them.
+    /// Writes the values of a call's arguments in brackets, with commas between them, as `(1, true)`.
     pub fn values(&mut self, values: &[Value]) {
         self.say("(");
         for (place, value) in values.iter().enumerate() {
@@ -162,7 +165,7 @@ impl Page {
         }
     }
 
-    /// Writes one character, `times` times.
+    /// Writes the character `sign` as often as `times` says.
     pub fn fill(&mut self, sign: char, times: u64) {
         for _time in 0..times {
             self.sign(sign);
@@ -214,7 +217,8 @@ impl Page {
         }
     }
 
-    /// Writes the beginning of a line below what was shown: blanks as wide as the numbers of lines, ` = `, and a text. The caller ends the line.
+    /// Writes the beginning of a line below the lines of a file that were shown: blanks as wide as their numbers, ` = `, and a text. The caller ends
+    /// the line.
     pub fn note(&mut self, text: &str) {
         self.inset();
         self.say(" = ");

@@ -22,19 +22,20 @@ pub fn begins_character(byte: u8) -> bool
     byte < 128 || byte >= 192
 }
 
-// Where the line of the byte at `at`, or of the text's end, begins: behind the last LF before it, or at 0.
+// Where the line begins in which the byte at `at`, from 0, or the text's end stands: behind the last LF before that byte, or at 0.
 fn line_start(text: &[u8], at: usize) -> usize
     requires { at ≤ length text.now }
     ensures { BeginsLine text.now result at }
 {
     let mut start = at;
+    // Goes back to the text's start, or until the byte before is an LF.
     while start > 0 && text[start - 1] != b'\n' {
         start -= 1;
     }
     start
 }
 
-// How many line feeds these bytes have.
+// How many line feeds are among these bytes.
 fn line_feeds(bytes: &[u8]) -> usize
     ensures value { result ≡ count_by is_line_feed bytes.now }
     ensures bound { result ≤ length bytes.now }

@@ -16,7 +16,7 @@ pub enum Fill<'a> {
     Number(u64),
     /// A number below a million, with a comma behind its thousands.
     Grouped(u64),
-    /// A number of things: their name takes an `s` but for one of them.
+    /// A number of things and their name, which takes an `s` unless the number is 1: `2 calls`.
     Count(u64, &'a str),
     /// A value as programs write it.
     Value(Value),
@@ -34,6 +34,7 @@ impl Page {
         // The place in `fills` of the next one.
         let mut next: usize = 0;
         for byte in sentence.as_bytes() {
+            // Only a `%` is filled; any other byte stands for itself.
             if *byte != b'%' {
                 self.sign(*byte as char);
             } else if let Some(fill) = fills.get(next) {

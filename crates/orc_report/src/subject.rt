@@ -7,7 +7,7 @@ use crate::document::Document;
 /// The files of a command line.
 #[derive(Clone, Copy)]
 pub struct Subject<'a> {
-    /// The program.
+    /// The program's file.
     pub source: Document<'a>,
     /// None where no script was given.
     pub script: Option<Document<'a>>,

@@ -13,7 +13,8 @@ const LONGEST: usize = 64;
 /// A name of at least so many bytes may be two edits away from the one that was meant; a shorter one, one edit.
 const LONG: usize = 6;
 
-/// The search for the nearest of some names. They are shown to it one by one; the last one that it takes is the nearest.
+/// The search for the name, among some that exist, that is nearest to the one that was written. The caller shows the existing names to the search one
+/// by one; the last one that the search takes is the nearest.
 #[derive(Drop)]
 pub struct Near<'n> {
     alloc: Global,
@@ -59,6 +60,7 @@ impl<'n> Near<'n> {
     pub fn new(alloc: Global, name: &'n [u8]) -> Near<'n>
         ensures { result ≤ 2 }
     {
+        // How many edits away a name may be, by the length of `name` in bytes.
         let most = match name.len() {
             0 | 1 => 0,
             LONG..=LONGEST => 2,
@@ -84,18 +86,20 @@ impl<'n> Near<'n> {
             return false;
         }
         if are_alike(self.name, candidate) {
+            // No other name can be nearer, so the search ends.
             self.is_open = false;
             return true;
         }
-        // Each edit changes the length by one at most, so such a name needn't be compared.
+        // Each edit changes the length by one at most, so a name whose length differs by more edits than are allowed needn't be compared; nor any, if
+        // no edit is allowed.
         if self.most == 0 || self.name.len().abs_diff(candidate.len()) > self.most {
             return false;
         }
         self.take_if_near(candidate)
     }
 
-    // Takes a name to which few enough edits lead, and says whether it did. From then on only nearer ones are taken. Where memory is refused the
-    // search ends.
+    // Takes the name `candidate` if few enough edits lead to it, and says whether it was taken. From then on only nearer names are taken. Where
+    // memory is refused the search ends.
     fn take_if_near(&mut self, candidate: &[u8]) -> bool
         ensures { self.new ≤ self.old }
     {

@@ -28,6 +28,7 @@ impl Window {
     pub fn of(len: usize, named: Option<usize>, is_cut: bool, is_inner: bool) -> Window
         ensures { result.end ≤ result.first + 76 }
     {
+        // The line is shown whole.
         if len <= LONGEST && !is_cut {
             return Window {
                 first: 0,
@@ -40,6 +41,7 @@ impl Window {
             Some(column) => column.saturating_sub(BEFORE),
             None => 0,
         };
+        // 70 columns, or fewer up to the line's end.
         let end = first.saturating_add(SHOWN).min(len);
         Window {
             first,

@@ -32,7 +32,7 @@ pub struct Depth {
 }
 
 impl Depth {
-    /// The start of a definition or main expression.
+    /// The counts at the start of a definition or main expression: nothing is open, and nothing was counted.
     pub fn new(alloc: Global) -> Depth
         ensures { count_of result ≡ none }
     {
@@ -44,7 +44,7 @@ impl Depth {
         }
     }
 
-    // Back to the start of a definition or main expression.
+    // Sets all counts back, for the start of a definition or main expression.
     fn clear(&mut self)
         ensures { count_of self.new ≡ none }
     {
@@ -60,12 +60,13 @@ impl Depth {
     pub fn begin_part(&mut self, defined: usize, defined_now: usize)
         ensures { count_of self.new ≡ (if nat_lt defined defined_now then none else count_of self.old) }
     {
+        // The token has made a definition whole, so it belongs to the next definition or the main expression.
         if defined < defined_now {
             self.clear();
         }
     }
 
-    // Counts an operator of one token, which has no variable. The error is Deep: it is one too many.
+    // Counts an operator of one token, which has no variable. The error is Deep: the operator is one more than `MOST_OPERATORS`.
     #[inline(always)]
     fn operate(&mut self) -> Result<(), StepError>
         ensures { (joint : Joint) → Counts result (count_of self.old) (count_of self.new) (tokens.Join joint) }
@@ -83,6 +84,7 @@ impl Depth {
     fn sign(&mut self) -> Result<(), StepError>
         ensures { (side : Side) → Counts result (count_of self.old) (count_of self.new) (tokens.Arrow side) }
     {
+        // This is the second sign: the operator was counted at its first one.
         if self.half {
             self.half = false;
             return Ok(());
@@ -95,7 +97,7 @@ impl Depth {
         Ok(())
     }
 
-    // Counts an opening bracket. The errors: Deep where it is one too many, and Memory.
+    // Counts an opening bracket. The errors: Deep where brackets and `val`s that are open would be over `MOST_BRACKETS`, and Memory.
     #[inline(always)]
     #[tactic(auto, using(crate::proofs::Views::counts))]
     fn open(&mut self) -> Result<(), StepError>
@@ -104,12 +106,14 @@ impl Depth {
         if self.levels >= MOST_BRACKETS {
             return Err(StepError::Deep);
         }
+        // The bracket's `)` sets the levels back to those before it.
         self.outside.push(self.levels)?;
         self.levels += 1;
         Ok(())
     }
 
-    // Counts a `val`. What follows it nests in it, up to the end of the enclosing brackets. The error is Deep: it is one too many.
+    // Counts a `val`. What follows the `val` nests in it, up to the end of the enclosing brackets. The error is Deep: brackets and `val`s that are
+    // open would be over `MOST_BRACKETS`.
     #[inline(always)]
     fn bind(&mut self) -> Result<(), StepError>
         ensures { Counts result (count_of self.old) (count_of self.new) tokens.Val }
@@ -128,6 +132,7 @@ impl Depth {
         ensures { count_of self.new ≡ counted (count_of self.old) tokens.Close }
     {
         match self.outside.pop() {
+            // `levels` is how many brackets and `val`s were open before this bracket.
             Some(levels) => self.levels = levels,
             // Not reached: the reader refuses a closing bracket that closes nothing.
             None => self.levels = 0,

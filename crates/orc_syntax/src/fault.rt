@@ -55,7 +55,7 @@ impl fmt::Display for SyntaxFault {
 impl Error for SyntaxFault {}
 
 impl SyntaxFault {
-    /// The process's exit status at this fault: 5 where memory was refused, else 1.
+    /// The status with which a command ends at this fault: 5 where memory was refused, else 1.
     pub fn status(self) -> u8
         ensures { result ≡ syntax_status self }
     {

@@ -101,7 +101,7 @@ fn levels_of(operator: Operator) -> Levels
 
 // Most functions push the tasks of one form in the order of its text, so that the next task is the rightmost. Each error is refused memory.
 impl<'a> Printer<'a> {
-    // Pushes a text, which is then printed next.
+    // Pushes a text on the stack of tasks. It is then printed next, to the left of all that has been printed.
     fn say(&mut self, text: &'a [u8]) -> Result<(), AllocError>
         ensures tasks { OnOk result (waiting self.new.tasks.items ≡ say text.now ∷ waiting self.old.tasks.items) }
         ensures pieces { self.new.pieces ≡ self.old.pieces }
@@ -110,7 +110,8 @@ impl<'a> Printer<'a> {
         Ok(())
     }
 
-    // Pushes an expression, which is then printed next, with brackets where it binds more loosely than `level`.
+    // Pushes the task to print the expression of the next node, with brackets where it binds more loosely than `level` (0: never). It is then printed
+    // next.
     fn visit(&mut self, level: usize) -> Result<(), AllocError>
         ensures tasks { OnOk result (waiting self.new.tasks.items ≡ visit level ∷ waiting self.old.tasks.items) }
         ensures pieces { self.new.pieces ≡ self.old.pieces }
@@ -119,7 +120,7 @@ impl<'a> Printer<'a> {
         Ok(())
     }
 
-    // Pushes `count` arguments, which stand behind the first one, each after a comma. Level 0: an argument gets no brackets.
+    // Pushes the tasks of `count` arguments, which stand behind the first one, each after a comma. Level 0: an argument gets no brackets.
     fn others(&mut self, count: usize) -> Result<(), AllocError>
         ensures tasks { OnOk result (waiting self.new.tasks.items ≡ more count (waiting self.old.tasks.items)) }
         ensures pieces { self.new.pieces ≡ self.old.pieces }
@@ -131,7 +132,7 @@ impl<'a> Printer<'a> {
         Ok(())
     }
 
-    // Pushes `count` arguments with commas between them. Level 0: an argument gets no brackets.
+    // Pushes the tasks of all `count` arguments of a call, with commas between them. Level 0: an argument gets no brackets.
     fn arguments(&mut self, count: usize) -> Result<(), AllocError>
         ensures tasks { OnOk result (waiting self.new.tasks.items ≡ given count (waiting self.old.tasks.items)) }
         ensures pieces { self.new.pieces ≡ self.old.pieces }
@@ -143,7 +144,7 @@ impl<'a> Printer<'a> {
         self.others(count - 1)
     }
 
-    // Pushes the variable of an operator with the sign before it and the one behind it.
+    // Pushes the texts of an operator with a variable, `>x>` or `<x<`: the sign `before`, the name, and the sign `behind`.
     fn arrow(
         &mut self,
         before: &'a [u8],
@@ -195,6 +196,7 @@ impl<'a> Printer<'a> {
         ensures pieces { self.new.pieces ≡ self.old.pieces }
     {
         let levels = levels_of(operator);
+        // Whether the operator binds too loosely for its place, so that it needs brackets.
         let inner = levels.own < wanted;
         self.opening(inner)?;
         self.visit(levels.left)?;
@@ -209,6 +211,7 @@ impl<'a> Printer<'a> {
         ensures tasks { OnOk result (waiting self.new.tasks.items ≡ parts wanted (val (label name.entry)) (waiting self.old.tasks.items)) }
         ensures pieces { self.new.pieces ≡ self.old.pieces }
     {
+        // A `val` binds the most loosely, so it needs brackets wherever not any expression will do.
         let inner = 0 < wanted;
         self.opening(inner)?;
         self.say(b"val ")?;
@@ -231,13 +234,14 @@ impl<'a> Printer<'a> {
         self.say(b")")
     }
 
-    // Pushes what a node prints, where this level is wanted: its own text, and a `Visit` for each of its parts.
+    // Pushes the tasks that print a node, in whose place the level `wanted` is asked for: its own text, and a `Visit` for each of its parts.
     fn parts(&mut self, part: Part<'a>, wanted: usize) -> Result<(), AllocError>
         ensures tasks { OnOk result (waiting self.new.tasks.items ≡ parts wanted (sort part.entry) (waiting self.old.tasks.items)) }
         ensures pieces { self.new.pieces ≡ self.old.pieces }
     {
         match part {
             Part::Plain(plain) => {
+                // A literal or `stop` has no parts, and needs no brackets.
                 self.tasks.push(Task::Say(plain_piece(plain)))?;
                 Ok(())
             }
@@ -268,7 +272,7 @@ impl<'a> Printer<'a> {
     fn print(&mut self, nodes: &[Node<'a>]) -> Result<(), AllocError>
         ensures { OnOk result (said self.new.pieces.items ≡ back (waiting self.old.tasks.items) (reverse (map item nodes.now)) ++ said self.old.pieces.items) }
     {
-        // How many nodes are left, from the front.
+        // How many nodes are still to be printed, from the front.
         let mut count = nodes.len();
         while count > 0 {
             let Some(level) = self.next()? else {
@@ -284,7 +288,7 @@ impl<'a> Printer<'a> {
     }
 }
 
-// Appends a number in decimal. The error is refused memory, here and in the functions that follow.
+// Appends a number in decimal to `out`. The error is refused memory, here and in the functions that follow.
 fn push_number(out: &mut Vec<u8>, number: i64) -> Result<(), AllocError>
     ensures { OnOk result (out.new.items ≡ out.old.items ++ signed_decimal number) }
 {
@@ -306,7 +310,7 @@ fn push_piece(out: &mut Vec<u8>, piece: Piece) -> Result<(), AllocError>
 fn push_pieces(out: &mut Vec<u8>, pieces: &[Piece]) -> Result<(), AllocError>
     ensures { OnOk result (out.new.items ≡ out.old.items ++ said pieces.now) }
 {
-    // How many pieces are left, from the front.
+    // How many pieces are still to be appended, from the front.
     let mut count = pieces.len();
     while count > 0 {
         count -= 1;
@@ -323,6 +327,7 @@ fn print_expression(alloc: Global, nodes: &[Node], out: &mut Vec<u8>) -> Result<
         tasks: Vec::new(alloc),
         pieces: Vec::new(alloc),
     };
+    // Level 0: the whole expression gets no brackets.
     printer.visit(0)?;
     printer.print(nodes)?;
     push_pieces(out, &printer.pieces)

@@ -31,7 +31,7 @@ pub struct Operand {
     pub end: usize,
 }
 
-/// What joins two expressions that have been read.
+/// What joins two expressions: an operator, or a `val`.
 #[derive(Clone, Copy)]
 pub enum Joining<'a> {
     Operator(Operator<'a>),
@@ -122,7 +122,7 @@ impl<T: Drop> From<AllocFailed<T>> for StepError {
 }
 
 impl<'a> Joining<'a> {
-    // How tightly it binds. The levels of the grammar, from the loosest: 0 `val`, 1 `;`, 2 `<x<`, 3 `|`, 4 `>x>`.
+    // How tightly this operator or `val` binds. The levels of the grammar, from the loosest: 0 `val`, 1 `;`, 2 `<x<`, 3 `|`, 4 `>x>`.
     fn level(&self) -> u8
         ensures { result ≡ machine.level_of (joining self.now) }
     {
@@ -135,7 +135,7 @@ impl<'a> Joining<'a> {
         }
     }
 
-    // What stands at the node that it makes.
+    // What stands at the node of the tree that this operator or `val` makes.
     fn part(self) -> Part<'a>
         ensures { part_sort result ≡ machine.sort_by (joining self.entry) }
     {
@@ -159,7 +159,7 @@ fn left_level(operator: Operator<'_>) -> u8
     }
 }
 
-// The operator that one sign is by itself, without a variable.
+// The operator that `joint`, a sign without a variable, is by itself.
 fn operator_of(joint: Joint) -> Operator<'static>
     ensures { link result ≡ link_of joint }
 {
@@ -233,7 +233,8 @@ impl<'a> Reader<'a> {
         self.definitions.len()
     }
 
-    // Adds the node of an expression that has ended, from `start` to `end`, behind those of its parts. Gives the expression as an operand.
+    // Adds the node of an expression that has ended, from `start` to `end` in bytes of the text, behind the nodes of its parts. Gives the expression
+    // as an operand, which is its place in the text. The error is Memory.
     #[inline(always)]
     #[tactic(auto, using(crate::proofs::Views::stacks))]
     fn node(&mut self, part: Part<'a>, start: usize, end: usize) -> Result<Operand, StepError>
@@ -249,9 +250,9 @@ impl<'a> Reader<'a> {
         Ok(Operand { start, end })
     }
 
-    // Makes nodes of the operators on top of the stack that bind at least as tightly as `level`: `last` is the right side of the topmost, and what
-    // that makes is the right side of the next. Level 0 leaves no operator and no `val` up to the innermost bracket or heading. Gives the operand
-    // that comes out, which is `last` where nothing was joined.
+    // Makes nodes of the operators and `val`s on top of the stack of what waits, as far as they bind at least as tightly as `level`: `last` is the
+    // right side of the topmost, and what that makes is the right side of the next. Level 0 leaves no operator and no `val` up to the innermost
+    // bracket or heading. Gives the operand that comes out, which is `last` where nothing was joined.
     #[inline(always)]
     fn reduce(&mut self, level: u8, last: Operand) -> Result<Operand, StepError>
         ensures reduced { Makes result (λ o. machine.reduce level (operand last) (nodes self.old) (stack self.old) ≡ machine.reduced (operand o) (nodes self.new) (stack self.new)) }
@@ -263,10 +264,11 @@ impl<'a> Reader<'a> {
             match top {
                 Frame::Before(joining, start) => {
                     if joining.level() < level {
-                        // It binds too loosely, so it goes back into the room that it left.
+                        // This operator or `val` binds too loosely, so its frame goes back on the stack, into the room that it left.
                         self.frames.push(Frame::Before(joining, start))?;
                         return Ok(right);
                     }
+                    // The operator's node is from its left side's start to its right side's end; both sides have their nodes already.
                     right = self.node(joining.part(), start, right.end)?;
                 }
                 // A bracket or a heading: nothing outside it can be joined to what stands inside.
@@ -321,14 +323,18 @@ impl<'a> Reader<'a> {
     fn takes_val(&self) -> bool
         ensures { result ≡ machine.takes_val (stack self.now) }
     {
+        // None means that nothing waits: the main expression begins here.
         let Some(top) = self.top() else {
             return true;
         };
         match top {
             Frame::Before(joining, _) => match joining {
+                // This is the right side of an operator.
                 Joining::Operator(_) => false,
+                // This is the F of a `val`.
                 Joining::Val(_) => true,
             },
+            // In a bracket, an argument, the G of a `val` or a body.
             Frame::Bracket(_) => true,
             Frame::Arguments(_, _) => true,
             Frame::Bound(_, _) => true,
@@ -345,12 +351,14 @@ impl<'a> Reader<'a> {
         let span = token.span;
         match token.kind {
             Kind::Plain(plain) => {
+                // A literal or `stop` is a whole operand.
                 let operand = self.node(Part::Plain(plain), span.start, span.end)?;
                 Ok(Mode::Have(operand))
             }
             // The next token tells whether it is a variable or a call, so it gets no node yet.
             Kind::Name(text) => Ok(Mode::Named(Name { text, span })),
             Kind::Open => {
+                // The bracket waits for its `)`, and an expression begins behind it.
                 self.frames.push(Frame::Bracket(span.start))?;
                 Ok(Mode::Want)
             }
@@ -380,13 +388,14 @@ impl<'a> Reader<'a> {
         ensures { Leaves result self.now (if machine.takes_def (stack self.now) then Ok (machine.state (machine.Heads machine.DefWord) (context self.now) (nodes self.now) (stack self.now)) else Err expression) }
     {
         match self.top() {
+            // Nothing waits, so a definition may begin.
             None => Ok(Mode::Heads(Heading::Def)),
             Some(_) => Err(StepError::Wanted(What::Expression)),
         }
     }
 
-    // Takes an operator behind its left side, whose last operand is `left`. First what binds tightly enough to belong to that side is joined. Then
-    // the operator waits for its right side. The error is Memory.
+    // Takes `operator` behind its left side, whose last operand is `left`. First what binds tightly enough to belong to that side is joined. Then the
+    // operator waits for its right side. The error is Memory.
     #[inline(always)]
     #[tactic(auto, using(crate::proofs::Views::stacks))]
     fn push(&mut self, operator: Operator<'a>, left: Operand) -> Result<Mode<'a>, StepError>
@@ -398,7 +407,8 @@ impl<'a> Reader<'a> {
         Ok(Mode::Want)
     }
 
-    // Adds the node of a call that is whole: it has so many arguments, and its closing bracket ends at `end`. The error is Memory.
+    // Adds the node of a call of `name` that is whole: it has `arguments` arguments, whose nodes are there already, and its closing bracket ends at
+    // `end`. The error is Memory.
     #[inline(always)]
     #[tactic(auto, using(crate::proofs::Views::stacks))]
     fn called(
@@ -450,8 +460,9 @@ impl<'a> Reader<'a> {
             return Err(StepError::Wanted(What::End));
         };
         match top {
-            // Not reached: all operators are joined. Nor is the None below: no text has so many arguments.
+            // Not reached: all operators are joined. Nor is the None below reached: no text has so many arguments.
             Frame::Before(_, _) => Err(StepError::Wanted(What::End)),
+            // A bracket that only groups has to be closed here.
             Frame::Bracket(_) => Err(StepError::Wanted(What::Close)),
             Frame::Arguments(name, before) => match before.checked_add(1) {
                 Some(arguments) => {
@@ -460,6 +471,7 @@ impl<'a> Reader<'a> {
                 }
                 None => Err(StepError::Memory),
             },
+            // Behind the G of a `val` or a body the next expression has to come.
             Frame::Bound(_, _) | Frame::Body(_) => Err(StepError::Wanted(What::Expression)),
         }
     }
@@ -494,10 +506,12 @@ impl<'a> Reader<'a> {
         };
         match top {
             Frame::Bound(name, start) => {
+                // The G of the `val` is whole, so the `val` waits for its F, which this token begins.
                 self.frames.push(Frame::Before(Joining::Val(name), start))?;
                 self.begin(token)
             }
             Frame::Body(name) => {
+                // The body is whole, so the definition is. The token begins the next definition or the main expression.
                 self.define(name)?;
                 self.begin(token)
             }
@@ -513,7 +527,9 @@ impl<'a> Reader<'a> {
         ensures { Leaves result self.new (machine.go_on (operand last) (sort token.entry.kind) token.entry.span (context self.old) (nodes self.old) (stack self.old)) }
     {
         match token.kind {
+            // An operator without a variable.
             Kind::Joint(joint) => self.push(operator_of(joint), last),
+            // The first sign of `>x>` or `<x<`.
             Kind::Arrow(side) => Ok(Mode::Signed(side, last)),
             Kind::Close => {
                 // The operand that `reduce` gives isn't needed, here and below: a bracket, a call and a `val` have a place of their own, and a
@@ -557,6 +573,7 @@ impl<'a> Reader<'a> {
     {
         match token.kind {
             Kind::Open => {
+                // A call begins, with no argument before the one that comes.
                 self.frames.push(Frame::Arguments(name, 0))?;
                 Ok(Mode::First)
             }
@@ -567,7 +584,7 @@ impl<'a> Reader<'a> {
         }
     }
 
-    // Closes the call on top of the stack, which has no arguments, with a bracket that ends at `end`. The error is Memory.
+    // Closes the call on top of the stack of what waits, which has no arguments, with a `)` that ends at byte `end` of the text. The error is Memory.
     #[inline(always)]
     #[tactic(auto, using(crate::proofs::Views::stacks))]
     fn close_first(&mut self, end: usize) -> Result<Mode<'a>, StepError>
@@ -630,6 +647,7 @@ impl<'a> Reader<'a> {
     {
         match token.kind {
             Kind::Arrow(other) => {
+                // `>x>` has two `>`, and `<x<` two `<`.
                 if side == other {
                     self.push(operator_by(side, variable), last)
                 } else {
@@ -701,7 +719,8 @@ impl<'a> Reader<'a> {
         }
     }
 
-    // Takes a name in a `val x =` or `def f(a, b) =`. It is refused where the heading has its name, its parameter or its `)` already.
+    // Takes a name in a `val x =` or `def f(a, b) =`, of which `head` has come. The errors: Wanted where the heading has its name, its parameter or
+    // its `)` already, and Memory.
     #[inline(always)]
     fn head_name(&mut self, head: Heading<'a>, name: Name<'a>) -> Result<Mode<'a>, StepError>
         ensures { Leaves result self.new (machine.head (heading head.entry) (tokens.Word name.entry.text.now) name.entry.span (context self.old) (nodes self.old) (stack self.old)) }
@@ -735,12 +754,14 @@ impl<'a> Reader<'a> {
         }
     }
 
-    // The program, where the text ends behind the operand `last`: an error where a bracket, the G of a `val` or a body still waits then.
+    // The program, where the text ends behind the operand `last`. The errors: Wanted where a bracket, the G of a `val` or a body still waits then,
+    // and Memory.
     fn whole(mut self, last: Operand) -> Result<Ast<'a>, StepError>
         ensures { Ends result (machine.whole (context self.entry) (machine.reduce 0 (operand last) (nodes self.entry) (stack self.entry))) }
     {
         self.reduce(0, last)?;
         match self.top() {
+            // Nothing waits: the nodes are those of the main expression.
             None => Ok(Ast {
                 definitions: self.definitions,
                 main: Expr { nodes: self.nodes },
@@ -756,6 +777,7 @@ impl<'a> Reader<'a> {
         ensures { Ends result (machine.finish (machine.state (mode last.entry) (context self.entry) (nodes self.entry) (stack self.entry))) }
     {
         match last {
+            // An operator, a bracket, a comma or a heading has nothing behind it, or the text is empty.
             Mode::Want | Mode::First => Err(StepError::Wanted(What::Expression)),
             Mode::Named(name) => {
                 let variable = self.variable(name)?;

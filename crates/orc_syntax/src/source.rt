@@ -23,7 +23,7 @@ use std::alloc::Global;
 // In contracts `SpellsText src s` says that a text spells the program s, `IsAst ast s` that a tree is that of s, `IsShallow src` that nothing in the
 // text is too deep, and `IsFault src f` that f is wrong with it.
 
-// The fault where no token can be read at a place.
+// The fault where no token can be read at the byte `at` of the text, from 0, and `why` says why not.
 fn unread_fault(why: Unread, at: usize) -> SyntaxFault
     ensures { result ≡ fault_at why at }
 {
@@ -34,7 +34,7 @@ fn unread_fault(why: Unread, at: usize) -> SyntaxFault
     }
 }
 
-// The fault where the reader refuses the token that begins at a place, or the text's end there.
+// The fault where the reader refuses, with `error`, the token that begins at the byte `at` of the text, from 0, or the text's end there.
 fn refused(error: StepError, at: usize) -> SyntaxFault
     ensures { result ≡ fault_by error at }
 {
@@ -45,7 +45,8 @@ fn refused(error: StepError, at: usize) -> SyntaxFault
     }
 }
 
-// Stands the fault before a place? Those without a place of their own stand at 0.
+// Does the fault stand before the byte `at` of the text? A fault without a place of its own (too long a text, refused memory) counts as standing at
+// 0.
 fn comes_before(fault: SyntaxFault, at: usize) -> bool
     ensures { result ≡ nat_lt (place fault) at }
 {
@@ -60,7 +61,8 @@ fn comes_before(fault: SyntaxFault, at: usize) -> bool
     }
 }
 
-// Lets the reader take a token, and then counts it. A token that doesn't fit is reported as such (S4), even if it is also too deep (S5).
+// Lets the reader take a token, and then counts it for the limits on brackets, `val`s and operators. `last` is what the reader said of the token
+// before (its mode); the answer is the mode after this token. A token that doesn't fit is reported as such (S4), even if it is also too deep (S5).
 #[inline(always)]
 fn take<'a>(
     reader: &mut Reader<'a>,
@@ -72,6 +74,7 @@ fn take<'a>(
 {
     // The reader completes a definition when it takes the first token after it. That token is the next part's, so the count starts again before it.
     let defined = reader.defined();
+    // The reader's mode after the token: what it has just read.
     let mode = reader.advance(last, token)?;
     depth.begin_part(defined, reader.defined());
     match depth.count(token.kind) {
@@ -80,7 +83,7 @@ fn take<'a>(
     }
 }
 
-// The program that the tokens of a text spell. It doesn't ask for UTF-8: outside comments a byte that isn't ASCII is refused anyhow (S2).
+// The program that the tokens of a text spell. The function doesn't ask for UTF-8: outside comments a byte that isn't ASCII is refused anyhow (S2).
 fn read_text<'a>(alloc: Global, src: &'a [u8]) -> Result<Ast<'a>, SyntaxFault>
     ensures found { IfOk result (λ ast. ((s : Source) × IsAst ast s × SpellsTokens src.now s) × IsShallow src.now) }
     // All tokens before a fault begin a program, and none is too deep.
@@ -88,14 +91,17 @@ fn read_text<'a>(alloc: Global, src: &'a [u8]) -> Result<Ast<'a>, SyntaxFault>
 {
     let mut reader = Reader::new(alloc);
     let mut depth = Depth::new(alloc);
+    // What was read last; at the text's start an expression or definition has to begin.
     let mut mode = Mode::Want;
     let mut at = 0;
     while at < src.len() {
         match piece_at(src, at) {
+            // A blank or a comment, which ends at `end`.
             Piece::Gap(end) => at = end,
             Piece::Token(token) => {
                 match take(&mut reader, &mut depth, mode, token) {
                     Ok(next) => mode = next,
+                    // The token doesn't fit or is too deep, or memory was refused.
                     Err(error) => return Err(refused(error, at)),
                 }
                 at = token.span.end;
@@ -110,7 +116,8 @@ fn read_text<'a>(alloc: Global, src: &'a [u8]) -> Result<Ast<'a>, SyntaxFault>
     }
 }
 
-// The fault of a text that stops being UTF-8 at `at`: the fault that reading gave if that stands before `at`, and otherwise `Encoding`.
+// The fault of a text that stops being UTF-8 at the byte `at`. `read` is what reading the tokens gave: its fault if that stands before `at`, and
+// otherwise `Encoding`.
 fn first_fault(read: Result<Ast<'_>, SyntaxFault>, at: usize) -> SyntaxFault
     ensures { result ≡ first_of read.entry at }
 {
@@ -156,7 +163,7 @@ pub fn parse<'a>(alloc: Global, src: &'a [u8]) -> Result<Ast<'a>, SyntaxFault>
 
 // From here on there are laws: the contract is what is said, and there is nothing to run. Proofs cite them.
 
-/// No text spells two programs.
+/// A law: no text spells two programs, so what `parse` answers is the only program of its text.
 pub fn one_source()
     ensures { (src : List ℕ) (s t : Source) → SpellsText src s → SpellsText src t → s ≡ t }
 {}

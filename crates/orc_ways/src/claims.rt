@@ -19,7 +19,8 @@ use orc_claims::claim::{Claim, Condition, Event, Plain, Simple, Wanted};
 use orc_rules::value::Value;
 use std::alloc::{AllocError, Global};
 
-// Reads the end of a line: nothing, which is Some(None), or this word (`by` or `within`) and a number of units. None for anything else.
+// Reads the end of a claim's line: the word `word` (`by` or `within`) and a number of units, or nothing, which is Some(None) and no bound. None for
+// anything else.
 #[tactic(auto, unfolding(crate::specs::Claims::time_at))]
 fn time(word: &[u8], tokens: &[Token<'_>]) -> Option<Option<u64>>
     ensures { result ≡ time_at word.now (tokens_of tokens.now) }
@@ -38,10 +39,11 @@ fn time(word: &[u8], tokens: &[Token<'_>]) -> Option<Option<u64>>
 }
 
 // The claim that an event happens `low` times at least and `most` times at most, where None is no bound. `rest`, the tokens behind the event, may be
-// empty, or `by` and a time; None for anything else.
+// empty, or `by` and a time up to which it is counted; the answer is None for anything else.
 fn count(event: Event, low: u64, most: Option<u64>, rest: &[Token<'_>]) -> Option<Plain>
     ensures { Gives plain_of result (counted low most (event_of event, tokens_of rest.now)) }
 {
+    // The time up to which happenings count, and None without a bound.
     let by = time(b"by", rest)?;
     Some(Plain::Count(event, low, most, by))
 }
@@ -106,7 +108,8 @@ fn end(token: &Token<'_>) -> Option<(bool, bool)>
     }
 }
 
-// Reads one end, as `end` does, and hands back the tokens behind it.
+// Reads one end of a run, `Halted` or `Quiet`: gives (true, false) for `Halted` and (false, true) for `Quiet`, and the tokens behind that word. None
+// for anything else.
 #[tactic(auto, unfolding(crate::specs::Claims::end_at))]
 fn end_first<'t, 'a>(tokens: &'t [Token<'a>]) -> Option<((bool, bool), &'t [Token<'a>])>
     ensures { Gives (λ x. (x.0, tokens_of x.1.now)) result (end_at (tokens_of tokens.now)) }
@@ -122,6 +125,7 @@ fn end_first<'t, 'a>(tokens: &'t [Token<'a>]) -> Option<((bool, bool), &'t [Toke
 fn ends_up_to(halted: bool, quiet: bool, tokens: &[Token<'_>]) -> Option<Plain>
     ensures { Gives plain_of result (ends_by (halted, quiet) (tokens_of tokens.now)) }
 {
+    // The time by which the run has to end, and None without a bound.
     let by = time(b"by", tokens)?;
     Some(Plain::Ends(halted, quiet, by))
 }
@@ -131,6 +135,7 @@ fn ends_up_to(halted: bool, quiet: bool, tokens: &[Token<'_>]) -> Option<Plain>
 fn ends(tokens: &[Token<'_>]) -> Option<Plain>
     ensures { Gives plain_of result (ends_at (tokens_of tokens.now)) }
 {
+    // Which end the first word allows; one of the two is true.
     let ((halted, quiet), rest) = end_first(tokens)?;
     match behind(b"or", rest) {
         Some(more) => {
@@ -151,7 +156,8 @@ fn ends_values_here(tokens: &[Token<'_>]) -> bool
     }
 }
 
-// Reads a value, or `_` as None: gives it, whether it is the last one, and the tokens behind it. None if neither comes first.
+// Reads a value, or `_` as None: gives it, whether it is the last value of its list, and the tokens behind it. None if neither a value nor `_` comes
+// first.
 fn next_value<'t, 'a>(tokens: &'t [Token<'a>]) -> Option<(Option<Value>, bool, &'t [Token<'a>])>
     ensures { Gives (λ x. (x.0, x.1, tokens_of x.2.now)) result (value_step (tokens_of tokens.now)) }
 {
@@ -170,7 +176,7 @@ fn values<'t, 'a>(
     ensures { IfOk result (λ o. Gives (λ x. (x.0.items, tokens_of x.1.now)) o (values_at (tokens_of tokens.now))) }
 {
     let mut values = Vec::new(alloc);
-    // `same_tokens` gives the tokens back as they are; the prover alone needs it.
+    // `rest` is what isn't read yet. `same_tokens` gives the tokens back as they are; the prover alone needs it.
     let mut rest = same_tokens(tokens);
     // Each turn reads a token, so there are enough turns.
     for _ in 0..tokens.len() {
@@ -187,7 +193,7 @@ fn values<'t, 'a>(
     Ok(None)
 }
 
-// Reads a value that isn't `_`: gives it, whether it is the last one, and the tokens behind it. None if no value comes first.
+// Reads a value that isn't `_`: gives it, whether it is the last value of its list, and the tokens behind it. None if no value comes first.
 fn next_literal<'t, 'a>(tokens: &'t [Token<'a>]) -> Option<(Value, bool, &'t [Token<'a>])>
     ensures { Gives (λ x. (x.0, x.1, tokens_of x.2.now)) result (literal_step (tokens_of tokens.now)) }
 {
@@ -210,7 +216,7 @@ fn literals<'t, 'a>(
     ensures { IfOk result (λ o. Gives (λ x. (x.0.items, tokens_of x.1.now)) o (literals_at (tokens_of tokens.now))) }
 {
     let mut values = Vec::new(alloc);
-    // `same_tokens` gives the tokens back as they are; the prover alone needs it.
+    // `rest` is what isn't read yet. `same_tokens` gives the tokens back as they are; the prover alone needs it.
     let mut rest = same_tokens(tokens);
     // Each turn reads a token, so there are enough turns.
     for _ in 0..tokens.len() {
@@ -318,7 +324,7 @@ fn happens<'t, 'a>(tokens: &'t [Token<'a>]) -> (bool, &'t [Token<'a>])
     }
 }
 
-// The tokens behind the first one; none if there is none.
+// The tokens behind the first one; the empty list if there is no token.
 fn rest_of_tokens<'t, 'a>(tokens: &'t [Token<'a>]) -> &'t [Token<'a>]
     ensures { tokens_of result.now ≡ rest_of (tokens_of tokens.now) }
 {
@@ -334,6 +340,7 @@ impl Scope<'_, '_> {
     fn at_most(self, alloc: Global, tokens: &[Token<'_>]) -> Result<Option<Plain>, AllocError>
         ensures { IfOk result (λ o. Gives plain_of o (at_most_at (sites_of self.entry.sites.now) (tokens_of self.entry.line.now) (tokens_of tokens.now))) }
     {
+        // `most` is how often the event may happen at most.
         let Some((most, rest)) = number_first(tokens) else {
             return Ok(None);
         };
@@ -347,6 +354,7 @@ impl Scope<'_, '_> {
     fn at_least(self, alloc: Global, tokens: &[Token<'_>]) -> Result<Option<Plain>, AllocError>
         ensures { IfOk result (λ o. Gives plain_of o (at_least_at (sites_of self.entry.sites.now) (tokens_of self.entry.line.now) (tokens_of tokens.now))) }
     {
+        // `low` is how often the event has to happen at least.
         let Some((low, rest)) = number_first(tokens) else {
             return Ok(None);
         };
@@ -398,7 +406,7 @@ impl Scope<'_, '_> {
             return Ok(None);
         };
         let Some(more) = behind(b"after", rest) else {
-            // The event happens 0 times at least and at most.
+            // No `after` follows. The claim is that the event happens 0 times at least and at most.
             return Ok(count(event, 0, Some(0), rest));
         };
         let Some(other) = self.last_event(alloc, more)? else {
@@ -421,6 +429,7 @@ impl Scope<'_, '_> {
         let Some((other, rest)) = self.event(alloc, more)? else {
             return Ok(None);
         };
+        // `within` is the greatest delay between the two events; Some(None) is no bound.
         let Some(within) = time(b"within", rest) else {
             return Ok(None);
         };
@@ -483,7 +492,8 @@ impl Scope<'_, '_> {
         Ok(None)
     }
 
-    // Reads the condition behind `if`: gives it, and the tokens behind its `then`. None for anything else. The error is refused memory.
+    // Reads the condition behind `if`, an event that has to happen or with `no` one that must not: gives it, and the tokens behind its `then`. None
+    // for anything else. The error is refused memory.
     #[tactic(auto, unfolding(crate::specs::Claims::condition_at))]
     fn condition<'t, 'b>(
         self,
@@ -503,8 +513,8 @@ impl Scope<'_, '_> {
         Ok(Some((Condition { event, happens }, rest)))
     }
 
-    // Reads the conditions with which a claim begins, none or more: gives them, and the tokens behind them. None if no condition follows an `if`. The
-    // error is refused memory.
+    // Reads the conditions `if E then` with which a claim begins, none or more: gives them, and the tokens behind them. None if no condition follows
+    // an `if`. The error is refused memory.
     fn conditions<'t, 'b>(
         self,
         alloc: Global,
@@ -513,7 +523,7 @@ impl Scope<'_, '_> {
         ensures { IfOk result (λ o. Gives (λ x. (conditions_of x.0.items, tokens_of x.1.now)) o (conditions_at (sites_of self.entry.sites.now) (tokens_of self.entry.line.now) (length (tokens_of tokens.now)) (tokens_of tokens.now))) }
     {
         let mut conditions = Vec::new(alloc);
-        // `same_tokens` gives the tokens back as they are; the prover alone needs it.
+        // `rest` is what isn't read yet. `same_tokens` gives the tokens back as they are; the prover alone needs it.
         let mut rest = same_tokens(tokens);
         // Each turn reads an `if` at least, so there are enough turns.
         for _ in 0..tokens.len() {
@@ -536,6 +546,7 @@ impl Scope<'_, '_> {
     pub fn claim(self, alloc: Global) -> Result<Option<Claim>, AllocError>
         ensures { IfOk result (λ o. Gives claim_of o (claim_at (sites_of self.entry.sites.now) (tokens_of self.entry.line.now))) }
     {
+        // The conditions come first, and `rest` is the claim proper.
         let Some((conditions, rest)) = self.conditions(alloc, self.line)? else {
             return Ok(None);
         };

@@ -57,7 +57,7 @@ pub struct Draft<'a> {
     pub part: Part,
 }
 
-// Whether a case has this name.
+// Whether one of these cases has this name.
 fn has_case_named(cases: &[Case<'_>], name: &[u8]) -> bool
     ensures { result ≡ has_case (cases_of cases.now) name.now }
 {
@@ -70,7 +70,7 @@ fn has_case_named(cases: &[Case<'_>], name: &[u8]) -> bool
 }
 
 impl<'a> Draft<'a> {
-    /// The draft of no lines.
+    /// The draft before any line: everything is empty, and no section has begun.
     pub fn new(alloc: Global) -> Draft<'a>
         ensures { draft_of result ≡ empty }
     {
@@ -88,7 +88,7 @@ impl<'a> Draft<'a> {
         }
     }
 
-    // Begins the section `given` at the line of this number; false if there was one, and then nothing changes.
+    // Begins the section `given` at the line of this number; false if there was one, and then nothing changes. `IsPlaced` promises just that.
     fn begin_given(&mut self, number: usize) -> bool
         ensures { IsPlaced (with_given (draft_of self.old) number) (draft_of self.new) result }
     {
@@ -100,7 +100,7 @@ impl<'a> Draft<'a> {
         true
     }
 
-    // Begins the section `always`; false if there was one, and then nothing changes.
+    // Begins the section `always`; false if there was one, and then nothing changes. `IsPlaced` promises just that.
     fn begin_always(&mut self) -> bool
         ensures { IsPlaced (with_always (draft_of self.old)) (draft_of self.new) result }
     {
@@ -128,7 +128,8 @@ impl<'a> Draft<'a> {
         Ok(true)
     }
 
-    // The place, from 0, of the case to which a service in this section belongs; Some(None) below `given`, and None where no service is allowed.
+    // The place, from 0, of the case to which a service in the section of the next line belongs; Some(None) below `given`, where a service belongs to
+    // all cases, and None where no service is allowed.
     fn case_of_service(&self) -> Option<Option<usize>>
         ensures { result ≡ case_of_service self.now.part (test_of self.now.test) }
     {
@@ -141,7 +142,8 @@ impl<'a> Draft<'a> {
         }
     }
 
-    // The place, from 0, of the case to which a claim in this section belongs; Some(None) below `always`, and None where no claim is allowed.
+    // The place, from 0, of the case to which a claim in the section of the next line belongs; Some(None) below `always`, where a claim is asked of
+    // all cases, and None where no claim is allowed.
     fn case_of_claim(&self) -> Option<Option<usize>>
         ensures { result ≡ case_of_claim self.now.part (test_of self.now.test) }
     {
@@ -154,11 +156,12 @@ impl<'a> Draft<'a> {
         }
     }
 
-    // Adds a service to this section; false if no service is allowed here, there are too many, or its name is that of a built-in site, and then
-    // nothing changes. The error is refused memory.
+    // Adds a service to the section of the next line; false if no service is allowed here, there are too many, or its name is that of a built-in
+    // site, and then nothing changes. The error is refused memory.
     fn add_service(&mut self, service: Service<'a>) -> Result<bool, AllocError>
         ensures { IfOk result (λ good. IsPlaced (with_service (draft_of self.old) (service_of service.entry) (case_of_service self.old.part (test_of self.old.test))) (draft_of self.new) good) }
     {
+        // `case` is the place of the section's case, and None below `given`.
         let Some(case) = self.case_of_service() else {
             return Ok(false);
         };
@@ -172,11 +175,12 @@ impl<'a> Draft<'a> {
         Ok(true)
     }
 
-    // Adds a claim to this section: `number` is the number of its line, from 1, and `line` the text of its line. False if no claim is allowed here or
-    // there are too many, and then nothing changes. The error is refused memory.
+    // Adds a claim to the section of the next line: `number` is the number of its line, from 1, and `line` the text of its line. False if no claim is
+    // allowed here or there are too many, and then nothing changes. The error is refused memory.
     fn add_claim(&mut self, number: usize, line: &'a [u8], claim: Claim) -> Result<bool, AllocError>
         ensures { IfOk result (λ good. IsPlaced (with_claim (draft_of self.old) number line.now (claim_of claim) (case_of_claim self.old.part (test_of self.old.test))) (draft_of self.new) good) }
     {
+        // `case` is the place of the section's case, and None below `always`.
         let Some(case) = self.case_of_claim() else {
             return Ok(false);
         };
@@ -192,13 +196,14 @@ impl<'a> Draft<'a> {
         Ok(true)
     }
 
-    // Adds a line of this kind, with its number, from 1, and its text; false if it isn't allowed here, and then nothing changes. The error is refused
-    // memory.
+    // Adds a line to the draft: `kind` says what it is, `number` is its number, from 1, and `line` its text. False if the line isn't allowed at this
+    // place of the test, and then nothing changes. The error is refused memory.
     #[tactic(auto, unfolding(crate::specs::Drafts::placed))]
     fn place(&mut self, number: usize, line: &'a [u8], kind: Kind<'a>) -> Result<bool, AllocError>
         ensures { IfOk result (λ good. IsPlaced (placed (draft_of self.old) number line.now (kind_of kind.entry)) (draft_of self.new) good) }
     {
         match kind {
+            // A line without a token is allowed anywhere, and adds nothing.
             Kind::Blank => Ok(true),
             Kind::Given => Ok(self.begin_given(number)),
             Kind::Always => Ok(self.begin_always()),
@@ -220,6 +225,7 @@ impl<'a> Draft<'a> {
         requires { length line.now ≤ LONGEST_SOURCE }
         ensures { IfOk result (λ end. IsRead number (read_line (draft_of self.old) number line.now) (draft_of self.new) end) }
     {
+        // Without the blanks and the comment. None if the line isn't made of tokens.
         let Some(tokens) = cut_line(alloc, line)? else {
             return Ok(LineEnd::NoLine);
         };
@@ -229,13 +235,16 @@ impl<'a> Draft<'a> {
         if MOST_SITES < self.test.sites.len() {
             return Ok(LineEnd::NoLine);
         }
+        // What the readers of the line look names up in.
         let scope = Scope {
             sites: self.test.sites.as_slice(),
             line: tokens.as_slice(),
         };
+        // What the line is: a section's beginning, a service or a claim. None if it is none of these.
         let Some(kind) = scope.kind(alloc)? else {
             return Ok(LineEnd::NoLine);
         };
+        // True if the line is allowed here.
         if self.place(number, line, kind)? {
             Ok(LineEnd::Read)
         } else {

@@ -17,7 +17,7 @@ use crate::token::{Token, behind, is_this, opens_bracket, same_tokens, site_name
 use orc_claims::claim::{Event, Simple, Slot, Wanted};
 use std::alloc::{AllocError, Global};
 
-/// The place of a site among these, from 0; the length of the list if it isn't among them.
+/// The place, from 0, among `sites` of the site with this name and this number of arguments; the length of the list if it isn't among them.
 pub fn number_of_site(sites: &[SiteName<'_>], name: &[u8], arguments: usize) -> usize
     ensures number { result ≡ site_number (sites_of sites.now) name.now arguments }
     ensures within { result ≤ length sites.now }
@@ -27,11 +27,12 @@ pub fn number_of_site(sites: &[SiteName<'_>], name: &[u8], arguments: usize) -> 
             return at;
         }
     }
+    // No site has this name with so many arguments.
     sites.len()
 }
 
-/// Whether a list of items ends here: (false, the tokens behind the word) if they begin with the word that stands between items, and otherwise (true,
-/// the same tokens).
+/// Whether a list of items ends here. `word` is the word that stands between items. If the tokens begin with it, the answer is (false, the tokens
+/// behind the word); otherwise the list ends, and the answer is (true, the same tokens).
 pub fn more_behind<'t, 'b>(word: &[u8], tokens: &'t [Token<'b>]) -> (bool, &'t [Token<'b>])
     ensures { (result.0, tokens_of result.1.now) ≡ more_items word.now (tokens_of tokens.now) }
 {
@@ -42,7 +43,8 @@ pub fn more_behind<'t, 'b>(word: &[u8], tokens: &'t [Token<'b>]) -> (bool, &'t [
 }
 
 impl Scope<'_, '_> {
-    // Reads what stands behind `answered`: the value, `_` or variable; if there is none, any answer will do and nothing is read.
+    // Reads what stands behind `answered`: a value, `_` or a variable. If there is none, any answer will do and nothing is read. Gives what is
+    // wanted, and the tokens that are left.
     fn answered<'t, 'b>(self, tokens: &'t [Token<'b>]) -> (Wanted, &'t [Token<'b>])
         ensures { (result.0, tokens_of result.1.now) ≡ answered_at (tokens_of self.entry.line.now) (tokens_of tokens.now) }
     {
@@ -56,7 +58,7 @@ impl Scope<'_, '_> {
     }
 
     // Reads what stands behind a call: `called`, `answered`, `halted` or `cancelled`. If it is none of these words, `called` is meant and nothing is
-    // read.
+    // read. Gives what is wanted to become of the call, and the tokens that are left.
     #[tactic(auto, unfolding(crate::specs::Claims::wanted_at))]
     fn wanted<'t, 'b>(self, tokens: &'t [Token<'b>]) -> (Wanted, &'t [Token<'b>])
         ensures { (result.0, tokens_of result.1.now) ≡ wanted_at (tokens_of self.entry.line.now) (tokens_of tokens.now) }
@@ -79,8 +81,8 @@ impl Scope<'_, '_> {
         }
     }
 
-    // Reads a call of the site that `token` names, and what becomes of it, from the `tokens` behind that name. None if they are no such thing. The
-    // error is refused memory.
+    // Reads a call of the site that `token` names, and what becomes of it, from the `tokens` behind that name. None if the name is reserved, or
+    // brackets with slots don't follow. The error is refused memory.
     #[tactic(auto, unfolding(crate::specs::Claims::call_at))]
     fn call<'t, 'b>(
         self,
@@ -93,16 +95,18 @@ impl Scope<'_, '_> {
         let Some(name) = site_name(token) else {
             return Ok(None);
         };
+        // The slots (values, `_` or variables) in the brackets, which the arguments have to fit.
         let Some((slots, rest)) = self.slots(alloc, tokens)? else {
             return Ok(None);
         };
-        // It is one of the scope's sites, since they include those of its own line; `Scope` says that their places fit 32 bits.
+        // The site is one of the scope's sites, since these include those of its own line; `Scope` says that their places fit 32 bits.
         let site = number_of_site(self.sites, name, slots.len()) as u32;
         let (wanted, rest) = self.wanted(rest);
         Ok(Some((Simple::Call(site, slots, wanted), rest)))
     }
 
-    // Reads the value, `_` or variable behind `published`; None if there is none.
+    // Reads the value, `_` or variable behind `published`, of the tokens behind that word. Gives the thing that may happen, a publication of such a
+    // value, and the tokens that are left. None if there is no such value.
     #[tactic(auto, unfolding(crate::specs::Claims::published_at))]
     fn published<'t, 'b>(self, tokens: &'t [Token<'b>]) -> Option<(Simple, &'t [Token<'b>])>
         ensures { Gives (λ x. (simple_of x.0, tokens_of x.1.now)) result (published_at (tokens_of self.entry.line.now) (tokens_of tokens.now)) }
@@ -113,7 +117,8 @@ impl Scope<'_, '_> {
         }
     }
 
-    // Reads one thing that may happen. A word before a bracket is a site, so that a site may be called `published`. The error is refused memory.
+    // Reads one thing that may happen, a call or a publication, and gives it with the tokens that are left. None if the tokens don't begin so. A word
+    // before a bracket is a site, so that a site may be called `published`. The error is refused memory.
     #[tactic(auto, unfolding(crate::specs::Claims::simple_at))]
     fn simple<'t, 'b>(
         self,
@@ -136,7 +141,8 @@ impl Scope<'_, '_> {
         }
     }
 
-    // Reads one thing that may happen and the `or` behind it, if there is one: true says that there is none. The error is refused memory.
+    // Reads one thing that may happen and the `or` behind it, if there is one. Gives the thing, true if no `or` follows, and the tokens that are
+    // left. None if the tokens don't begin with such a thing. The error is refused memory.
     fn event_step<'t, 'b>(
         self,
         alloc: Global,
@@ -161,7 +167,7 @@ impl Scope<'_, '_> {
         ensures { IfOk result (λ o. Gives (λ x. (event_of x.0, tokens_of x.1.now)) o (event_at (sites_of self.entry.sites.now) (tokens_of self.entry.line.now) (tokens_of tokens.now))) }
     {
         let mut alternatives = Vec::new(alloc);
-        // `same_tokens` gives the tokens back as they are; the prover alone needs it.
+        // `rest` is what isn't read yet. `same_tokens` gives the tokens back as they are; the prover alone needs it.
         let mut rest = same_tokens(tokens);
         // Each turn reads a token at least, so there are enough turns.
         for _ in 0..tokens.len() {

@@ -16,7 +16,7 @@ use crate::token::{Token, is_equals_sign, is_this, name};
 use orc_claims::claim::Claim;
 use std::alloc::{AllocError, Global};
 
-/// What a line is.
+/// What a line of a test is.
 #[derive(Drop)]
 pub enum Kind<'a> {
     /// It has no token: blanks, or a comment.
@@ -81,6 +81,7 @@ impl<'a> Scope<'_, 'a> {
     fn section_or_claim(self, alloc: Global) -> Result<Option<Kind<'a>>, AllocError>
         ensures { IfOk result (λ o. Gives kind_of o (other_at (sites_of self.entry.sites.now) (tokens_of self.entry.line.now))) }
     {
+        // The line's tokens are one of the section's words, or `case` and a name.
         if let Some(section) = section(self.line) {
             return Ok(Some(section));
         }
@@ -101,6 +102,7 @@ impl<'a> Scope<'_, 'a> {
         if !has_equals_sign(self.line) {
             return self.section_or_claim(alloc);
         }
+        // A line with a `=` has to be a service.
         let Some(service) = service(alloc, self.line)? else {
             return Ok(None);
         };

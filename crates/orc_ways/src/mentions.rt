@@ -32,7 +32,7 @@ fn argument_step<'t, 'a>(tokens: &'t [Token<'a>]) -> Option<(bool, &'t [Token<'a
 fn some_arguments(tokens: &[Token<'_>]) -> Option<usize>
     ensures { result ≡ arguments_from MOST_ARGUMENTS (tokens_of tokens.now) }
 {
-    // `same_tokens` gives the tokens back as they are; the prover alone needs it.
+    // `rest` is what isn't read yet. `same_tokens` gives the tokens back as they are; the prover alone needs it.
     let mut rest = same_tokens(tokens);
     // `before` is how many arguments have been read.
     for before in 0..MOST_ARGUMENTS {

@@ -19,7 +19,8 @@ use orc_rules::limits::LONGEST_SOURCE;
 use orc_site::split_line;
 use std::alloc::{AllocError, Global};
 
-// The draft that the lines of a text make, up to the last one. The faults are T1 and T4 of the first line that has one, and refused memory.
+// The draft (what the lines say of a test) that all lines of a text make. The faults are T1 (no line of a test) and T4 (not allowed there) of the
+// first line that has one, and refused memory.
 fn read_draft<'a>(alloc: Global, text: &'a [u8]) -> Result<Draft<'a>, TestFault>
     requires { length text.now ≤ LONGEST_SOURCE }
     ensures read { IfOk result (λ d. read_text text.now ≡ says (draft_of d)) }
@@ -65,7 +66,7 @@ fn finish(draft: Draft<'_>) -> Result<Test<'_>, AllocError>
     Ok(test)
 }
 
-// Whether a service of the test has the site's name and as many patterns as the site has arguments.
+// Whether one of the test's lines of services, `lines`, is for this site: it has the site's name and as many patterns as the site has arguments.
 fn is_served(site: &SiteName<'_>, lines: &[ServiceLine<'_>]) -> bool
     ensures { result ≡ list_any (serves_site (site_of site.now)) (service_lines_of lines.now) }
 {
@@ -106,9 +107,11 @@ pub fn read_test<'a>(alloc: Global, text: &'a [u8], others: &Answers) -> Result<
         Ok(draft) => draft,
         Err(fault) => return Err(fault),
     };
+    // The draft becomes the test; the only error is refused memory.
     let Ok(test) = finish(draft) else {
         return Err(TestFault::Memory);
     };
+    // Each site that the test names has to be a service of the test or one of `others`.
     if let Some(line) = unknown(others, test.services.as_slice(), test.sites.as_slice()) {
         return Err(TestFault::Unknown(line));
     }

@@ -52,6 +52,7 @@ fn range<'t, 'a>(
     ensures { Gives (λ x. (x.0, tokens_of x.1.now)) result (range_at answer low (tokens_of tokens.now)) }
 {
     match tokens {
+        // Nothing follows: the delay is `low` alone.
         [] => Some((Reply::Between(answer, low, low), tokens)),
         [token, rest @ ..] => {
             if is_dots_sign(token) {
@@ -69,6 +70,7 @@ fn delayed<'t, 'a>(answer: Answer, tokens: &'t [Token<'a>]) -> Option<(Reply, &'
     ensures { Gives (λ x. (x.0, tokens_of x.1.now)) result (delay_or answer (tokens_of tokens.now) (behind_word (codes "after") (tokens_of tokens.now))) }
 {
     match behind(b"after", tokens) {
+        // No `after` follows: the answer comes at once.
         None => Some((Reply::Between(answer, 0, 0), tokens)),
         Some(rest) => {
             let (low, rest) = number_first(rest)?;
@@ -77,7 +79,7 @@ fn delayed<'t, 'a>(answer: Answer, tokens: &'t [Token<'a>]) -> Option<(Reply, &'
     }
 }
 
-// Reads one answer with its delay, or `never`, which takes none.
+// Reads one answer with its delay, or `never`, which has none. Gives this reply, and the tokens behind it. None if neither comes first.
 #[tactic(auto, unfolding(crate::specs::Lines::reply_at))]
 fn reply<'t, 'a>(tokens: &'t [Token<'a>]) -> Option<(Reply, &'t [Token<'a>])>
     ensures { Gives (λ x. (x.0, tokens_of x.1.now)) result (reply_at (tokens_of tokens.now)) }
@@ -93,7 +95,8 @@ fn reply<'t, 'a>(tokens: &'t [Token<'a>]) -> Option<(Reply, &'t [Token<'a>])>
     }
 }
 
-// Reads one answer and the `then` behind it, if there is one: true says that there is none.
+// Reads one answer and the `then` behind it, if there is one. Gives the answer with its delay, true if no `then` follows, and the tokens that are
+// left. None if no answer comes first.
 fn reply_step<'t, 'a>(tokens: &'t [Token<'a>]) -> Option<(Reply, bool, &'t [Token<'a>])>
     ensures { Gives (λ x. (x.0, x.1, tokens_of x.2.now)) result (reply_step (tokens_of tokens.now)) }
 {
@@ -102,7 +105,8 @@ fn reply_step<'t, 'a>(tokens: &'t [Token<'a>]) -> Option<(Reply, bool, &'t [Toke
     Some((reply, is_last, rest))
 }
 
-// Reads a history: one to `MOST_ANSWERS` answers with `then` between them. None for more. The error is refused memory.
+// Reads a history: one to `MOST_ANSWERS` answers with `then` between them, for the first call, the second one and so on. Gives the answers, and the
+// tokens behind them. None for more, or if no answer comes first. The error is refused memory.
 fn history<'t, 'a>(
     alloc: Global,
     tokens: &'t [Token<'a>],
@@ -110,7 +114,7 @@ fn history<'t, 'a>(
     ensures { IfOk result (λ o. Gives (λ x. (x.0.items, tokens_of x.1.now)) o (history_at (tokens_of tokens.now))) }
 {
     let mut replies = Vec::new(alloc);
-    // `same_tokens` gives the tokens back as they are; the prover alone needs it.
+    // `rest` is what isn't read yet. `same_tokens` gives the tokens back as they are; the prover alone needs it.
     let mut rest = same_tokens(tokens);
     for _ in 0..MOST_ANSWERS {
         let Some((reply, is_last, behind)) = reply_step(rest) else {
@@ -125,7 +129,8 @@ fn history<'t, 'a>(
     Ok(None)
 }
 
-// Whether the alternatives end here: (false, the tokens behind the `|`) if one stands first, and otherwise (true, the same tokens).
+// Whether the alternatives of a service end here. If a `|` stands first, the answer is (false, the tokens behind the `|`), and another alternative
+// follows; otherwise it is (true, the same tokens).
 fn more_alternatives<'t, 'a>(tokens: &'t [Token<'a>]) -> (bool, &'t [Token<'a>])
     ensures { (result.0, tokens_of result.1.now) ≡ more_bars (tokens_of tokens.now) }
 {
@@ -141,7 +146,8 @@ fn more_alternatives<'t, 'a>(tokens: &'t [Token<'a>]) -> (bool, &'t [Token<'a>])
     }
 }
 
-// Reads one alternative, which is a history, and the `|` behind it, if there is one: true says that there is none. The error is refused memory.
+// Reads one alternative, which is a history (answers with `then` between them), and the `|` behind it, if there is one. Gives the history, true if no
+// `|` follows, and the tokens that are left. None if no answer comes first. The error is refused memory.
 fn alternative_step<'t, 'a>(
     alloc: Global,
     tokens: &'t [Token<'a>],
@@ -155,7 +161,8 @@ fn alternative_step<'t, 'a>(
     Ok(Some((replies, is_last, rest)))
 }
 
-// Reads one to `MOST_ALTERNATIVES` alternatives with `|` between them. None for more. The error is refused memory.
+// Reads one to `MOST_ALTERNATIVES` alternatives with `|` between them, each a list of answers. Gives them, and the tokens behind them. None for more,
+// or if the tokens don't begin so. The error is refused memory.
 fn alternatives<'t, 'a>(
     alloc: Global,
     tokens: &'t [Token<'a>],
@@ -163,7 +170,7 @@ fn alternatives<'t, 'a>(
     ensures { IfOk result (λ o. Gives (λ x. (histories_of x.0.items, tokens_of x.1.now)) o (alternatives_at (tokens_of tokens.now))) }
 {
     let mut alternatives = Vec::new(alloc);
-    // `same_tokens` gives the tokens back as they are; the prover alone needs it.
+    // `rest` is what isn't read yet. `same_tokens` gives the tokens back as they are; the prover alone needs it.
     let mut rest = same_tokens(tokens);
     for _ in 0..MOST_ALTERNATIVES {
         let Some((replies, is_last, behind)) = alternative_step(alloc, rest)? else {
@@ -178,7 +185,7 @@ fn alternatives<'t, 'a>(
     Ok(None)
 }
 
-// Whether a history is one answer.
+// Whether a history (the answers to the first call, the second one and so on) is one answer.
 fn is_one_answer(replies: &[Reply]) -> bool
     ensures { result ≡ is_one replies.now }
 {
@@ -188,7 +195,7 @@ fn is_one_answer(replies: &[Reply]) -> bool
     }
 }
 
-// Whether each alternative is one answer.
+// Whether each alternative of a service is one answer, without `then`.
 fn are_single(alternatives: &[Vec<Reply>]) -> bool
     ensures { result ≡ list_all is_one (histories_of alternatives.now) }
 {
@@ -225,6 +232,7 @@ fn calls(alternatives: &[Vec<Reply>], tokens: &[Token<'_>]) -> Option<usize>
     ensures { result ≡ calls_at (histories_of alternatives.now) (tokens_of tokens.now) }
 {
     match tokens {
+        // The words are left out: the line takes one alternative for all its calls.
         [] => Some(1),
         [a, b, c, count, d] => {
             if !are_words(a, b, c, d) {

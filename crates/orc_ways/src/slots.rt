@@ -20,8 +20,8 @@ use orc_rules::limits::MOST_ARGUMENTS;
 use orc_rules::value::Value;
 use std::alloc::{AllocError, Global};
 
-// Whether a word may follow a slot in a claim. Such a word is no variable: else the `or` of `A(_) answered or B(_)` could be the value that is
-// answered.
+// Whether a word may follow a slot (a value, `_` or a variable) in a claim. Such a word is no variable: else the `or` of `A(_) answered or B(_)`
+// could be the value that is answered.
 fn follows_value(name: &[u8]) -> bool
     ensures { result ≡ follows name.now }
 {
@@ -44,6 +44,7 @@ fn begins_small(name: &[u8]) -> bool
     ensures { result ≡ is_small name.now }
 {
     match name {
+        // No name is empty; the function has to answer for it all the same.
         [] => false,
         [c, ..] => c.is_ascii_lowercase(),
     }
@@ -56,7 +57,7 @@ fn is_variable_name(name: &[u8]) -> bool
     begins_small(name) && !follows_value(name)
 }
 
-// The place, from 0, of the first token of the line that is this word; None if no token is.
+// The place, from 0, of the first token of `line` that is the word `word`; None if no token is.
 fn place_in(line: &[Token<'_>], word: &[u8]) -> Option<usize>
     ensures place { result ≡ place_of word.now (tokens_of line.now) }
     ensures within { IfSome result (λ at. at < length line.now) }
@@ -69,7 +70,7 @@ fn place_in(line: &[Token<'_>], word: &[u8]) -> Option<usize>
     None
 }
 
-// The slot of a pattern as scripts have it, where None is `_`.
+// The slot for `pattern`, which is what scripts have in the place of a value: None is `_`, which any value fits.
 fn slot_of_pattern(pattern: Option<Value>) -> Slot
     ensures { result ≡ slot_of pattern }
 {
@@ -86,6 +87,7 @@ impl Scope<'_, '_> {
         ensures { result ≡ variable_in (tokens_of self.entry.line.now) name.now }
     {
         if is_variable_name(name) {
+            // The name stands in the line, so it has a place.
             let at = place_in(self.line, name)?;
             // The cast loses nothing: `Scope` says that places in the line fit 32 bits.
             Some(Slot::Variable(at as u32))
@@ -94,18 +96,21 @@ impl Scope<'_, '_> {
         }
     }
 
-    /// What a token is in the place of a value: a value, `_` or a variable; None for any other token.
+    /// What a token is that stands in the place of a value: a value, `_` or a variable; None for any other token. A variable is known by the place of
+    /// its first token in the line.
     #[tactic(auto, unfolding(crate::specs::Claims::slot_in))]
     pub fn slot(self, token: &Token<'_>) -> Option<Slot>
         ensures { result ≡ slot_in (tokens_of self.entry.line.now) (token_of token.now) }
     {
+        // `pattern` tells a value or `_`.
         if let Some(pattern) = pattern(token) {
             return Some(slot_of_pattern(pattern));
         }
         self.variable(name(token)?)
     }
 
-    // Reads one slot and the sign behind it: the slot, true for `)` and false for a comma, and the tokens behind that sign. None for anything else.
+    // Reads one slot (a value, `_` or a variable) and the sign behind it: the slot, true for `)` and false for a comma, and the tokens behind that
+    // sign. None if the tokens don't begin with a slot and one of these signs.
     fn slot_step<'t, 'b>(self, tokens: &'t [Token<'b>]) -> Option<(Slot, bool, &'t [Token<'b>])>
         ensures { Gives (λ x. (x.0, x.1, tokens_of x.2.now)) result (slot_step (tokens_of self.entry.line.now) (tokens_of tokens.now)) }
     {
@@ -119,7 +124,7 @@ impl Scope<'_, '_> {
     }
 
     // Reads one to `MOST_ARGUMENTS` slots with commas between them up to the `)`: the slots, and the tokens behind it. None if the tokens don't begin
-    // so, or the slots are more. The error is refused memory.
+    // so, or the slots are more. The error is refused memory. A slot is a value, `_` or a variable.
     fn some_slots<'t, 'b>(
         self,
         alloc: Global,
@@ -128,7 +133,7 @@ impl Scope<'_, '_> {
         ensures { IfOk result (λ o. Gives (λ x. (x.0.items, tokens_of x.1.now)) o (many (slot_step (tokens_of self.entry.line.now)) MOST_ARGUMENTS (tokens_of tokens.now))) }
     {
         let mut slots = Vec::new(alloc);
-        // `same_tokens` gives the tokens back as they are; the prover alone needs it.
+        // `rest` is what isn't read yet. `same_tokens` gives the tokens back as they are; the prover alone needs it.
         let mut rest = same_tokens(tokens);
         for _ in 0..MOST_ARGUMENTS {
             let Some((slot, is_last, behind)) = self.slot_step(rest) else {
@@ -144,7 +149,7 @@ impl Scope<'_, '_> {
     }
 
     // Reads the slots behind a `(`, none to `MOST_ARGUMENTS`: the slots, and the tokens behind the `)`. None if the tokens don't begin so. The error
-    // is refused memory.
+    // is refused memory. A slot is a value, `_` or a variable.
     fn slots_behind<'t, 'b>(
         self,
         alloc: Global,
@@ -156,6 +161,7 @@ impl Scope<'_, '_> {
             [] => Ok(None),
             [token, rest @ ..] => {
                 if is_right_bracket(token) {
+                    // `()` has no slots.
                     return Ok(Some((Vec::new(alloc), rest)));
                 }
                 self.some_slots(alloc, tokens)
@@ -164,7 +170,7 @@ impl Scope<'_, '_> {
     }
 
     /// Reads slots in brackets, none to `MOST_ARGUMENTS`: the slots, and the tokens behind the `)`. None if the tokens don't begin so. The error is
-    /// refused memory.
+    /// refused memory. A slot is a value, `_` or a variable.
     #[tactic(auto, unfolding(crate::specs::Claims::slots_at))]
     pub fn slots<'t, 'b>(
         self,

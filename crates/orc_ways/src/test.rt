@@ -3,7 +3,7 @@
 use orc_claims::claim::{Claim, Slot};
 use orc_rules::value::Answer;
 
-/// What a service answers to one call.
+/// What a service may answer to one call.
 #[derive(Clone, Copy, PartialEq, Eq, Debug)]
 pub enum Reply {
     /// This answer after a delay, in units of logical time, from the first number to the second, both included. `after 5` is 5 to 5.

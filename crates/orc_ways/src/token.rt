@@ -64,7 +64,7 @@ fn first_token(bytes: &[u8]) -> Option<(Token<'_>, &[u8])>
     }
 }
 
-/// The tokens of a line, up to its comment. None where it isn't made of tokens. The error is refused memory.
+/// The tokens of a line, up to its comment. None where some of its text before the comment is no token. The error is refused memory.
 pub fn cut_line<'a>(alloc: Global, line: &'a [u8]) -> Result<Option<Vec<Token<'a>>>, AllocError>
     ensures value { IfOk result (λ o. Gives (λ v. tokens_of v.items) o (cut line.now)) }
     ensures within { IfOk result (λ o. IfSome o (λ v. length v.items ≤ length line.now)) }
@@ -90,12 +90,13 @@ pub fn cut_line<'a>(alloc: Global, line: &'a [u8]) -> Result<Option<Vec<Token<'a
     }
 }
 
-/// Whether a token is this word.
+/// Whether a token is the word `word`.
 pub fn is_this(token: &Token<'_>, word: &[u8]) -> bool
     ensures { result ≡ is_word word.now (token_of token.now) }
 {
     match token {
         Token::Plain(token) => line::is_this(token, word),
+        // `|` and `..` are no words.
         _ => false,
     }
 }
@@ -151,16 +152,19 @@ pub fn number(token: &Token<'_>) -> Option<u64>
     ensures { result ≡ number_of (token_of token.now) }
 {
     match token {
+        // A token that scripts have, too: the script's own reader tells.
         Token::Plain(token) => line::delay(token),
         _ => None,
     }
 }
 
-/// The pattern that a token is: Some(None) for `_`, and otherwise its value. None if it is neither.
+/// The pattern that a token is, which stands in the place of a value: Some(None) for `_`, which any value fits, and Some(Some(v)) for the value v.
+/// None if the token is neither.
 pub fn pattern(token: &Token<'_>) -> Option<Option<Value>>
     ensures { result ≡ pattern_in (token_of token.now) }
 {
     match token {
+        // A token that scripts have, too: the script's own reader tells.
         Token::Plain(token) => line::pattern(token),
         _ => None,
     }
@@ -171,6 +175,7 @@ pub fn answer(token: &Token<'_>) -> Option<Answer>
     ensures { result ≡ answer_in (token_of token.now) }
 {
     match token {
+        // A token that scripts have, too: the script's own reader tells.
         Token::Plain(token) => line::answer(token),
         _ => None,
     }
@@ -202,7 +207,7 @@ pub fn site_name<'a>(token: &Token<'a>) -> Option<&'a [u8]>
     }
 }
 
-/// Whether the first token is `(`.
+/// Whether the first of these tokens is `(`. False if there is no token.
 pub fn opens_bracket(tokens: &[Token<'_>]) -> bool
     ensures { result ≡ opens (tokens_of tokens.now) }
 {
@@ -212,7 +217,7 @@ pub fn opens_bracket(tokens: &[Token<'_>]) -> bool
     }
 }
 
-/// The tokens behind this word, if it is the first token; None otherwise.
+/// The tokens behind the word `word`, if it is the first of these tokens; None if another token, or none, comes first.
 pub fn behind<'t, 'a>(word: &[u8], tokens: &'t [Token<'a>]) -> Option<&'t [Token<'a>]>
     ensures { option_map (λ rest. tokens_of rest.now) result ≡ behind_word word.now (tokens_of tokens.now) }
 {
