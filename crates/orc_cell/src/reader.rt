@@ -11,6 +11,7 @@ use crate::note::Note;
 pub struct Reader<'c, T: Drop> {
     cell: &'c Cell<T>,
     note: Note<T>,
+    // The note is of this cell.
     ghost its_note: { subject note ≡ identity cell.now },
 }
 

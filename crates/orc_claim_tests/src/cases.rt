@@ -9,6 +9,7 @@ use std::test::Fail;
 
 // The ways of a text's first case. None if the text is no test, or the case has too many ways.
 fn ways_of(alloc: Global, text: &[u8]) -> Result<Option<Ways>, AllocError> {
+    // The built-in sites: a test needs no service for these.
     let others = Answers::builtin(alloc)?;
     match read_test(alloc, text, &others) {
         Ok(test) => Ways::of_case(alloc, &test, 0),
@@ -23,6 +24,7 @@ fn scripts_of(alloc: Global, text: &[u8]) -> Result<Vec<u8>, AllocError> {
     let Some(ways) = ways_of(alloc, text)? else {
         return Ok(told);
     };
+    // The scripts of all ways, with no lines behind those of the services.
     let scripts = ways.scripts(alloc, ways.count(), b"")?;
     for (number, script) in scripts.iter().enumerate() {
         told.extend_from_slice(b"way\n")?;
@@ -36,6 +38,7 @@ fn scripts_of(alloc: Global, text: &[u8]) -> Result<Vec<u8>, AllocError> {
 // Tests, and the ways of their first cases, as `scripts_of` writes them: behind a line `way` the unusual lines of the way, and behind a line `-` its
 // script. Those with fewer unusual lines come first, and of these those with fewer unusual calls.
 const WAYS: [(&[u8], &[u8]); 4] = [
+    // The three alternatives of A with the two of B make six ways.
     (
         b"case c\nA(_) = 1 | 2 | never\nB(1, true) = 4 after 3 | halt after 7\n",
         b"way\n-\nA(_) = 1\nB(1, true) = 4 after 3\n\
@@ -45,7 +48,7 @@ const WAYS: [(&[u8], &[u8]); 4] = [
         way\nA(_) = 2\nB(1, true) = halt after 7\n-\nA(_) = 2\nB(1, true) = halt after 7\n\
         way\nA(_) = never\nB(1, true) = halt after 7\n-\nA(_) = never\nB(1, true) = halt after 7\n",
     ),
-    // A service whose calls are answered independently of each other.
+    // A service whose calls are answered independently of each other: its two calls make four ways, and with the two alternatives of B eight.
     (
         b"case c\nA() = 1 | 2 in each of 2 calls\nB() = 3 | 4\n",
         b"way\n-\nA() = 1 then 1\nB() = 3\n\
@@ -73,6 +76,7 @@ const WAYS: [(&[u8], &[u8]); 4] = [
     ),
 ];
 
+// The first case of each text has the ways of its row, in this order.
 #[test]
 fn a_case_has_its_ways_in_order(rt: HostRuntime) -> Result<(), Fail> {
     for (text, wanted) in WAYS.iter() {
@@ -82,8 +86,8 @@ fn a_case_has_its_ways_in_order(rt: HostRuntime) -> Result<(), Fail> {
     Ok(())
 }
 
-// Tests, and how many ways their first cases have: None where they are over a million. The third has one too many, the fourth 32 to the power of 4,
-// and the fifth 31 squared. A case without lines has one way.
+// Tests, and how many ways their first cases have: None where they are over a million. Each number of a range is an alternative of its own. The third
+// has one too many, the fourth 32 to the power of 4, and the fifth 31 squared. A case without lines has one way.
 const SIZES: [(&[u8], Option<u64>); 6] = [
     (b"case c\nA() = 1 after 0..9223372036854775807\n", None),
     (b"case c\nA() = 1 after 1..100\n", Some(100)),
@@ -99,6 +103,7 @@ const SIZES: [(&[u8], Option<u64>); 6] = [
     (b"case c\n", Some(1)),
 ];
 
+// `ways_of` gives None for a case with too many ways.
 #[test]
 fn a_case_has_so_many_ways(rt: HostRuntime) -> Result<(), Fail> {
     for (text, wanted) in SIZES.iter() {
@@ -129,6 +134,7 @@ fn ranges_told(alloc: Global, text: &[u8], failing: &[&[u8]]) -> Result<Vec<u8>,
     for script in scripts.iter() {
         fails.push(is_among(failing, script.as_slice()))?;
     }
+    // 0 is the number of the way whose ranges are written.
     ways.failing_ranges(alloc, 0, fails.as_slice())
 }
 
@@ -151,7 +157,7 @@ const FAILING: [(&[u8], &[&[u8]], &[u8]); 5] = [
         ],
         b"A() = 1 after 3..5, 9\n",
     ),
-    // A number occurs once for each script that has it.
+    // Several scripts that fail may have the same number in A's line. It is written once, and so 0, 2, 3 and 7 are.
     (
         b"case c\nA() = 1 after 0..7\nB() = 1 | 2 | 3\n",
         &[
@@ -166,6 +172,7 @@ const FAILING: [(&[u8], &[&[u8]], &[u8]); 5] = [
         ],
         b"A() = 1 after 0, 2..3, 7\n",
     ),
+    // The greatest numbers that a text may have, which touch, too.
     (
         b"case c\nA() = 1 after 9223372036854775806..9223372036854775807\n",
         &[

@@ -15,6 +15,7 @@ use orc_search::terms::Terms;
 use std::alloc::{AllocError, Global};
 use std::test::Fail;
 
+// The only value of these tests: calls give it, it is published, and it is put for names.
 const ONE: Value = Value::Number(1);
 
 // How to make a term, perhaps from terms that were made before it, which are named by their places in the row. Site 7 is the first that isn't built
@@ -224,6 +225,7 @@ fn the_call_that_is_due_first_says_when_time_stops(rt: HostRuntime) -> Result<()
 #[test]
 fn the_first_side_of_an_otherwise_publishes_on(rt: HostRuntime) -> Result<(), Fail> {
     let mut terms = Terms::new(rt.alloc());
+    // Place 0 is `stop`, which the left side of the `;` becomes, and place 1 its right side.
     let made = numbers_of(&mut terms, rt.alloc(), [Make::Nothing, NAMES].as_slice())?;
     let frame = Frame::First(at(made.as_slice(), 1)?);
     let whole = taken(&mut terms, rt.alloc(), frame, at(made.as_slice(), 0)?)?;
@@ -251,6 +253,7 @@ fn a_program_has_its_terms(rt: HostRuntime) -> Result<(), Fail> {
     let program = program(alloc)?;
     let mut terms = Terms::new(alloc);
     let numbers = numbered(&mut terms, alloc, &program)?;
+    // The call `M(x, x)`, the value 1, and at place 2 the pruning that joins the two.
     let makes = [
         Make::Asks(Param::Name(5), Param::Name(5)),
         Make::Gives(Param::Is(ONE)),

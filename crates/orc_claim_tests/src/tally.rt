@@ -65,6 +65,7 @@ fn a_way_that_fails_twice_is_one_way(rt: HostRuntime) -> Result<(), Fail> {
     Ok(())
 }
 
+// The value that stands for each argument of a call here.
 const ONE: Value = Value::Number(1);
 
 // Site 7 as claims name it: with two arguments it has the number 0, with one argument 1.

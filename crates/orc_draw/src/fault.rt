@@ -11,6 +11,7 @@ pub enum DrawFault {
     Memory,
 }
 
+// With these two impls `?` turns refused memory, by either type of error, into the fault `Memory`.
 impl From<AllocError> for DrawFault {
     fn from(_error: AllocError) -> DrawFault {
         DrawFault::Memory

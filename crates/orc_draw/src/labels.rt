@@ -36,6 +36,7 @@ impl Texts<'_, '_> {
                     page.tell("%%", &[Fill::Word(name), Fill::Values(args.as_slice())]);
                 }
             }
+            // A pruning whose value no variable gets.
             Kind::Pruning(Purpose::Nothing) => page.say("_ <-"),
             Kind::Pruning(Purpose::Variable(name)) => {
                 page.tell("% <-", &[Fill::Word(name.text)]);
@@ -52,7 +53,7 @@ impl Texts<'_, '_> {
         page.finish()
     }
 
-    // Writes the tokens of an otherwise's left side as the source has them, with one blank for each gap between two of them. If that is over `LONGEST`
+    // Writes the tokens of an otherwise's left side as the source has them, with one blank for each gap between two tokens. If that is over `LONGEST`
     // columns long, its end becomes `..`.
     fn left_side(&self, page: &mut Page, place: Span) {
         let mut line = Page::new(self.alloc);

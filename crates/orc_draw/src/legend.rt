@@ -92,10 +92,12 @@ fn occurs(picture: &Picture, sign: Sign) -> bool {
                 (Sign::Pause, Kind::Call(called), _) => called.is_pause,
                 (Sign::Answered, Kind::Call(_), Some(End::Answered(_))) => true,
                 (Sign::Halted, Kind::Call(_), Some(End::Halted)) => true,
+                // No sign but those above is of a call that was answered or halted.
                 (_, Kind::Call(_), Some(End::Answered(_) | End::Halted)) => false,
                 // The only end of a call that is left.
                 (Sign::Cancelled, Kind::Call(_), Some(_)) => true,
                 (Sign::Out, Kind::Call(_), None) => true,
+                // The other signs are of prunings and otherwises, or of another end.
                 (_, Kind::Call(_), _) => false,
                 (Sign::Bound, _, Some(End::Bound(_, _))) => true,
                 (Sign::Lost, _, Some(End::Lost)) => true,

@@ -109,6 +109,7 @@ pub fn draw(alloc: Global, subject: &Subject, options: Options) -> Result<String
 /// The rows of the picture of a journal as text of about `width` columns, without the title and without the line on calls that aren't drawn: they are
 /// for a place below a text that says what run it is. The faults are those of [`draw`].
 pub fn draw_rows(alloc: Global, subject: &Subject, width: u64) -> Result<String, DrawFault> {
+    // False: calls of built-in sites other than Rwait, which take no time, have no rows.
     let picture = Picture::new(alloc, subject, false)?;
     let written = text::write_rows(alloc, &picture, width)?;
     Ok(written)
@@ -117,6 +118,7 @@ pub fn draw_rows(alloc: Global, subject: &Subject, width: u64) -> Result<String,
 impl<'a> Picture<'a> {
     // The picture of a subject, with all calls if `all`, as `Options` has it. The faults are those of [`draw`].
     fn new(alloc: Global, subject: &Subject<'a>, all: bool) -> Result<Picture<'a>, DrawFault> {
+        // The sketch is the program's tree with its parts numbered, on which the story follows the journal. `texts` writes the labels of the rows.
         let sketch = Sketch::new(alloc, &subject.ast)?;
         let story = Story::new(alloc, &sketch, &subject.answers, &subject.journal, all)?;
         let texts = Texts { alloc, subject };

@@ -12,7 +12,7 @@ use crate::story::{End, Kind, Span};
 use orc_rules::limits::MOST_ROWS;
 use std::alloc::{AllocError, Global};
 
-/// A row: the place of its span, how many rows it stands in (`depth`, by which it is indented), and its label.
+/// A row: the place of its span among the story's spans, from 0; how many rows it stands in (`depth`, by which it is indented); and its label.
 #[derive(Drop)]
 pub(crate) struct Row {
     pub span: usize,
@@ -98,6 +98,7 @@ impl Tree {
         }
         for place in (0..spans.len()).rev() {
             let outer = spans.get(place).and_then(|span| span.outer);
+            // The span that stood first in the same outer span until now comes next behind this one.
             let beside = tree.put_first(outer, place);
             if let Some(next) = tree.next.get_mut(place) {
                 *next = beside;
@@ -143,6 +144,7 @@ impl Rows {
         for _span in spans {
             rows.of_span.push(None)?;
         }
+        // The spans to which the walk is still to come, the next one on top.
         let mut ahead = Vec::new(alloc);
         if let Some(span) = tree.first {
             ahead.push(Ahead { span, depth: 0 })?;
@@ -152,7 +154,8 @@ impl Rows {
     }
 
     // Adds the rows of the spans that are ahead, of those in them and of those behind them. The next one is on top of `ahead`: what is in a span
-    // comes before what is behind it. Each span is ahead once, so there are no more turns than spans. The faults are those of `new`.
+    // comes before what is behind it. Each span is ahead once, so there are no more turns than spans. The faults are those of `new`. There are
+    // `MOST_ROWS` rows at most, before and afterwards.
     fn walk(
         &mut self,
         ahead: &mut Vec<Ahead>,
@@ -185,7 +188,7 @@ impl Rows {
     }
 
     // Adds the row, with this depth, of the span at `place`, which is worth a row, and says whether the span has one (`is_row`). The faults are those
-    // of `new`.
+    // of `new`. There are `MOST_ROWS` rows at most, before and afterwards.
     fn add(
         &mut self,
         spans: &[Span],

@@ -58,7 +58,8 @@ fn gaps_of(alloc: Global, instants: &[Instant]) -> Result<Vec<u64>, AllocError> 
 }
 
 impl Measure {
-    // The width of a slot, in parts, where there are `total` of them: all together take six tenths of the plot at most.
+    // The width of a slot, in parts, where there are `total` of them: all together take six tenths of the plot at most, and none is wider than
+    // `self.slot`.
     fn slot(&self, total: u64) -> u64
         ensures { result ≤ self.now.slot }
     {
@@ -110,6 +111,7 @@ impl Scale {
             is_true,
         };
         for (i, instant) in instants.iter().enumerate() {
+            // So far `scale.end` is where the bands before this one, with their gaps, end.
             scale.begins.push(scale.end)?;
             let gap = match gaps.get(i) {
                 Some(gap) => least.max(share(free, *gap, whole)),

@@ -7,7 +7,7 @@ use crate::slot::{Instant, Slot};
 use crate::story::{Event, Moment, Shown};
 use std::alloc::{AllocError, Global};
 
-/// The instants in order, and the slots in the order of their entries.
+/// The instants (the times that the picture shows) in order, and the slots in the order of their entries.
 #[derive(Drop)]
 pub(crate) struct Slots {
     pub instants: Vec<Instant>,
@@ -31,6 +31,7 @@ impl Slots {
         for event in events {
             let is_shown = match event.shown {
                 Shown::Span(span) => rows.row_of(span).is_some(),
+                // A publication or a cancel.
                 _ => true,
             };
             if is_shown {

@@ -182,7 +182,8 @@ impl<'a> Story<'a> {
         Ok(story)
     }
 
-    // Follows all entries. What an entry says of its token is noted before the trail takes the token away. The faults are those of `new`.
+    // Follows all entries. What an entry says of its token is noted before the trail, which says where each token stands, takes the token away. The
+    // faults are those of `new`.
     fn read(
         &mut self,
         sketch: &Sketch<'a>,
@@ -190,6 +191,7 @@ impl<'a> Story<'a> {
         journal: &Journal,
     ) -> Result<(), DrawFault> {
         for at in 0..journal.len() {
+            // Never None: `at` is a place of the journal.
             let Some(entry) = journal.get(at) else {
                 return Ok(());
             };
@@ -229,13 +231,15 @@ impl<'a> Story<'a> {
                 }
             }
             Entry::Other(s, _) => {
+                // The token stands on an otherwise, whose shape on the sketch has the place of its left side in the source.
                 if let Shape::Other(_, _, place) = self.trail.shape(sketch, *s) {
                     let span = self.begin(Kind::Otherwise(place), *s, at);
                     self.is_refused = self.others.insert(*s, span).is_err() || self.is_refused;
                 }
             }
-            // A `>x>` takes a value that the token publishes.
+            // A `>x>` takes a value that the token publishes. `leave` ends each otherwise whose left side the value leaves on its way.
             Entry::Send(s, _, _) => self.leave(*s, at),
+            // A call that isn't shown has no span (None), and then `close` does nothing.
             Entry::Return(k, _, value) => {
                 let span = self.shown.get(k).copied();
                 self.close(span, End::Answered(*value), at)
@@ -265,7 +269,8 @@ impl<'a> Story<'a> {
                 self.leave(*s, at);
                 self.note(Shown::Publication(*value), at)
             }
-            // The bind before it has ended the call's span. The end is moved to the cancel; a journal of version 1 has no cancels, so it stays there.
+            // The bind before this entry has ended the call's span as cancelled. The end is moved to the cancel; a journal of version 1 has no
+            // cancels, so there it stays at the bind.
             Entry::Cancel(k) => {
                 if let Some(span) = self.shown.get(k).copied() {
                     self.set_end(span, End::Cancelled, at);
@@ -291,12 +296,13 @@ impl<'a> Story<'a> {
         let is_pause = answers
             .name(site)
             .is_some_and(|name| name == b"Rwait".as_slice());
+        // A call of a built-in site that takes no time is only counted, unless all calls are to be shown.
         if !self.is_whole && !is_pause && !answers.is_scripted(site) {
             self.small = self.small.saturating_add(1);
             return;
         }
         self.calls = self.calls.saturating_add(1);
-        // Asked before this call is counted: `next_call` speaks of the one after those that were counted.
+        // What the table answers to this call. It is asked before the call is counted: `next_call` speaks of the one after those that were counted.
         let found = self.counts.next_call(answers, site, args).found;
         self.is_refused = self.counts.add(answers, site, args).is_err() || self.is_refused;
         // A moment counts entries from 1, the place in the journal from 0.
@@ -375,13 +381,14 @@ impl<'a> Story<'a> {
 
     // ---- spans
 
-    // How a span has ended; None where it hasn't.
+    // How the span at this place has ended; None where it hasn't.
     fn end_of(&self, span: usize) -> Option<End> {
         let (end, _at) = self.spans.get(span)?.end?;
         Some(end)
     }
 
-    // Begins a span where the token with this mark stands, and gives the place of the span.
+    // Begins a span where the token with this mark stands, at the moment `began`, and gives the place of the span. Where memory is refused it sets
+    // `is_refused`.
     fn begin(&mut self, kind: Kind<'a>, mark: u64, began: Moment) -> usize {
         let span = self.spans.len();
         let outer = self.span_round(self.step_of(mark));
@@ -403,7 +410,7 @@ impl<'a> Story<'a> {
         span
     }
 
-    // Makes `newest` the head of the list of the spans in `span`, and gives the head that was. None is the empty list.
+    // Makes `newest` the head of the list of the spans directly in the span at the place `span`, and gives the head that was. None is the empty list.
     fn set_newest(&mut self, span: usize, newest: Option<usize>) -> Option<usize> {
         match self.spans.get_mut(span) {
             Some(outer) => {
@@ -415,7 +422,7 @@ impl<'a> Story<'a> {
         }
     }
 
-    // Sets how and when a span ended, also where it had ended before.
+    // Sets how and when the span at this place ended, also where it had ended before.
     fn set_end(&mut self, span: usize, end: End, at: Moment) {
         if let Some(span) = self.spans.get_mut(span) {
             span.end = Some((end, at));
@@ -427,7 +434,7 @@ impl<'a> Story<'a> {
         self.is_refused = self.events.push(Event { shown, at }).is_err() || self.is_refused;
     }
 
-    // Ends a span with an event, and drops all in it. None is the span of a call that isn't shown.
+    // Ends the span at this place with an event, and drops all spans in it. None is the span of a call that isn't shown: nothing is done.
     fn close(&mut self, span: Option<usize>, end: End, at: Moment) {
         if let Some(span) = span {
             self.drop_inside(span, at);
@@ -436,8 +443,10 @@ impl<'a> Story<'a> {
         }
     }
 
-    // Drops all spans in a span, at whatever depth, with a stack in place of a recursion.
+    // Drops all spans in the span at this place, at whatever depth, with a stack (`dropping`) in place of a recursion.
     fn drop_inside(&mut self, span: usize, at: Moment) {
+        // The span's list becomes empty, and the list's head is to be dropped. Each dropped span leads on to the head of its own list and to the span
+        // before it.
         let newest = self.set_newest(span, None);
         self.drop_later(newest);
         // A span is taken out once at most, since nothing leads to it then, so there are no more turns than spans.

@@ -53,6 +53,7 @@ struct Sheet<'a> {
     right: u64,
     // The width of the whole sheet.
     width: u64,
+    // How the plot's width is shared among the times that are shown.
     scale: Scale,
     // For each row: if it is a call whose answer won a pruning, how far across that pruning was bound, in parts; otherwise 0.
     wins: Vec<u64>,
@@ -214,12 +215,13 @@ impl<'a> Sheet<'a> {
         pixels(self.down(row)).saturating_add(pixels(self.size.row) / 2)
     }
 
-    // The left edge of the band of the instant at this place, from 0, in parts.
+    // The left edge of the band of the instant at this place, from 0, in parts. An instant is a time that the picture shows.
     fn band(&self, instant: usize) -> u64 {
         self.left.saturating_add(self.scale.begin(instant))
     }
 
-    // The middle of a moment's slot, in parts from the sheet's left edge.
+    // The middle of a moment's slot, in parts from the sheet's left edge. A moment is an entry with its time; its slot is the place of that entry
+    // within the band of that time.
     fn across(&self, at: Moment) -> u64 {
         let slot = self.picture.slots.slot(at);
         self.band(slot.instant)
@@ -227,12 +229,14 @@ impl<'a> Sheet<'a> {
             .saturating_add(self.scale.slot / 2)
     }
 
-    // Where a span begins, in parts: the middle of its slot.
+    // Where a span (a call, a pruning or an otherwise) begins, in parts from the sheet's left edge: the middle of the slot of the entry that began
+    // it.
     fn begin(&self, span: &Span) -> u64 {
         self.across(span.began)
     }
 
-    // Where a span ends, in parts: the middle of its slot, or the plot's right edge where it hasn't ended.
+    // Where a span ends, in parts from the sheet's left edge: the middle of the slot of the entry that ended it, or the plot's right edge where it
+    // hasn't ended.
     fn end(&self, span: &Span) -> u64 {
         match span.end {
             Some((_, at)) => self.across(at),
@@ -290,6 +294,7 @@ impl<'a> Sheet<'a> {
         // Where the last label ends, 0 before the first. A label that would come near to it is left out.
         let mut last: u64 = 0;
         for (i, instant) in instants.iter().enumerate() {
+            // Where the band begins, and how wide it is: as wide as its slots.
             let begin = self.band(i);
             let width = self.scale.slot.saturating_mul(instant.width());
             if are_bands {
@@ -343,6 +348,7 @@ impl<'a> Sheet<'a> {
             "<text class=\"lab\" x=\"12\" y=\"@\">publishes</text>\n",
             &[PUBLICATIONS + 4],
         );
+        // The publications, those of each time together; `count` becomes how many they are in all.
         let all = &self.picture.publications;
         let mut count: u64 = 0;
         for some in all {
@@ -354,6 +360,7 @@ impl<'a> Sheet<'a> {
             .min(pixels(5));
         for event in &self.picture.story.events {
             if let Shown::Publication(value) = event.shown {
+                // How far across the middle of the dot is, in parts.
                 let place = self.across(event.at);
                 if count <= MOST_LINES {
                     page.form(
@@ -405,7 +412,7 @@ impl<'a> Sheet<'a> {
     // ---- rows
 
     // Writes for each pruning the tinted box round its row and the rows of what stands in it, 2 pixels within their edges. A pruning in which no row
-    // stands has none. A box is 2 pixels wide at least, so that it is seen.
+    // stands has none. A box is 2 pixels wide at least, so that it is seen. `count` is how many rows the box encloses, the pruning's own among them.
     fn boxes(&self, page: &mut Page) {
         let rows = &self.picture.rows.rows;
         for (i, row) in rows.iter().enumerate() {
@@ -427,7 +434,7 @@ impl<'a> Sheet<'a> {
         }
     }
 
-    // Writes all rows, from top to bottom.
+    // Writes all rows, from top to bottom: `call` writes the row of a call, and `side` that of a pruning or an otherwise.
     fn rows(&self, page: &mut Page) {
         for (i, row) in self.picture.rows.rows.iter().enumerate() {
             if let Some(span) = self.picture.span(row) {
@@ -439,7 +446,8 @@ impl<'a> Sheet<'a> {
         }
     }
 
-    // The base line of a row's letters, in parts: 0.35 of their height below the row's middle, so that the letters stand in the middle.
+    // The base line of the letters in the row at this place, from 0 at the top, in parts: 0.35 of their height below the row's middle, so that the
+    // letters stand in the middle.
     fn line(&self, row: usize) -> u64 {
         self.middle(row)
             .saturating_add(self.size.letter.saturating_mul(350_000))
@@ -520,7 +528,7 @@ impl<'a> Sheet<'a> {
                 );
                 behind = end.saturating_add(pixels(8));
             }
-            // Still pending.
+            // Still pending: no sign.
             None => {}
         }
         // The class of the words is that of the bar with one more `t`.
@@ -533,7 +541,8 @@ impl<'a> Sheet<'a> {
             page.escaped(row.label.as_str());
             page.say(" ");
         }
-        // A cancelled call's words also say when it was due. In a picture of many rows only its title does (`say_tip`).
+        // `say_fate` writes how the call ended, of a cancelled one also when it was due. In a picture of many rows only the call's title says that
+        // (`say_tip`).
         if is_crowded && class == "cut" {
             page.say("cancelled");
         } else {
@@ -586,6 +595,7 @@ impl<'a> Sheet<'a> {
                 middle.saturating_add(pixels(4)),
             ],
         );
+        // The sign at the end with the opened tag of the words behind it, and then the words.
         self.side_end(page, place, span, end, middle);
         say_end(page, span);
         page.say("</text>\n");
@@ -651,6 +661,7 @@ impl<'a> Sheet<'a> {
 
     // Writes the green line from each answer that won to the pruning whose value it became: across in the call's row to the time of the bind, then up
     // to the lower tip of the diamond in the pruning's row, which is above it. `i` is the place of the pruning's row, and `won` that of the call's.
+    // `call` is the call's span, and `at` is when the pruning was bound.
     fn winners(&self, page: &mut Page) {
         for (i, row) in self.picture.rows.rows.iter().enumerate() {
             if let Some((won, call, at)) = self.picture.winner(row) {
@@ -725,6 +736,7 @@ fn say_tip(page: &mut Page, row: &Row, span: &Span, called: Called) {
             page.form(" at time @ (entry @)", &[at.time, at.entry]);
         }
         Some((End::Halted, at)) => page.form("halted at time @ (entry @)", &[at.time, at.entry]),
+        // Cancelled: with the call's due time, if it had one.
         Some((_, at)) => {
             page.form("cancelled at time @ (entry @), ", &[at.time, at.entry]);
             match called.due {
@@ -732,6 +744,7 @@ fn say_tip(page: &mut Page, row: &Row, span: &Span, called: Called) {
                 None => page.say("never due"),
             }
         }
+        // Still pending: when it is due, or that it never answers.
         None => say_fate(page, span, called),
     }
 }

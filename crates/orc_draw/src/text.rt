@@ -114,12 +114,12 @@ impl<'a> Columns<'a> {
         columns_of(self.scale.end)
     }
 
-    // The column in which an instant's band begins.
+    // The column in which the band of the instant at this place, from 0, begins. An instant is a time that the picture shows.
     fn begin(&self, instant: usize) -> u64 {
         columns_of(self.scale.begin(instant))
     }
 
-    // The column of a moment's slot.
+    // The column of a moment's slot. A moment is an entry with its time; its slot is the place of that entry within the band of that time.
     fn column(&self, at: Moment) -> u64 {
         let slot = self.picture.slots.slot(at);
         let within = columns_of(self.scale.within(slot));
@@ -237,6 +237,7 @@ impl<'a> Columns<'a> {
                 self.bar(page, &span);
                 say_fate(page, &span, called);
             }
+            // A pruning or an otherwise: it has no number.
             _ => {
                 self.number(page, None);
                 self.bar(page, &span);

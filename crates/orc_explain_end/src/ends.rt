@@ -41,7 +41,7 @@ fn count_out(calls: &[Made]) -> u64 {
 }
 
 impl Scene<'_, '_> {
-    // Each pending call of a quiet run, and why it never returns.
+    // Each pending call of a quiet run, and why it never returns. Where memory is refused for the lines of the script, the page is refused, too.
     fn silent_calls(&self, page: &mut Page) {
         match ScriptLines::new(self.alloc, self.subject.script_text()) {
             Ok(lines) => self.calls_out(page, &lines),
@@ -49,7 +49,7 @@ impl Scene<'_, '_> {
         }
     }
 
-    // A line for each of the first pending calls, and how many there are more.
+    // A line for each of the first pending calls, and how many there are more. `lines` are those of the script.
     fn calls_out(&self, page: &mut Page, lines: &ScriptLines) {
         let mut shown: u64 = 0;
         let mut number: u64 = 0;
@@ -121,6 +121,7 @@ impl Scene<'_, '_> {
         page.note("");
         self.cell(page, wait.cell);
         page.say(", has no value, and ");
+        // The text calls a token a part.
         page.count(wait.tokens, "part");
         page.say(if wait.tokens == 1 {
             " waits for it ("
@@ -138,14 +139,15 @@ impl Scene<'_, '_> {
     }
 
     // What could give a cell its value: the pending calls in the right side of the cell's pruning, or, if there are none, a token there that waits
-    // itself. `inside` says of each step whether it is in that side.
+    // itself. `inside` says of each step whether it is in that side. A step leads from the running term into one of its sides.
     fn giver(&self, page: &mut Page, moves: &Moves, inside: &[bool]) {
         if !self.calls_inside(page, inside) {
             self.waiting_inside(page, moves, inside);
         }
     }
 
-    // The first pending calls in the steps that `inside` flags, and how many there are more; answers whether there are any.
+    // The first pending calls in the steps that `inside` flags, and how many there are more; answers whether there are any. A step leads from the
+    // running term into one of its sides.
     fn calls_inside(&self, page: &mut Page, inside: &[bool]) -> bool {
         let mut all: u64 = 0;
         let mut number: u64 = 0;
@@ -162,7 +164,8 @@ impl Scene<'_, '_> {
         all > 0
     }
 
-    // The place of the first token, by its mark, that waits in the steps that `inside` flags, or `nothing` where none does.
+    // The place of the first token, by its mark, that waits in the steps that `inside` flags, or `nothing` where none does. A step leads from the
+    // running term into one of its sides.
     fn waiting_inside(&self, page: &mut Page, moves: &Moves, inside: &[bool]) {
         for token in &moves.waiting {
             let step = self.replay.token(*token).step;
@@ -193,6 +196,7 @@ impl Scene<'_, '_> {
             page.say(if i > 0 { ", `" } else { "`" });
             self.entry(page, entry);
             page.say("`");
+            // What the token of the entry stands on, in brackets.
             self.on(page, entry);
         }
         say_more(page, moves.count, moves.entries.len() as u64);
@@ -278,7 +282,7 @@ impl Scene<'_, '_> {
         );
         page.number(MOST_TOKENS as u64);
         page.say_number(", open sides ", moves.sides, " of ");
-        // The engine has a group for the whole program besides.
+        // The engine counts each open side as a group, and the whole program as one more, which `sides` hasn't.
         page.number((MOST_GROUPS as u64).saturating_sub(1));
         page.say_number(", left sides of `>x>` round one token ", frames, " of ");
         page.number(MOST_FRAMES as u64);
@@ -293,12 +297,14 @@ impl Scene<'_, '_> {
         begin(page, self.ended.summary);
         match self.ended.summary.end {
             End::Quiet => self.quiet(page, moves),
+            // The run has reached its limit of entries.
             End::Limit => {
                 self.cut(page, moves);
                 page.note("help: --limit sets the greatest number of entries, up to ");
                 page.number(MOST_ENTRIES);
                 page.say("\n");
             }
+            // The engine had no more room.
             End::Full => {
                 self.cut(page, moves);
                 self.room(page, moves);

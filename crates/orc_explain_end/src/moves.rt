@@ -90,7 +90,7 @@ impl Moves {
         Ok(moves)
     }
 
-    // Counts an entry that can come next, and keeps it if it is one of the first few.
+    // Counts an entry that can come next, and keeps it if it is one of the first few. The error is refused memory.
     fn add(&mut self, entry: Entry) -> Result<(), AllocError> {
         self.count = self.count.saturating_add(1);
         if self.entries.len() < KEPT {
@@ -100,7 +100,7 @@ impl Moves {
     }
 
     // Looks at each mark that the run has given so far: what its token can do, or for what it waits. Marks that no token has any more are passed
-    // over.
+    // over. The error is refused memory.
     fn add_tokens(&mut self, program: &Program, replay: &Replay) -> Result<(), AllocError> {
         for mark in 1..replay.marked.new_mark() {
             if replay.trail.token(mark).is_some() {
@@ -118,9 +118,11 @@ impl Moves {
         Ok(())
     }
 
-    // Notes a token that waits, and for which cells: that of its variable, or those of its call's arguments, that have no value yet.
+    // Notes a token that waits, and for which cells: that of its variable, or those of its call's arguments, that have no value yet. The error is
+    // refused memory.
     fn wait(&mut self, program: &Program, replay: &Replay, token: u64) -> Result<(), AllocError> {
         self.waiting.push(token)?;
+        // The position is that of an argument of a call, from 0; a variable has its cell at position 0.
         for position in 0..MOST_ARGUMENTS {
             if let Some(cell) = replay.marked.awaited(program, token, position) {
                 self.wait_for(cell, token);
@@ -132,6 +134,7 @@ impl Moves {
     // Counts a token among those that wait for a cell, from 1, unless it was counted already. Marks come in ascending order, so the first one is the
     // least.
     fn wait_for(&mut self, cell: u64, token: u64) {
+        // Cell 1 is at place 0.
         let at = (cell as usize).saturating_sub(1);
         if let Some(wait) = self.waits.get_mut(at) {
             if wait.last != token {
@@ -145,7 +148,7 @@ impl Moves {
     }
 
     // Looks at each side that hasn't ended: right sides of prunings by their cells, and left sides of otherwises by their marks. Of a side that has
-    // ended or was dropped the term says nothing (None).
+    // ended or was dropped the term says nothing (None). The error is refused memory.
     fn add_sides(&mut self, replay: &Replay) -> Result<(), AllocError> {
         let mut cell: u64 = 0;
         for _cell in &replay.cells {
@@ -166,7 +169,7 @@ impl Moves {
         Ok(())
     }
 
-    // A side that has halted can end with this entry; any other one is open.
+    // A side that has halted can end with this entry; any other one is open. The error is refused memory.
     fn add_side(&mut self, has_halted: bool, entry: Entry) -> Result<(), AllocError> {
         if has_halted {
             self.add(entry)?;
@@ -176,7 +179,7 @@ impl Moves {
         Ok(())
     }
 
-    // Adds the return of each pending call that is due now.
+    // Adds the return of each pending call that is due now. The error is refused memory.
     fn add_returns(&mut self, replay: &Replay) -> Result<(), AllocError> {
         let mut call: u64 = 0;
         for made in &replay.calls {

@@ -45,6 +45,7 @@ impl Drop for Groups {
 }
 
 impl Groups {
+    // No groups.
     fn new(alloc: Global) -> Groups {
         Groups {
             list: Vec::new(alloc),
@@ -52,7 +53,8 @@ impl Groups {
         }
     }
 
-    // Adds a call with its number to the group of its spot. The error is refused memory.
+    // Adds a call with its number, from 1, to the group of its spot, the numbered place of the program's tree where it was made. The error is refused
+    // memory.
     fn add(&mut self, made: Made, number: u64) -> Result<(), AllocError> {
         let place = self.places.get(&made.spot).copied();
         match place {
@@ -191,7 +193,7 @@ fn missed(page: &mut Page, lines: &ScriptLines, line: &ScriptLine, args: &[Value
 }
 
 impl Remarks {
-    // What is to be said of the run's calls and of the lines of its script. The error is refused memory, here and below.
+    // What is to be said of the run's calls and of the lines of its script. The error is refused memory.
     fn new(alloc: Global, scene: &Scene, lines: &ScriptLines) -> Result<Remarks, AllocError> {
         let mut remarks = Remarks {
             wrong: Groups::new(alloc),
@@ -203,7 +205,7 @@ impl Remarks {
         Ok(remarks)
     }
 
-    // Begins with no line of the script used, and then notes each call of the run.
+    // Begins with no line of the script used, and then notes each call of the run. The error is refused memory.
     fn read(&mut self, scene: &Scene, lines: &ScriptLines) -> Result<(), AllocError> {
         for _rule in &lines.list {
             self.used.push(false)?;
@@ -217,7 +219,7 @@ impl Remarks {
     }
 
     // Notes which line of the script a call has, and puts the call, with its number from 1, into a group if it halted. A call that was cancelled
-    // before hasn't.
+    // before hasn't. The error is refused memory.
     fn add(
         &mut self,
         scene: &Scene,
@@ -236,11 +238,13 @@ impl Remarks {
         } else {
             None
         };
+        // `place` is the line's place in the list of lines, from 0.
         if let Some(place) = line {
             if let Some(used) = self.used.get_mut(place) {
                 *used = true;
             }
         }
+        // Only a call that has returned with halt is put into a group.
         if !made.has_halted {
             Ok(())
         } else if is_scripted && line.is_none() {
@@ -295,6 +299,7 @@ impl Scene<'_, '_> {
     /// The whole explanation of a run that has halted: its first line, and what looks like a mistake. Nothing at all if the run has published
     /// something and nothing looks like a mistake.
     pub(crate) fn halted(&self, page: &mut Page) {
+        // Where memory is refused the page is refused, too.
         let Ok(lines) = ScriptLines::new(self.alloc, self.subject.script_text()) else {
             page.refuse();
             return;
@@ -409,6 +414,7 @@ impl Scene<'_, '_> {
                 self.cell(page, cell);
                 page.say(", has ended without a value");
             }
+            // The value was lost before a definition was called with it, so nothing says which cell it was of.
             None => page.say("what stands for a parameter has ended without a value"),
         }
         say_others(page, loss.count, "more part");

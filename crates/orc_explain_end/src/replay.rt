@@ -94,7 +94,7 @@ impl<'a> Replay<'a> {
         sketch: &Sketch<'a>,
     ) -> Result<Replay<'a>, AllocError> {
         let mut replay = Replay {
-            // An engine records the cancels of a bind.
+            // True: the journal has cancels, since an engine records those of a bind.
             marked: Marked::new(alloc, ended.program, true)?,
             trail: Trail::new(alloc, sketch)?,
             calls: Vec::new(alloc),
@@ -107,7 +107,7 @@ impl<'a> Replay<'a> {
         Ok(replay)
     }
 
-    // Follows all entries. What an entry says of its token is noted before the trail takes the token away.
+    // Follows all entries. What an entry says of its token is noted before the trail takes the token away. The errors are those of `new`.
     fn read(&mut self, ended: &Ended, sketch: &Sketch<'a>) -> Result<(), AllocError> {
         for at in 0..ended.journal.len() {
             // `at` is a place of the journal, so the entry is there.
@@ -133,7 +133,7 @@ impl<'a> Replay<'a> {
     }
 
     // Notes what an entry begins or ends besides tokens: a call, a cell, a call of a definition. Other entries begin and end none. In the entries `s`
-    // is the mark of a token and `k` the number of a call; `at` is the entry's place in the journal, from 0.
+    // is the mark of a token and `k` the number of a call; `at` is the entry's place in the journal, from 0. The error is refused memory.
     fn note(&mut self, sketch: &Sketch<'a>, entry: &Entry, at: usize) -> Result<(), AllocError> {
         match entry {
             Entry::Call(s, _, _, _) => return self.add_call(*s, at),
@@ -146,7 +146,7 @@ impl<'a> Replay<'a> {
         Ok(())
     }
 
-    // Adds a call, made by the token of this mark in the entry at this place of the journal.
+    // Adds a call, made by the token of this mark in the entry at this place of the journal. The error is refused memory.
     fn add_call(&mut self, mark: u64, entry: usize) -> Result<(), AllocError> {
         let token = self.token(mark);
         self.calls.push(Made {
@@ -168,7 +168,7 @@ impl<'a> Replay<'a> {
         }
     }
 
-    // Counts a token, by its mark, that ends since a value that it needs was lost, among those of its spot.
+    // Counts a token, by its mark, that ends since a value that it needs was lost, among those of its spot. The error is refused memory.
     fn add_loss(&mut self, program: &Program, token: u64) -> Result<(), AllocError> {
         // A token that bears a call's answer needs no value, so this one is at a spot.
         let spot = self.token(token).spot.unwrap_or(0);
@@ -195,11 +195,13 @@ impl<'a> Replay<'a> {
     // The cell of the first lost value that a token, by its mark, needs. None where `cell_of` finds none, or the token stands on something else than
     // a variable or a call of a site.
     fn lost_cell(&self, program: &Program, token: u64) -> Option<u64> {
+        // The program's node under the token, and the scope that says what names mean there.
         let (number, scope) = self.node_of(token)?;
         match program.node(number) {
             TermNode::Operand(operand) => self.cell_of(operand, scope),
             TermNode::Site(_, list) => {
                 for operand in program.operands(list) {
+                    // An argument whose value was lost is void.
                     if matches!(self.marked.param(*operand, scope), Param::Void) {
                         return self.cell_of(*operand, scope);
                     }
@@ -211,6 +213,7 @@ impl<'a> Replay<'a> {
     }
 
     // The cell that was put for an operand, whatever has become of it. None for a value, and where the value was lost already when it was put.
+    // `scope` is the number of the scope that says what the operand's name means.
     fn cell_of(&self, operand: Operand, scope: usize) -> Option<u64> {
         // With an empty table of cells, `meaning` gives the cell itself, even if it has been bound or lost.
         match meaning(self.marked.scopes(), &[], operand, scope) {
@@ -233,7 +236,8 @@ impl<'a> Replay<'a> {
         None
     }
 
-    // Adds the cell of a pruning that the token of this mark opens. The entry is an `open`, so a pruning stands under the token.
+    // Adds the cell of a pruning that the token of this mark opens. The entry is an `open`, so a pruning stands under the token. The error is refused
+    // memory.
     fn add_cell(&mut self, sketch: &Sketch<'a>, mark: u64) -> Result<(), AllocError> {
         let Shape::Prune(_, _, purpose) = self.trail.shape(sketch, mark) else {
             return Ok(());
@@ -266,6 +270,7 @@ impl<'a> Replay<'a> {
         for step in self.trail.steps() {
             let is_inside = match step.way {
                 Way::PruneRight(other) if other == cell => true,
+                // Else a step is inside the side if the step round it (`outer`) is.
                 _ => inside.get(step.outer).copied().unwrap_or(false),
             };
             inside.push(is_inside)?;
@@ -298,6 +303,7 @@ impl<'a> Replay<'a> {
         for step in self.trail.steps() {
             let outer = frames.get(step.outer).copied().unwrap_or(0);
             let here = match step.way {
+                // The count begins anew in the right side of a pruning.
                 Way::PruneRight(_) => 0,
                 Way::SeqLeft(_) => outer.saturating_add(1),
                 Way::OtherwiseLeft(_) | Way::Then(_) => outer,

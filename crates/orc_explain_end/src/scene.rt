@@ -116,6 +116,7 @@ impl Scene<'_, '_> {
         let at = (cell as usize).saturating_sub(1);
         match self.replay.cells.get(at) {
             Some(cell) => cell.purpose,
+            // Not reached: each cell of the run is in the list.
             None => Purpose::Nothing,
         }
     }
@@ -140,6 +141,7 @@ impl Scene<'_, '_> {
     pub(crate) fn term(&self, page: &mut Page, token: u64, spot: usize) {
         let span = self.sketch.span(spot);
         let source = self.subject.source;
+        // The program's node under the token, and the scope that says what names mean there.
         let Some((number, scope)) = self.replay.node_of(token) else {
             return;
         };
@@ -188,6 +190,7 @@ impl Scene<'_, '_> {
 // A part of a source in one line, with one blank for all white space between two words, cut where it is longer than `TERM`.
 fn squeeze(page: &mut Page, text: &[u8]) {
     let mut shown: usize = 0;
+    // Whether white space stands between the last word that was written and the next byte.
     let mut is_apart = false;
     for byte in text {
         match *byte {

@@ -80,6 +80,7 @@ impl<'a> ScriptLines<'a> {
         span: Span,
         number: usize,
     ) -> Result<(), AllocError> {
+        // The line as its pieces, without blanks and a comment; the first one is the name of a site.
         let line = Line::new(alloc, text, span)?;
         let Some(site) = line.pieces.first() else {
             return Ok(());

@@ -23,6 +23,7 @@ pub struct View<T> {
 /// The rule: there is one history, and each port knows its part of it.
 pub struct OneHistory;
 
+// For the prover: `holds` is the rule, `first` what the owner knows at first, and `guest` what a new thief knows, both of whom have seen nothing.
 impl<T> Protocol<T, View<T>> for OneHistory {
     ghost holds = { Kept };
 
@@ -34,6 +35,7 @@ impl<T> Protocol<T, View<T>> for OneHistory {
 /// What a push tells the owner.
 pub struct Pushes;
 
+// `then` says what the owner knows after a push: behind what it has seen some thefts, and then this push.
 impl<T> Outcome<T, View<T>> for Pushes {
     ghost then = { IsPush };
 }
@@ -41,6 +43,8 @@ impl<T> Outcome<T, View<T>> for Pushes {
 /// What a pop tells the owner, with an item and without.
 pub struct Pops;
 
+// `then` says what the owner knows after a pop of an item: some thefts more, and then this pop of the item that stood last. `empty` says what a pop
+// without an item tells: the queue was empty after some thefts.
 impl<T> Outcome<T, View<T>> for Pops {
     ghost then = { IsPop };
 
@@ -50,6 +54,7 @@ impl<T> Outcome<T, View<T>> for Pops {
 /// What a theft tells the thief.
 pub struct Thefts;
 
+// `then` says what the thief knows after a theft: it is a later event of the history, and its item stood first.
 impl<T> Outcome<T, View<T>> for Thefts {
     ghost then = { IsTheft };
 }

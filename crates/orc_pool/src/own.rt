@@ -36,7 +36,7 @@ impl<T: Drop> Own<T> {
     }
 
     /// Pushes a task. Gives it back, and changes nothing, where the queue could not grow: so only where as many tasks were pushed and not popped
-    /// again as there are slots. Tasks that were stolen count, too.
+    /// again as there are slots. Tasks that were stolen count, too. By the clause `rule` the history goes on with some thefts, and then this push.
     pub fn push(&mut self, task: T) -> Result<(), T>
         ensures rule { MatchResult result (λ _. IsPush (own_view self.old) (task ∷ []) (own_view self.new)) (λ back. (back ≡ task) × (own_view self.new ≡ own_view self.old)) }
         ensures counted { MatchResult result (λ _. pushed self.new ≡ pushed self.old + 1) (λ _. (slots self.old ≤ pushed self.old) × (pushed self.new ≡ pushed self.old)) }
@@ -46,7 +46,8 @@ impl<T: Drop> Own<T> {
         self.worker.push_as::<Pushes>(task)
     }
 
-    /// The task that was pushed last of those in the queue. None only where the queue was empty at one moment of the call.
+    /// The task that was pushed last of those in the queue. None only where the queue was empty at one moment of the call. By the clause `rule` the
+    /// history goes on with some thefts, and then this pop.
     pub fn pop(&mut self) -> Option<T>
         ensures rule { MatchOption result ((own_view self.new ≡ own_view self.old) × WasEmpty (own_view self.old)) (λ task. IsPop (own_view self.old) (task ∷ []) (own_view self.new)) }
         ensures slots { (pushed self.new ≤ pushed self.old) × (slots self.old ≤ slots self.new) }

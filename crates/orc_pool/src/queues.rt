@@ -47,7 +47,7 @@ impl<T: Drop> Queues<T> {
     ghost use Rattle.std.specs.Prelude.{false, Some, IfSome, MatchOption, IfOk, length, replicate, slice_get, slice_set};
     ghost use Rattle.orc_pool.specs.Words.{own_view, slots, pushed, theft_view, own_name, theft_name, names, free};
 
-    /// As many queues as are asked for, all empty. Its error is refused memory.
+    /// As many queues as are asked for, all empty. The error is refused memory.
     pub fn new(alloc: Global, count: usize) -> Result<Queues<T>, AllocError>
         ensures free { IfOk result (λ queues. free queues ≡ replicate count true) }
         ensures names { IfOk result (λ queues. length (names queues) ≡ count) }
@@ -68,11 +68,12 @@ impl<T: Drop> Queues<T> {
         if at >= self.lanes.len() {
             return None;
         }
+        // The end is taken out of the lane, so that a later call finds None.
         let lane = &mut self.lanes[at];
         lane.own.take()
     }
 
-    /// A new right to steal from the queue `at`, counted from 0. None exactly where there are not so many; its error is refused memory.
+    /// A new right to steal from the queue `at`, counted from 0. None exactly where there are not so many; the error is refused memory.
     pub fn theft(&self, at: usize) -> Result<Option<Theft<T>>, AllocError>
         ensures theft { IfOk result (λ found. MatchOption found (length (names self.now) ≤ at) (λ theft. (slice_get (names self.now) at ≡ Some (theft_name theft)) × (theft_view theft ≡ view_of false [] []))) }
     {

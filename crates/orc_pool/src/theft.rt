@@ -36,7 +36,8 @@ impl<T: Drop> Theft<T> {
         Theft { stealer, pass }
     }
 
-    /// The task that was pushed first of those in the queue. None where the queue was empty, or where others were at it all the time.
+    /// The task that was pushed first of those in the queue. None where the queue was empty, or where others were at it all the time. By the contract
+    /// (`IsTheft`) the theft is a later event of the history, and its task stood first.
     pub fn steal(&mut self) -> Option<T>
         ensures { MatchOption result (theft_view self.new ≡ theft_view self.old) (λ task. IsTheft (theft_view self.old) (task ∷ []) (theft_view self.new)) }
     {

@@ -26,7 +26,8 @@ pub struct WorkerQueue<T: Drop> {
 
 impl<T: Drop> WorkerQueue<T> {
     /// Pushes a task to its own queue. Gives it back, and changes nothing, where the queue could not grow: so only where as many tasks were pushed
-    /// and not popped again as there are slots. Tasks that were stolen count, too.
+    /// and not popped again as there are slots. Tasks that were stolen count, too. By the clause `rule` the history goes on with some thefts, and
+    /// then this push.
     pub fn push(&mut self, task: T) -> Result<(), T>
         ensures rule { MatchResult result (λ _. IsPush (own_view self.old.own) (task ∷ []) (own_view self.new.own)) (λ back. (back ≡ task) × (own_view self.new.own ≡ own_view self.old.own)) }
         ensures counted { MatchResult result (λ _. pushed self.new.own ≡ pushed self.old.own + 1) (λ _. (slots self.old.own ≤ pushed self.old.own) × (pushed self.new.own ≡ pushed self.old.own)) }
@@ -36,7 +37,8 @@ impl<T: Drop> WorkerQueue<T> {
         self.own.push(task)
     }
 
-    /// The task that was pushed first of those in its own queue. None where the queue was empty, or where others were at it all the time.
+    /// The task that was pushed first of those in its own queue. None where the queue was empty, or where others were at it all the time. The
+    /// contract (`IsStolen`) promises only that the task stood first in one of the queues, not in which.
     pub fn oldest(&mut self) -> Option<T>
         ensures own { self.new.own ≡ self.old.own }
         ensures theft { MatchOption result (stolen_views self.new ≡ stolen_views self.old) (λ task. IsStolen self.old task self.new) }
@@ -53,7 +55,8 @@ impl<T: Drop> WorkerQueue<T> {
     }
 
     /// The next task: the one that was pushed last of those in its own queue, or else the first one of another queue, of which the next one is asked
-    /// first. None only where its own queue was empty at one moment of the call.
+    /// first. None only where its own queue was empty at one moment of the call. `IsTaken` says that the task stood last in its own queue, or, where
+    /// that was empty at one moment, first in one of the queues.
     pub fn next(&mut self) -> Option<T>
         ensures rule { MatchOption result (WasEmpty (own_view self.old.own) × (own_view self.new.own ≡ own_view self.old.own) × (stolen_views self.new ≡ stolen_views self.old)) (λ task. IsTaken self.old task self.new) }
         ensures slots { (pushed self.new.own ≤ pushed self.old.own) × (slots self.old.own ≤ slots self.new.own) }
@@ -73,7 +76,8 @@ impl<T: Drop> WorkerQueue<T> {
     }
 }
 
-/// A worker queue for each of `count` workers, all empty, with room for 64 tasks each before it has to grow. The error is refused memory.
+/// A worker queue for each of `count` workers, all empty, with room for 64 tasks each before it has to grow. Each worker has the right to steal from
+/// all queues. The error is refused memory.
 pub fn worker_queues<T: Drop>(
     alloc: Global,
     count: usize,

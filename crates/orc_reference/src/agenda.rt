@@ -78,6 +78,7 @@ impl Agenda {
             };
             // None if the call was cancelled.
             let answer = marked.due(call);
+            // The call is due later: the time goes on to then.
             if answer.is_some() && marked.now() < at {
                 return Choice::Entry(Entry::Tick(at));
             }
@@ -104,6 +105,7 @@ impl Agenda {
 }
 
 impl Turns for Agenda {
+    // A move of the token whose turn it is, else the end of the halted side, else what `choose_call` chooses.
     fn choose(
         &mut self,
         program: &Program,
@@ -134,6 +136,7 @@ impl Turns for Agenda {
         Ok(self.choose_call(marked))
     }
 
+    // Puts new tokens and a new call into their queues, and wakes the tokens that wait for a cell which the entry has settled.
     fn note(&mut self, entry: &Entry, marked: &Marked) -> Result<(), AllocError> {
         // The numbers that the entry has brought: a mark, a second one, or a call.
         let new = numbers_of(entry);

@@ -194,7 +194,7 @@ impl Search<'_> {
 
     // Adds an entry to the way, and gives the hash of counts (`Level::counts`) after it. Only a call changes the hash, and only if later calls of its
     // site with its arguments are answered otherwise for it. The hash is a sum, so the order of the calls doesn't matter. The error is refused
-    // memory, here and below.
+    // memory.
     fn add(&mut self, entry: Entry, counts: u64) -> Result<u64, AllocError> {
         let mut after = counts;
         if let Entry::Call(_, _, site, args) = &entry {
@@ -219,14 +219,14 @@ impl Search<'_> {
         Ok(after)
     }
 
-    // Applies an entry to a term. The rules allow the entry, so the checker refuses it only as Memory.
+    // Applies an entry to a term. The rules allow the entry, so the error is refused memory alone.
     fn step(&self, marked: &mut Marked, entry: &Entry) -> Result<(), AllocError> {
         marked
             .step(self.program, self.answers, entry)
             .map_err(|_| AllocError)
     }
 
-    // Applies an entry to a term and adds it to the way.
+    // Applies an entry to a term and adds it to the way. The error is refused memory.
     fn apply(&mut self, marked: &mut Marked, entry: Entry) -> Result<(), AllocError> {
         self.step(marked, &entry)?;
         self.way.push(entry)?;
@@ -234,7 +234,7 @@ impl Search<'_> {
     }
 
     // Applies the cancels that are due, and the moves of marks of all tokens from the mark `from` on, also of those that such a move makes, and adds
-    // them to the way. They change nothing about what can happen else, so the search tries no other order of them.
+    // them to the way. They change nothing about what can happen else, so the search tries no other order of them. The error is refused memory.
     fn settle(&mut self, marked: &mut Marked, from: u64) -> Result<(), AllocError> {
         // Cancels come first: while one is due no token can move. Each call is cancelled once at most, so the turns suffice.
         for _turn in 0..marked.new_call() {
@@ -266,10 +266,12 @@ impl Search<'_> {
             Kind::Leaf(Tip::Token(mark, _, _)) | Kind::Leaf(Tip::Bears(mark, _)) => {
                 entry_of(marked, self.program, mark)
             }
+            // An otherwise whose left side was entered, by its mark.
             Kind::One(Single::Entered(mark, _, _), _) => side_entry(
                 marked,
                 Side::Left(mark as u64),
             ),
+            // An opened pruning, by its cell.
             Kind::Two(Double::Side(cell), _, _) => side_entry(marked, Side::Right(cell)),
             // Pending calls, parts that have ended, and nodes of which only the parts move.
             _ => None,
@@ -277,7 +279,7 @@ impl Search<'_> {
     }
 
     // All entries that can come next, the first to be tried last: moves of tokens and sides, and returns that are due; a tick if there are none of
-    // these. An empty list says that the run is quiet, since `stand` has asked before whether it has halted.
+    // these. An empty list says that the run is quiet, since `stand` has asked before whether it has halted. The error is refused memory.
     fn entries(&self, marked: &mut Marked) -> Result<Vec<Entry>, AllocError> {
         let mut entries = Vec::new(self.alloc);
         for slot in marked.nodes() {
@@ -291,6 +293,7 @@ impl Search<'_> {
                 Some((answer, time)) if time == marked.now() => {
                     entries.push(return_entry(marked, call, answer))?;
                 }
+                // The call is due later or never, or doesn't pend.
                 _ => {}
             }
         }
@@ -304,7 +307,8 @@ impl Search<'_> {
         Ok(entries)
     }
 
-    // A hash of what a position looks like: of its term, the hash of counts, how much was seen, and the time as `Wanted::time` gives it.
+    // A hash of what a position (where a run stands after the entries of the way) looks like: of its term, the hash of counts, how much was seen, and
+    // the time as `Wanted::time` gives it.
     fn number_of(
         &self,
         marked: &Marked,
@@ -321,7 +325,8 @@ impl Search<'_> {
     }
 
     // Opens a new level of choices at the position to which the way has led, unless the run ends there or a way has led there before. `marked`,
-    // `counts` and `seen` are as a `Level` has them. Gives Found if the run ends there and is wanted, and otherwise More.
+    // `counts` and `seen` are as a `Level` has them. Gives Found if the run ends there and is wanted, and otherwise More. A position is where a run
+    // stands after the entries of the way. The error is refused memory.
     fn stand<W: Wanted>(
         &mut self,
         wanted: &W,
@@ -362,6 +367,7 @@ impl Search<'_> {
     }
 
     // Tries the next entry at the last choice, or goes back to the choice before if none is left. `Nothing` says that there is no choice any more.
+    // The error is refused memory.
     fn turn<W: Wanted>(&mut self, wanted: &W) -> Result<Turn, AllocError> {
         let Some(level) = self.levels.last_mut() else {
             return Ok(Turn::Nothing);
@@ -373,6 +379,7 @@ impl Search<'_> {
             let _level = self.levels.pop();
             return Ok(Turn::More);
         };
+        // A copy: the level keeps its own term for the entries that are still to be tried there.
         let mut marked = level.marked.copy(self.alloc)?;
         let counts = level.counts;
         let before = level.seen;
@@ -390,9 +397,11 @@ impl Search<'_> {
     }
 
     // Searches until it has come to more than `most` positions, halted runs not counted. Gives the entries of a wanted run, or None if it found none.
+    // The error is refused memory.
     fn go<W: Wanted>(&mut self, wanted: &W, most: usize) -> Result<Option<Vec<Entry>>, AllocError> {
         // True: cancels follow each bind, as the engine that plays the run again records them.
         let mut marked = Marked::new(self.alloc, self.program, true)?;
+        // The moves of marks from token 1 on. Then the first position is there: no call was counted, and nothing was seen.
         self.settle(&mut marked, 1)?;
         let mut turn = self.stand(wanted, marked, 0, 0)?;
         // Each position is tried once, so the search ends; the bound only shows that the loop does.

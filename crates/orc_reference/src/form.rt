@@ -101,7 +101,8 @@ impl Forms<'_> {
         }
     }
 
-    // A hash with the operands of a call mixed in, by the number of their list in the program.
+    // A hash with the operands of a call mixed in, by the number of their list in the program. `scope` is the number of the scope in which their
+    // names mean something.
     fn mix_call(&self, seed: u64, marked: &Marked, list: usize, scope: u32) -> u64 {
         let mut mixed = seed;
         for operand in self.program.operands(list) {
@@ -110,7 +111,8 @@ impl Forms<'_> {
         mixed
     }
 
-    // A hash with a node of the program mixed in, and all nodes below it, whose names mean what they do in this scope. The error is refused memory.
+    // A hash with a node of the program mixed in, and all nodes below it, whose names mean what they do in the scope of this number. The error is
+    // refused memory.
     fn mix_node(
         &self,
         seed: u64,
@@ -168,8 +170,8 @@ impl Forms<'_> {
         Ok(mixed)
     }
 
-    // The hash of a part without parts at this place, 0 for one that has ended. `calls` has a hash of what was called for each call, call 1 first.
-    // The error is refused memory.
+    // The hash of a part without parts, 0 for one that has ended. `place` is a hash of the way from the root of the term to the part. `calls` has a
+    // hash of what was called for each call, call 1 first. The error is refused memory.
     fn tip(&self, place: u64, marked: &Marked, calls: &[u64], tip: Tip) -> Result<u64, AllocError> {
         match tip {
             // A part that has ended leaves the sum as it is.
@@ -205,7 +207,7 @@ impl Forms<'_> {
             let Some((at, place)) = todo.pop() else {
                 break;
             };
-            // Each part of the term is a node, so none is left out.
+            // Never None: each part of the term is a node, so none is left out.
             let Some(slot) = marked.nodes().get(at as usize) else {
                 continue;
             };
@@ -227,6 +229,7 @@ impl Forms<'_> {
                     form = form.wrapping_add(spread(seed));
                     todo.push((part, seed))?;
                 }
+                // The sides of a `|`, each with a place of its own.
                 Kind::Two(Double::Both, left, right) => {
                     todo.push((left, mix(place, 22)))?;
                     todo.push((right, mix(place, 23)))?;

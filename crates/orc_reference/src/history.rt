@@ -50,7 +50,8 @@ fn note(values: &mut Vec<Value>, entry: &Entry)
 }
 
 impl History {
-    /// The run of a program before its first entry. The error is refused memory.
+    /// The run of a program before its first entry. The error is refused memory. In contracts `IsReached` says that the run has come to so many
+    /// entries by the rules, cancels not counted, and that no cancel is due.
     pub fn new(alloc: Global, program: &Program) -> Result<History, AllocError>
         ensures { (t : Table) → IfOk result (IsReached program.now t 0) }
     {
@@ -63,7 +64,7 @@ impl History {
     }
 
     /// Adds an entry, if the rules allow it next. The fault is Memory, or the reason for which the rules refuse it. After a fault nothing has
-    /// changed.
+    /// changed. `Grows` says that the entry leads on by the rules from wherever the run stood, and that the run has it then.
     pub fn record(
         &mut self,
         program: &Program,

@@ -17,6 +17,7 @@ use std::alloc::{AllocError, Global};
 /// What comes next in a run.
 #[derive(Drop)]
 pub(crate) enum Choice {
+    /// The run goes on with this entry.
     Entry(Entry),
     /// No token can move, and no call will ever be due.
     Nothing,
@@ -25,8 +26,8 @@ pub(crate) enum Choice {
 /// What chooses the next entry: an agenda (`agenda.rt`), or the entries of a run that the search has found (`Steps` in `finder.rt`). No contract
 /// depends on the choice, since `History::record` refuses an entry that the rules don't allow.
 pub(crate) trait Turns {
-    /// The entry that comes next, while no cancel is due: a move of a token, else the end of `side`, which has halted, else a return that is
-    /// due now, else a tick. The error is refused memory.
+    /// The entry that comes next, while no cancel is due: a move of a token, else the end of `side`, which has halted, else a return that is due now,
+    /// else a tick. The error is refused memory. `side` is None where no side has halted.
     fn choose(
         &mut self,
         program: &Program,
@@ -66,6 +67,7 @@ fn cut(history: &mut History, program: &Program, limit: u64) -> End
 }
 
 // Records the cancels that are due, one after another: the run can't end before all are. The fault is Memory, or Broken where the rules refuse one.
+// `Settles` says that the journal has further cancels alone then, and that none is due any more.
 fn settle(history: &mut History, program: &Program, answers: &Answers) -> Result<(), PlayFault>
     ensures { OnOk result (Settles program.now answers.now history.old history.new) }
 {
@@ -115,6 +117,7 @@ pub(crate) fn proceed<T: Turns>(
             Err(_) => return Err(PlayFault::Broken),
         }
         settle(history, program, answers)?;
+        // `turns` hears of the entry once the entry's cancels are recorded.
         if turns.note(&entry, history.marked()).is_err() {
             return Ok(End::Memory);
         }

@@ -153,8 +153,8 @@ fn changed_tip(alloc: Global, change: Change, tip: &Tip) -> Result<Tip, AllocErr
     }
 }
 
-// Whether the left part of a term that is joined so stays as it is: in `f <x< g` the x of f is the pruning's own, not the one for which something is
-// put.
+// Whether the left part of a term that is joined so stays as it is by this change: in `f <x< g` the x of f is the pruning's own, so nothing is put
+// for it.
 fn left_stays(change: Change, joint: Joint) -> bool
     ensures { result ≡ left_stays change joint }
 {
@@ -164,7 +164,7 @@ fn left_stays(change: Change, joint: Joint) -> bool
     }
 }
 
-// Whether the right part of a term that is joined so stays as it is: the g of `f >x> g` has its own x.
+// Whether the right part of a term that is joined so stays as it is by this change: the g of `f >x> g` has its own x, so nothing is put for it.
 fn right_stays(change: Change, joint: Joint) -> bool
     ensures { result ≡ right_stays change joint }
 {
@@ -201,7 +201,7 @@ fn part(terms: &Terms, change: Change, stays: bool, at: usize) -> Option<usize>
 }
 
 // One step for the term of the number `at`: what it becomes if the images of its parts are kept, and otherwise a part whose image is wanted first,
-// the left one before the right one. The error is refused memory.
+// the left one before the right one. The error is refused memory. The contract speaks of what the term becomes alone.
 fn step(terms: &mut Terms, alloc: Global, change: Change, at: usize) -> Result<Progress, AllocError>
     ensures progress { IfOk result (λ s. ProgressIs (smalls terms.old) (smalls terms.new) change at s) }
     ensures kept { Extends (smalls terms.old) (smalls terms.new) }
@@ -225,7 +225,8 @@ fn step(terms: &mut Terms, alloc: Global, change: Change, at: usize) -> Result<P
 }
 
 // One step of the whole change, for the term `at`, which was taken from the end of `todo`: its image is kept, and handed back; or the term goes back
-// to `todo`, and behind it the part that is wanted first, and the answer is None. The error is refused memory.
+// to `todo`, and behind it the part that is wanted first, and the answer is None. The error is refused memory. The contract speaks of the image
+// alone.
 fn advance(
     terms: &mut Terms,
     alloc: Global,

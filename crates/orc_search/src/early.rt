@@ -122,8 +122,9 @@ impl Parts {
         Ok(())
     }
 
-    // Lists those parts of two joined terms that can move, as `Walk::plan_parts` plans them. `f` and `g` are the numbers of the left and the right
-    // term. The joined term is at the place `outer` of the list, and `depth` is its own. The error is refused memory, or a depth of 2^64.
+    // Lists those parts of two joined terms that can move: both of a `|` and of an opened pruning, the left one of a `>x>` and of a `;`, and none of
+    // a pruning that isn't opened. `f` and `g` are the numbers of the left and the right term. The joined term is at the place `outer` of the list,
+    // and `depth` is its own. The error is refused memory, or a depth of 2^64.
     fn add_parts(
         &mut self,
         outer: usize,
@@ -156,7 +157,7 @@ impl Parts {
     }
 
     // Counts the next part of the list, which is `part`, as looked at, and lists its own parts behind the others. The error is refused memory, or a
-    // depth of 2^64.
+    // depth of 2^64. In contracts `AreParts` says that what is listed are parts of the term `root`, and `IsPart` that `part` is one.
     fn enter(&mut self, terms: &Terms, part: Part) -> Result<(), AllocError>
         requires parts { AreParts (smalls terms.now) self.old.root self.old.list.items }
         requires next { slice_get self.old.list.items self.old.next ≡ Some part }
@@ -177,6 +178,7 @@ impl Parts {
     }
 
     // The step of the whole term by a step of a part that isn't a publication, so that all that encloses the part stays. The error is refused memory.
+    // `AreParts` and `IsPart` ask that `part` and what is listed are parts of the term.
     fn lift(
         &self,
         terms: &mut Terms,
@@ -210,7 +212,7 @@ impl Parts {
     }
 
     // The early step that the whole term takes by this step of a part, if it is one: any but a publication, or a publication that a `>x>` or a cell
-    // takes at once. The error is refused memory.
+    // takes at once. The error is refused memory. `AreParts` and `IsPart` ask that `part` and what is listed are parts of the term.
     fn early_by(
         &self,
         terms: &mut Terms,
@@ -237,7 +239,7 @@ impl Parts {
         if !takes_values(inside.frame) {
             return Ok(None);
         }
-        // Never None, as in `lift`.
+        // Never None: what encloses a part is listed before it.
         let Some(outer) = part_at(&self.list, inside.outer) else {
             return Err(AllocError);
         };
@@ -247,7 +249,8 @@ impl Parts {
         Ok(Some(lifted))
     }
 
-    // The early step by what a part does, as `early_by` has it; None if the part does nothing by itself.
+    // The early step that the whole term takes if the part does `step`; None if the part does nothing by itself, or if its step isn't early. The
+    // error is refused memory.
     fn early_of(
         &self,
         terms: &mut Terms,
@@ -259,7 +262,7 @@ impl Parts {
         requires parts { AreParts (smalls terms.old) self.now.root self.now.list.items }
         requires part { IsPart (smalls terms.old) self.now.root self.now.list.items part }
         requires there { IfSome step (λ s. s.to < length (smalls terms.old)) }
-        // As `early_by` has it.
+        // If `step` is what the part does by itself, the answer is an early step of the whole.
         ensures early { IfOk result (λ o. IfSome o (λ s. (defs : List SmallDefinition) (ask : ℕ → List Datum → Out) → AllZip (IsSuccessor (smalls terms.old)) (list_of step) (own defs ask part.spot.depth (small_at (smalls terms.old) part.spot.at)) → IsEarly defs ask (smalls terms.new) self.now.root s)) }
         ensures kept { Extends (smalls terms.old) (smalls terms.new) }
     {
@@ -272,7 +275,8 @@ impl Parts {
     /// The next step of the term that may go first; None once all its parts have been looked at. `made` are the calls that were made before. The step
     /// is early if its happening is hidden: nobody sees it, and the calls to come are answered after it as before. The error is refused memory, or a
     /// count past its type: a call with more than `MOST_ARGUMENTS` parameters, 2^64 calls, or prunings opened in one another 2^64 deep. The terms
-    /// that were there stay, also after an error.
+    /// that were there stay, also after an error. `AreParts` says that what is listed are parts of the term, and `IsReady` asks that `source` has the
+    /// right number for the small term of each node of the program.
     pub fn next_early(
         &mut self,
         terms: &mut Terms,

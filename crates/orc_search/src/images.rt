@@ -94,6 +94,7 @@ impl Images {
     {
         let place = self.place_of(change, from)?;
         let image = self.get(place)?;
+        // Another image may stand at that place, so the one that is found is compared.
         if image.from == from && is_same_change(image.change, change) {
             Some(image.to)
         } else {

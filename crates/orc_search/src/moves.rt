@@ -106,7 +106,7 @@ fn has_void(params: &[Param]) -> bool
     false
 }
 
-// The values of parameters; None if one isn't a value.
+// The values of parameters; None if one isn't a value. Of more than `MOST_ARGUMENTS` an `Args` has no room.
 fn values_of(params: &[Param]) -> Option<Args>
     requires { length params.now ≤ MOST_ARGUMENTS }
     ensures { result ≡ values_of params.now }
@@ -131,7 +131,7 @@ fn answer(source: &Source, made: &[Made], site: u32, args: &Args) -> Result<Foun
     Ok(source.answers.find(site, args, nth))
 }
 
-// The step by which a call of a site is made, where `rest` is what comes of it. The error is refused memory.
+// The step by which a call of a site is made, where `rest` is what comes of it: an answer after a delay, or never one. The error is refused memory.
 fn call(alloc: Global, site: u32, args: &[Value], rest: Found) -> Result<Becoming, AllocError>
     ensures { IfOk result (λ b. becoming_of (Some b) ≡ asked (λ _ _. record { site = site; args = args.now; rest = rest }) site (Some args.now)) }
 {
@@ -181,7 +181,8 @@ fn left_by(answer: Answer) -> Tip
     }
 }
 
-// The step by which a pending call returns; None if it has time left, or is never answered. The error is refused memory.
+// The step by which a pending call returns, once it has a delay of 0 left; None if more time is left, or if it is never answered. The error is
+// refused memory.
 fn returned(alloc: Global, waiting: &Waiting) -> Result<Option<Becoming>, AllocError>
     ensures { IfOk result (λ o. becoming_of o ≡ returned (out_of waiting.now) waiting.now.rest) }
 {
@@ -240,7 +241,7 @@ fn definition(program: &Program, number: u32) -> Option<&Definition>
 }
 
 // The number of the small term of the program's node at the place `node`, from 0; where there is no such node, its term is `stop`. The error is
-// refused memory.
+// refused memory. `IsReady` asks that `source` has the right number for the small term of each node of the program.
 fn number_of_node(terms: &mut Terms, source: &Source, node: usize) -> Result<usize, AllocError>
     requires { IsReady (smalls terms.old) source.now }
     // The number is that of the small term of the program's node.
@@ -280,7 +281,7 @@ fn filled(
 }
 
 // The step of a call of the definition of this number: its body, with these parameters for its names; None if there is no such definition. The error
-// is refused memory.
+// is refused memory. `IsReady` asks that `source` has the right number for the small term of each node of the program.
 fn entered(
     terms: &mut Terms,
     alloc: Global,
@@ -304,8 +305,8 @@ fn entered(
     }))
 }
 
-// The number of what `f <x< g` becomes when it opens: in f the new cell takes the place of x. `f` and `g` are the numbers of the two sides. The
-// cell's number is the depth of the pruning (`Spot`). The error is refused memory.
+// The number of what `f <x< g` becomes when it opens: in f the new cell takes the place of x. `f` and `g` are the numbers of the two sides. `depth`
+// is how many left sides of opened prunings stand around the pruning, and so the number of the new cell. The error is refused memory.
 fn opened(
     terms: &mut Terms,
     alloc: Global,
@@ -326,8 +327,8 @@ fn opened(
 }
 
 // The number of what two joined terms become by themselves; None if they do nothing but by a part. `f` and `g` are their numbers. All such steps are
-// silent: a pruning opens, an otherwise goes to its right side, or a cell is lost. `depth` is that of the joined term (`Spot`), and so the number of
-// the cell that opens or is lost. The error is refused memory.
+// silent: a pruning opens, an otherwise goes to its right side, or a cell is lost. `depth` is how many left sides of opened prunings stand around the
+// joined term, and so the number of the cell that opens or is lost. The error is refused memory.
 fn turned(
     terms: &mut Terms,
     alloc: Global,
@@ -343,6 +344,7 @@ fn turned(
     ensures kept { Extends (smalls terms.old) (smalls terms.new) }
 {
     match joint {
+        // A `|` and a `>x>` do nothing but by a part.
         Joint::Both => Ok(None),
         Joint::Feeds(_) => Ok(None),
         Joint::Prunes(x) => {
@@ -369,8 +371,9 @@ fn turned(
     }
 }
 
-/// The step of the part at `spot` by itself, after the calls `made`: what is seen of it, and the number of the part after it; None if it has none.
-/// The error is refused memory, or a call with more than `MOST_ARGUMENTS` parameters. The terms that were there stay, also after an error.
+/// The step by itself of the part at `spot`, after the calls `made`: what is seen of the step, and the number of the part after it; None if the part
+/// has none. `spot` has the part's number and its depth. `IsReady` asks that `source` has the right number for the small term of each node of the
+/// program. The error is refused memory, or a call with more than `MOST_ARGUMENTS` parameters. The terms that were there stay, also after an error.
 pub(crate) fn own_step(
     terms: &mut Terms,
     alloc: Global,
@@ -405,8 +408,8 @@ pub(crate) fn own_step(
     }
 }
 
-// Plans that the parts of the part at `spot` are entered next. The error is refused memory, prunings opened in one another 2^64 deep, or that there
-// is no such term.
+// Plans that the own parts of the part at `spot` are entered next, as far as they can move (`IsPlanned`); a term without parts has none. The error is
+// refused memory, prunings opened in one another 2^64 deep, or that there is no such term.
 fn plan(terms: &Terms, walk: &mut Walk, spot: Spot) -> Result<(), AllocError>
     ensures { OnOk result (IsPlanned (smalls terms.now) spot walk.old walk.new) }
 {
@@ -418,7 +421,7 @@ fn plan(terms: &Terms, walk: &mut Walk, spot: Spot) -> Result<(), AllocError>
 }
 
 // The step of the part at `spot` by itself, after the calls `made`, once its own parts are planned to be entered next. The errors are those of `plan`
-// and of `own_step`.
+// and of `own_step`. `IsReady` asks that `source` has the right number for the small term of each node of the program.
 fn step(
     terms: &mut Terms,
     alloc: Global,
@@ -429,7 +432,7 @@ fn step(
 ) -> Result<Option<Successor>, AllocError>
     requires ready { IsReady (smalls terms.old) source.now }
     requires there { spot.at < length terms.old }
-    // As `own_step` has it.
+    // The step is the part's in the list `own` of the definitions, which has one at most.
     ensures own { IfOk result (λ o. AllZip (IsSuccessor (smalls terms.new)) (list_of o) (own (small_definitions source.now.program.now) (next_call (coming_of_made source.now.answers.now.sites made.now)) spot.depth (small_at (smalls terms.old) spot.at))) }
     // The parts of the part are the next tasks of the walk.
     ensures planned { IfOk result (λ _. IsPlanned (smalls terms.old) spot walk.old walk.new) }
@@ -452,7 +455,8 @@ fn silent(turned: Option<usize>) -> Option<Successor>
     }
 }
 
-// The step of a part, if it has one, as a step of the whole; `path` has the frames around the part. The error is refused memory.
+// The step of a part, if it has one, as a step of the whole. `path` has the frames around the part, the outermost first; `AreAround` asks that the
+// other parts in these frames are among the terms. The error is refused memory.
 fn whole_of(
     terms: &mut Terms,
     alloc: Global,
@@ -487,6 +491,7 @@ fn add(found: &mut Vec<Successor>, successor: Option<Successor>) -> Result<(), A
 /// All that the term of the number `root` may do, in the order of the list `moves` of the definitions, where the calls `made` were made before: what
 /// is seen of each step, and the number of the term after it. The error is refused memory, or that a count is past its type: a call with more than
 /// `MOST_ARGUMENTS` parameters, 2^64 calls, or prunings opened in one another 2^64 deep. The terms that were there stay, also after an error.
+/// `IsReady` asks that `source` has the right number for the small term of each node of the program.
 pub fn successors(
     terms: &mut Terms,
     alloc: Global,
@@ -509,6 +514,7 @@ pub fn successors(
         let own = step(terms, alloc, source, made, &mut walk, spot)?;
         let whole = whole_of(terms, alloc, &walk.path, own)?;
         add(&mut found, whole)?;
+        // None: all parts have been entered.
         let Some(next) = walk.next()? else {
             return Ok(found);
         };

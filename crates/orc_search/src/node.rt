@@ -78,7 +78,8 @@ fn are_same_params(a: &[Param], b: &[Param]) -> bool
     }
 }
 
-// `are_same`, with a contract like those of the others here; the attribute names a lemma that the prover needs.
+// Whether two lists of values are equal (`are_same`). The contract promises only that `true` is right; the attribute names a lemma that the prover
+// needs.
 #[tactic(auto, using(crate::proofs::Nodes::values_same))]
 fn are_same_values(a: &[Value], b: &[Value]) -> bool
     ensures { result ≡ true → a.now ≡ b.now }
@@ -86,6 +87,7 @@ fn are_same_values(a: &[Value], b: &[Value]) -> bool
     are_same(a, b)
 }
 
+// Whether two pending calls are equal: their sites, what comes of them, and their arguments. Only `true` is promised to be right.
 fn is_same_waiting(a: &Waiting, b: &Waiting) -> bool
     ensures { result ≡ true → out_of a.now ≡ out_of b.now }
 {
@@ -98,6 +100,7 @@ fn is_same_waiting(a: &Waiting, b: &Waiting) -> bool
     are_same_values(&a.args, &b.args)
 }
 
+// Whether two terms without parts are equal; those of different kinds never are. Only `true` is promised to be right.
 fn is_same_tip(a: &Tip, b: &Tip) -> bool
     ensures { result ≡ true → tip_of a.now ≡ tip_of b.now }
 {
@@ -153,6 +156,7 @@ pub fn mix_param(seed: u64, param: Param) -> u64 {
     }
 }
 
+// A hash with parameters mixed in, one after another.
 fn mix_params(seed: u64, params: &[Param]) -> u64 {
     let mut mixed = seed;
     for param in params {
@@ -161,6 +165,7 @@ fn mix_params(seed: u64, params: &[Param]) -> u64 {
     mixed
 }
 
+// A hash with what comes of a pending call mixed in: its answer and the delay until then, or that it is never answered.
 fn mix_found(seed: u64, found: Found) -> u64 {
     match found {
         Found::After(Answer::Value(v), delay) => mix(mix_value(seed, v), delay),
@@ -169,6 +174,7 @@ fn mix_found(seed: u64, found: Found) -> u64 {
     }
 }
 
+// A hash with a pending call mixed in: its site, its arguments, and what comes of it.
 fn mix_waiting(seed: u64, waiting: &Waiting) -> u64 {
     let mut mixed = mix(seed, waiting.site as u64);
     for arg in &waiting.args {

@@ -48,6 +48,7 @@ impl Slot {
         }
     }
 
+    // Whether no number is kept in this slot.
     fn is_free(self) -> bool {
         self.at == FREE
     }
@@ -93,6 +94,7 @@ impl Places {
     // Puts a number with its hash into the first slot, from that of the hash's low bits on, that is free or has the same hash. Without
     // one nothing is kept; `insert` sees to it that some are free.
     fn put(&mut self, new: Slot) {
+        // There are as many slots as a power of two, so the mask makes a place of the hash's low bits. Without slots the loop has no turn.
         let mask = self.slots.len().wrapping_sub(1);
         let mut place = new.low as usize & mask;
         for _slot in 0..self.slots.len() {
@@ -115,6 +117,7 @@ impl Places {
 
     // Makes twice as many slots, or the first `FEWEST`, and puts all numbers into them. The error is refused memory, and then nothing changes.
     fn grow(&mut self) -> Result<(), AllocError> {
+        // A slot that has `FREE` in place of a number; its hash says nothing.
         let free = Slot::new(0, FREE);
         let many = self.slots.len().saturating_mul(2).max(FEWEST);
         let before = replace(&mut self.slots, Vec::from_elem(self.alloc, free, many)?);

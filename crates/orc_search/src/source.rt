@@ -32,7 +32,7 @@ fn params_of(alloc: Global, operands: &[Operand]) -> Result<Vec<Param>, AllocErr
     Ok(params)
 }
 
-// The number of the small term of the program's node `i`, from 0; None if it isn't known yet.
+// The number of the small term of the program's node `i`, from 0, which `numbers` has at that place; None if it isn't known yet.
 fn number_at(numbers: &[usize], i: usize) -> Option<usize>
     ensures { result ≡ slice_get numbers.now i }
 {
@@ -42,7 +42,8 @@ fn number_at(numbers: &[usize], i: usize) -> Option<usize>
     }
 }
 
-// The node that joins the terms of the program's nodes f and g. The error, which no program comes to, is that the number of one isn't known yet.
+// The node that joins the small terms of the program's nodes f and g, the left and the right one. `numbers` has the numbers of these terms, by the
+// program's nodes. The error, which no program comes to, is that the number of one isn't known yet.
 fn pair_of(numbers: &[usize], joint: Joint, f: usize, g: usize) -> Result<Node, AllocError>
     ensures { IfOk result (λ n. IsPairOf numbers.now joint f g n) }
 {
@@ -56,7 +57,8 @@ fn pair_of(numbers: &[usize], joint: Joint, f: usize, g: usize) -> Result<Node, 
 }
 
 // The node of the small term of a program's node, which `unfolded` is. `numbers` has the numbers of the small terms of the nodes before it. The error
-// is refused memory, or that the number of a part isn't known yet.
+// is refused memory, or that the number of a part isn't known yet. The contract says that the parts of the node that is given are among the terms,
+// and that the term of this node is that of the program's node.
 fn node_of(
     alloc: Global,
     program: &Program,
@@ -108,6 +110,7 @@ pub fn numbered(
 {
     let mut numbers: Vec<usize> = Vec::new(alloc);
     for at in 0..program.len() {
+        // The parts of a program's node come before it, so `numbers` has the numbers of their terms.
         let node = node_of(alloc, program, &numbers, program.node(at))?;
         let number = terms.number_of(node)?;
         numbers.push(number)?;

@@ -82,7 +82,7 @@ pub fn copy_of(alloc: Global, happening: &Happening) -> Result<Happening, AllocE
     }
 }
 
-// The enclosing node, with the term of the number `to` as its part.
+// The node that the frame describes, with the term of the number `to` as its part.
 fn whole_of(frame: Frame, to: usize) -> Node
     ensures { result ≡ whole_of frame to }
 {
@@ -104,6 +104,7 @@ fn lift_of(frame: Frame, happening: &Happening) -> Lift
         (Frame::Feeds(x, g), Happening::Published(value)) => Lift::Fed(x, g, *value),
         (Frame::Side(n, f), Happening::Published(value)) => Lift::Bound(n, f, *value),
         (Frame::First(_), Happening::Published(_)) => Lift::Passed,
+        // Nothing but a publication is ever taken, and a `|` and the left side of an opened pruning pass that on, too.
         _ => Lift::Stays,
     }
 }
@@ -131,7 +132,8 @@ fn fed(
 }
 
 /// What the enclosing term does when a part of it does `successor`: what is seen of it from there, and the number of the term after it. `frame` is
-/// what encloses the part. The error is refused memory. The terms that were there stay, also after an error.
+/// what encloses the part. The error is refused memory. The terms that were there stay, also after an error. `IsAround` asks that the other part in
+/// `frame` is among the terms.
 pub fn lifted(
     terms: &mut Terms,
     alloc: Global,
@@ -145,6 +147,7 @@ pub fn lifted(
     ensures kept { Extends (smalls terms.old) (smalls terms.new) }
 {
     match lift_of(frame, &successor.happening) {
+        // The enclosing node gets the part after its step, and what happened is seen outside as it is.
         Lift::Stays => {
             let to = terms.number_of(whole_of(frame, successor.to))?;
             Ok(Successor {

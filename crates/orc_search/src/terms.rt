@@ -66,7 +66,7 @@ fn node_at(nodes: &Vec<Node>, at: usize) -> Option<&Node>
     }
 }
 
-// The summary at that place; that of nothing, which has halted, if there is none.
+// The summary at that place, from 0; that of `stop`, which has halted, if there is none.
 fn summary_in(summaries: &Vec<Summary>, at: usize) -> Summary
     ensures { result ≡ slice_index_or summaries.now.items at (summary_of nothing) }
 {
@@ -120,7 +120,7 @@ fn sooner(a: Option<u64>, b: Option<u64>) -> Option<u64>
     }
 }
 
-// The summary of two terms that are joined, from their own.
+// The summary of two terms that are joined, from their own. The contract says so of all terms that have the summaries `f` and `g`.
 fn joined_summary(joint: Joint, f: Summary, g: Summary) -> Summary
     ensures { JoinsSummaries joint f g result }
 {
@@ -131,7 +131,7 @@ fn joined_summary(joint: Joint, f: Summary, g: Summary) -> Summary
         },
         // The right side of a `>x>` hasn't begun.
         Joint::Feeds(_) => f,
-        // Neither has anything of a pruning that isn't opened.
+        // A pruning that isn't opened hasn't halted, and nothing pends in it: neither of its sides has begun.
         Joint::Prunes(_) => Summary {
             over: false,
             left: None,
@@ -185,7 +185,7 @@ impl Terms {
         summary_in(&self.summaries, at)
     }
 
-    // The summary of the term that a node is, whose parts are there.
+    // The summary of a node's term, from the summaries of the node's parts.
     fn summary_of(&self, node: &Node) -> Summary
         ensures { result ≡ summary_of (small_of_node (smalls self.now) node.now) }
     {
@@ -197,7 +197,8 @@ impl Terms {
         }
     }
 
-    // Adds a node, whose parts are there, behind the others, and gives its number. Where memory is refused nothing changes.
+    // Adds a node behind the others, and gives its number. The node's parts have to be among the terms (`HasParts`). Where memory is refused nothing
+    // changes.
     fn push(&mut self, node: Node) -> Result<usize, AllocError>
         requires { HasParts (length self.old) node }
         ensures number { IfOk result (λ at. at ≡ length self.old) }
@@ -215,7 +216,7 @@ impl Terms {
         Ok(at)
     }
 
-    // Whether an equal node is at that place. Only true is promised to mean it.
+    // Whether an equal node is at that place, from 0. The contract promises of `true` alone that the term there is that of `node`.
     fn stands_at(&self, at: usize, node: &Node) -> bool
         ensures { result ≡ true → slice_get (smalls self.now) at ≡ Some (small_of_node (smalls self.now) node.now) }
     {
@@ -237,8 +238,8 @@ impl Terms {
         self.places.insert(hash, at)
     }
 
-    /// The number of a node's term, whose parts are there: that of an equal node, or else of a new one. The error is refused memory. The terms that
-    /// were there stay, also after an error.
+    /// The number of a node's term: that of an equal node, or else of a new one. The node's parts have to be among the terms (`HasParts`). The error
+    /// is refused memory. The terms that were there stay, also after an error.
     pub fn number_of(&mut self, node: Node) -> Result<usize, AllocError>
         requires { HasParts (length self.old) node }
         ensures number { IfOk result (λ at. slice_get (smalls self.new) at ≡ Some (small_of_node (smalls self.old) node)) }
@@ -246,6 +247,7 @@ impl Terms {
     {
         let hash = hash_of(&node);
         if let Some(at) = self.place_of(hash) {
+            // Another node may have this hash, so the one that is found is compared.
             if self.stands_at(at, &node) {
                 return Ok(at);
             }
@@ -255,7 +257,8 @@ impl Terms {
         Ok(at)
     }
 
-    /// The number of what the term of that number becomes by a change; None if that isn't kept.
+    /// The number of what the term of that number becomes by a change, its image; None if no image is kept. By the contract a number that is given is
+    /// right.
     pub(crate) fn image(&self, change: Change, at: usize) -> Option<usize>
         ensures { IfSome result (λ to. IsPart (smalls self.now) change false at to) }
     {
@@ -273,7 +276,8 @@ impl Terms {
         self.images.make_room();
     }
 
-    /// Keeps what a term becomes by a change, its image. The error is refused memory. The terms stay as they are.
+    /// Keeps what a term becomes by a change, its image. The error is refused memory. The terms stay as they are. `IsImage` asks that `image` is
+    /// right: the term of the number `from` becomes that of the number `to`.
     pub(crate) fn keep(&mut self, image: Image) -> Result<(), AllocError>
         requires { IsImage (smalls self.old) image }
         ensures { self.new ≡ self.old }

@@ -21,7 +21,8 @@ pub(crate) struct Spot {
     pub(crate) depth: u64,
 }
 
-/// What a walk does next: it enters a part, which this frame encloses, or it leaves the part that it is in, whose own parts it has entered.
+/// What a walk does next: it enters a part, which this frame encloses, or it leaves the part that it is in, whose own parts it has entered. A frame
+/// says what encloses a part directly, and on which side the part is.
 #[derive(Clone, Copy)]
 pub(crate) enum Task {
     Enter(Frame, Spot),
@@ -35,8 +36,8 @@ pub(crate) struct Walk {
     pub(crate) todo: Vec<Task>,
 }
 
-/// What the whole term does when a part of it does `successor`, through all frames of the path, the innermost (last) first. The error is refused
-/// memory. The terms that were there stay, also after an error.
+/// What the whole term does when a part of it does `successor`, through all frames of the path, the innermost (last) first. `AreAround` asks that the
+/// other parts in these frames are among the terms. The error is refused memory. The terms that were there stay, also after an error.
 pub(crate) fn lifted_out(
     terms: &mut Terms,
     alloc: Global,
@@ -119,6 +120,7 @@ impl Walk {
         while let Some(task) = self.todo.pop() {
             match task {
                 Task::Leave => {
+                    // All of the part has been entered, so its frame is no longer around what comes.
                     let _left = self.path.pop();
                 }
                 Task::Enter(frame, spot) => {
