@@ -20,7 +20,8 @@ pub(crate) const WORDS: u32 = 2 * MOST_GROUPS as u32;
 pub(crate) const PASSES: u32 = 4 * MOST_ENTRIES as u32;
 
 /// A run whose first token is out, with `words` words for its groups, a journal of at most `limit` entries (cancels left out), and passes out of this
-/// supply. None where memory is refused, or the supply is empty. The journal is kept.
+/// supply. None where memory is refused, or the supply is empty. The journal is kept. The clauses ask that `limit` and `words` are those of `P`,
+/// which stands for the run in contracts.
 pub(crate) fn begin<P: Run + Naming>(
     alloc: Global,
     setup: &Setup<'_, P>,

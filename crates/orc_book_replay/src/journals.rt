@@ -22,14 +22,18 @@ use std::marker::Brand;
 /// The entry at which a replay fails, from 1, and why; 0 if nothing was replayed.
 #[derive(Clone, Copy, Debug, PartialEq, Eq)]
 pub(crate) struct Stop {
+    /// The entry's place, from 1, cancels counted; 0 if nothing was replayed.
     pub at: usize,
+    /// Why it fails.
     pub why: Odd,
 }
 
 /// A journal that was replayed: how many entries it has, cancels too, and what the book says of the place to which they have led.
 #[derive(Clone, Copy)]
 pub(crate) struct Replayed {
+    /// How many entries, cancels too.
     pub entries: usize,
+    /// Whether the run has halted, is quiet or is running after them.
     pub state: State,
 }
 
@@ -71,7 +75,7 @@ pub(crate) fn replay_text(
     replay_graph(alloc, &graph, &loaded.answers, &journal)
 }
 
-// Replays a journal of the program with this graph, under a new table of words.
+// Replays a journal of the program with this graph, under a new table of words, which has no name in contracts yet: `replay_named` names it.
 fn replay_graph(
     alloc: Global,
     graph: &Graph,
@@ -84,7 +88,8 @@ fn replay_graph(
     replay_named::<Brand>(alloc, words, graph, answers, journal)
 }
 
-// Replays a journal. In contracts `P` stands for the run and its table of words; the caller picks it.
+// Replays a journal. In contracts `P` stands for the run and its table of words; the caller picks it, and the clauses ask that `P` has this graph,
+// these sites and these words.
 fn replay_named<P: Run + Naming>(
     alloc: Global,
     words: Unnamed,
@@ -150,6 +155,7 @@ fn state_of<P: Run + Naming>(
 ) -> Result<State, Odd>
     requires keeps { P.keeps ≡ true }
 {
+    // Whether the book has closed the program's own group.
     let has_ended = replay.close_run(setup)?;
     let mut ledger = replay.into_ledger();
     match are_same(alloc, setup.inputs.answers, ledger.journal(), journal) {

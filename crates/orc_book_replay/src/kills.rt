@@ -98,6 +98,7 @@ fn kill<P: Run + Naming>(
     replay.bind_only(setup, token, leave).ok()?;
     so(leave.len() == 2)?;
     so(replay.cancelled.as_slice() == [1].as_slice())?;
+    // One killed group uses a word, until these two passes are left.
     so(replay.book.dying() == 1)?;
     match replay.book.returned(1, Answer::Value(Value::Signal)) {
         Ok(_) => None,
@@ -191,6 +192,7 @@ pub(crate) fn keeps_words_of_the_killed<P: Run + Naming>(
     enter_all(setup, &mut replay, "send 3 5 1\n")?;
     let token = replay.take_token(5)?;
     let token = prunes_not(setup, &mut replay, token, BookFault::Full)?;
+    // One killed group uses a word, until the pass of token 4, which has bound, is left.
     so(replay.book.dying() == 1 && leave.len() == 1)?;
     let pass = leave.pop()?;
     leave_killed(setup, &mut replay, pass, &mut leave)?;

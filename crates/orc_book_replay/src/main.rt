@@ -56,6 +56,7 @@ fn tell_journal<R: Print>(
     }
 }
 
+// Shows the rows, or replays or reads the journal that the arguments name.
 fn main(rt: HostRuntime) -> io::Result<()> {
     let alloc = rt.alloc();
     let words = env::args(&rt)?.collect::<Vec<String>>(alloc)?;

@@ -93,6 +93,7 @@ impl<P: Naming> Passes<P> {
         }
         let left = groups.leave(pass);
         self.supply.give(groups, left.pass);
+        // `last` is there if no other pass names the group any more.
         match left.last {
             Some(last) => match self.lasts.push(last) {
                 Ok(()) => Ok(true),
@@ -102,7 +103,7 @@ impl<P: Naming> Passes<P> {
         }
     }
 
-    // Keeps a pass to the program's own group as long as `warm` has fewer than `most_warm`, and leaves any other one.
+    // Keeps a pass to the program's own group as long as `warm` has fewer than `most_warm`, and leaves any other one. The error is refused memory.
     fn put_away(&mut self, groups: &Groups<P>, pass: Pass<P>) -> Result<(), AllocError> {
         if pass.group() == Some(0) && self.warm.len() < self.most_warm {
             return match self.warm.push(pass) {

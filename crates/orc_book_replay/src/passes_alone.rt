@@ -35,6 +35,7 @@ fn one_wins<P: Run + Naming>(
     so(!wins(setup.groups, &mut two)?)?;
     so(!wins(setup.groups, &mut one)?)?;
     so(is_killed(setup.groups, &mut two)?)?;
+    // `leave` gives true for the last pass to a group.
     so(!replay.passes.leave(setup.groups, one).ok()?)?;
     so(replay.passes.leave(setup.groups, two).ok()?)
 }
@@ -65,6 +66,7 @@ pub(crate) fn is_killed_once<P: Run + Naming>(
         let idle = replay.passes.idle(setup.groups)?;
         let one = setup.groups.open(idle, 1).ok()?;
         one_wins(setup, &mut replay, one)?;
+        // The group whose last pass was left is noted once, and has word 1.
         so(replay.passes.lasts.pop()?.group() == 1)?;
     }
     Some(())

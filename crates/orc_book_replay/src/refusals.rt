@@ -36,6 +36,7 @@ fn leaves_early<P: Run + Naming>(
         }
     }
     so(replay.book.entries() == entries && leave.is_empty())?;
+    // An idle pass opens the group's word, 0, again, and names the group then.
     let idle = replay.passes.idle(setup.groups)?;
     let pass = setup.groups.open(idle, 0).ok()?;
     Some(Token { serial, slot, pass })
@@ -85,6 +86,7 @@ fn forks_not<P: Run + Naming>(
     replay: &mut Replay<P>,
     token: Token<P>,
 ) -> Option<Token<P>> {
+    // A pass to the token's group, as a fork needs one for its second token.
     let same = replay.passes.same(setup.groups, &token.pass)?;
     match replay.book.fork(setup.inputs, token, same) {
         Ok(_) => None,
@@ -122,7 +124,8 @@ pub(crate) fn refuses_other_moves<P: Run + Naming>(
     has_written(alloc, setup, replay, "seq 1 2\n")
 }
 
-/// The book refuses a token's pruning for this reason, and gives back both passes that it was lent; they are left. Gives the token back.
+/// The book refuses a token's pruning for this reason, and gives back both passes that it was lent, one to the token's group and an idle one; they
+/// are left. Gives the token back.
 pub(crate) fn prunes_not<P: Run + Naming>(
     setup: &Setup<'_, P>,
     replay: &mut Replay<P>,

@@ -50,6 +50,7 @@ pub(crate) enum Odd {
 }
 
 impl From<BookFault> for Odd {
+    // What a fault of the book's comes to here, in the replay of an entry.
     fn from(fault: BookFault) -> Odd {
         match fault {
             BookFault::Gone => Odd::Gone,
@@ -62,17 +63,23 @@ impl From<BookFault> for Odd {
     }
 }
 
-/// The token that is out in a slot, if one is, and whether the slot is among those that are still to be looked at.
+/// A *slot* is the place at which the book has a token's record. Of a slot the replay notes the token that is *out* there (the replay has that token
+/// and its pass), if one is, and whether the slot is in `listed`, among those that are still to be looked at.
 #[derive(Drop)]
 struct Place<P: Naming> {
+    // The token that is out in the slot, if one is.
     token: Option<Token<P>>,
+    // Whether `listed` has the slot.
     is_listed: bool,
 }
 
 /// A book that does entries one after another, and the tokens and passes that it has given out.
 pub(crate) struct Replay<P: Run + Naming> {
+    // The book, which has the records of the run and writes its journal.
     pub book: Book<P>,
+    // The passes that no record has, and the groups that are still to be closed.
     pub passes: Passes<P>,
+    // What each group is, by the number of its word: which entry ends it, or that none does.
     sides: Sides,
     // The tokens that are out, by their slots. A token that went with a killed group stays here until its slot is looked at or taken again.
     out: Vec<Place<P>>,
@@ -124,7 +131,8 @@ impl<P: Run + Naming> Drop for Replay<P> {
 }
 
 impl<P: Run + Naming> Replay<P> {
-    /// A run that has begun: `token` is out, its first one, with mark 1. `words` is how many words the book has for its groups.
+    /// A run that has begun: `token`, its first one, is out, with mark 1. `words` is how many words the book has for its groups; a group's word
+    /// counts the passes to that group. The error is Memory if memory is refused, and Other if the token has another mark.
     pub(crate) fn begin(
         alloc: Global,
         book: Book<P>,
@@ -154,6 +162,7 @@ impl<P: Run + Naming> Replay<P> {
             step: StepOut::new(alloc),
             args: Args::new(),
         };
+        // The first token gets its place, and is looked at later.
         replay.stand(token)?;
         Ok(replay)
     }
@@ -168,6 +177,8 @@ impl<P: Run + Naming> Replay<P> {
             return Err(Odd::Other);
         }
         match entry {
+            // `number` is the call's. The mark of the token that stands on the value isn't looked at here: the whole journals are compared in the
+            // end.
             Entry::Return(number, _, value) => self.answer(*number, Answer::Value(*value))?,
             Entry::ReturnHalt(number) => self.answer(*number, Answer::Halt)?,
             // `lost` ends a cell's right side. `right` ends the left side of the otherwise that `mark` names, and starts its right side.
@@ -180,8 +191,8 @@ impl<P: Run + Naming> Replay<P> {
         self.settle(setup)
     }
 
-    // The token that the entry names makes its next move, by the call for this kind of entry. The book refuses a call that isn't for that move as
-    // Wrong.
+    // The token that the entry names by its mark (`mark`) makes its next move, by the call for this kind of entry. The book refuses a call that isn't
+    // for that move as Wrong. The entry's other fields (`_`) aren't looked at here: the whole journals are compared in the end.
     fn advance(&mut self, setup: &Setup<'_, P>, entry: &Entry) -> Result<(), Odd> {
         match entry {
             Entry::End(mark) | Entry::Void(mark) => {
@@ -225,7 +236,7 @@ impl<P: Run + Naming> Replay<P> {
         }
     }
 
-    // The token with this mark, for its next move. Gone if it isn't out.
+    // Takes the token with this mark out of the replay, for its next move. The error is Gone if the token isn't out.
     fn take(&mut self, mark: u64) -> Result<Token<P>, Odd> {
         match self.take_token(mark) {
             Some(token) => Ok(token),
@@ -246,7 +257,7 @@ impl<P: Run + Naming> Replay<P> {
         None
     }
 
-    /// Takes a new token, which has to have the next mark; else the error is Other.
+    /// Takes in a new token, which is out from now on. It has to have the next mark: else the error is Other. It is Memory if memory is refused.
     pub(crate) fn stand(&mut self, token: Token<P>) -> Result<(), Odd> {
         // `slots` has an item for mark 0 too, so its length is the next mark.
         if token.serial != self.slots.len() as u64 {
@@ -258,8 +269,8 @@ impl<P: Run + Naming> Replay<P> {
         self.hold(token)
     }
 
-    /// Takes a token that is out, new or not, into its slot. If another token is there, that one went with a killed group, and its pass has to be
-    /// left.
+    /// Takes a token that is out, new or not, into its slot. If another token stands in that slot, that one went with a killed group, and its pass
+    /// goes among those to be left. The error is Memory.
     pub(crate) fn hold(&mut self, token: Token<P>) -> Result<(), Odd> {
         let slot = token.slot;
         self.reach(slot)?;
@@ -279,7 +290,7 @@ impl<P: Run + Naming> Replay<P> {
         }
     }
 
-    // Makes places up to this slot, as far as they aren't there.
+    // Has `out` reach up to this slot: adds places without a token where there are none. The error is Memory.
     fn reach(&mut self, slot: usize) -> Result<(), Odd> {
         for _ in 0..u64::MAX {
             if slot < self.out.len() {
@@ -319,9 +330,11 @@ impl<P: Run + Naming> Replay<P> {
         let Some(token) = place.token.take() else {
             return Ok(());
         };
+        // No view: the token has no record any more, since a bind has killed its group.
         let Some(view) = self.book.view(setup.inputs, token.slot, token.serial) else {
             return self.drop_pass(token.pass);
         };
+        // A token that can move stays out.
         if !matches!(view.what, Action::Wait(_)) {
             place.token = Some(token);
             return Ok(());
@@ -332,7 +345,7 @@ impl<P: Run + Naming> Replay<P> {
         }
     }
 
-    // Adds a pass to those that `settle` leaves.
+    // Adds a pass, which no record has any more, to those that `settle` leaves. The error is Memory.
     fn drop_pass(&mut self, pass: Pass<P>) -> Result<(), Odd> {
         match self.leave.push(pass) {
             Ok(()) => Ok(()),
@@ -373,6 +386,7 @@ impl<P: Run + Naming> Replay<P> {
     // The entry `open`: `idle` opens the word of the right side's group. For that group the book holds `same`, a pass to the token's group, in which
     // the right side's group is. `cell` is the cell that the entry names.
     fn prune(&mut self, setup: &Setup<'_, P>, token: Token<P>, cell: u64) -> Result<(), Odd> {
+        // The word of the group in which the token is.
         let around = token.pass.group();
         let Some(same) = self.passes.same(setup.groups, &token.pass) else {
             return Err(Odd::Memory);
@@ -396,6 +410,7 @@ impl<P: Run + Naming> Replay<P> {
     // The entry `other`: an idle pass opens the word of the group of the otherwise's left side. `mark` is the token's: a later entry `right` names
     // the left side by it.
     fn other(&mut self, setup: &Setup<'_, P>, token: Token<P>, mark: u64) -> Result<(), Odd> {
+        // The word of the group in which the token is.
         let around = token.pass.group();
         let Some(idle) = self.passes.idle(setup.groups) else {
             return Err(Odd::Memory);
@@ -438,6 +453,7 @@ impl<P: Run + Naming> Replay<P> {
     // The entry `send`, a publication into a `>x>`. The move needs an idle pass if the publication leaves the token's group. One is lent in any case;
     // if it isn't used it stays in `births` for the next.
     fn send(&mut self, setup: &Setup<'_, P>, token: Token<P>) -> Result<(), Odd> {
+        // The word of the group in which the token is before the move.
         let inside = token.pass.group();
         if self.births.idle.is_empty()
             && let Some(idle) = self.passes.idle(setup.groups)
@@ -460,6 +476,7 @@ impl<P: Run + Naming> Replay<P> {
 
     // Takes what has come out of a step in which a token of the group with the word `inside` published into a `>x>`: a new token, and maybe a pass.
     fn sent(&mut self, inside: Option<u32>) -> Result<(), Odd> {
+        // The token on a new copy of the `>x>`'s right side. Without it the book has done something else than the entry says.
         let Some(token) = self.step.born.pop() else {
             return Err(Odd::Other);
         };
@@ -473,7 +490,7 @@ impl<P: Run + Naming> Replay<P> {
 
     // The entry `publish`: the value leaves all left sides around the token.
     fn publish(&mut self, setup: &Setup<'_, P>, token: Token<P>) -> Result<(), Odd> {
-        // The program's own group has the word 0.
+        // Notes that the value leaves each left side from the token's group outwards, up to the program's own group, whose word is 0.
         self.leave_sides(token.pass.group(), Some(0))?;
         match self.book.publish(setup.inputs, token) {
             Ok(pass) => self.drop_pass(pass),
@@ -503,9 +520,11 @@ impl<P: Run + Naming> Replay<P> {
     // The entry `bind`: the token's value goes to the cell, all that was in the cell's right side is dropped, and the tokens that wait for the cell
     // come out. Other if the token isn't in this cell's right side.
     fn bind(&mut self, setup: &Setup<'_, P>, token: Token<P>, cell: u64) -> Result<(), Odd> {
+        // The word of the token's group. None is an idle pass, which no token of the book has.
         let Some(inside) = token.pass.group() else {
             return Err(Odd::Other);
         };
+        // The word of the cell's right side, in which the token is: directly, or in left sides within that right side.
         let Some(word) = self.sides.right_side(inside, cell) else {
             return Err(Odd::Other);
         };
@@ -584,8 +603,9 @@ impl<P: Run + Naming> Replay<P> {
         Ok(())
     }
 
-    // Leaves the passes of tokens that went with a killed group, wherever they are. It costs a look at each slot, so it is put off: `bind` does it
-    // when words get few, and other calls when without it nothing comes as the entry says.
+    // Looks at the token of each slot (`look_at`): leaves the passes of those that went with a killed group, and hands those that wait to the book.
+    // This takes time for each slot, so it is put off: `bind` does it when words get few, and other calls when without it nothing comes as the entry
+    // says.
     fn sweep(&mut self, setup: &Setup<'_, P>) -> Result<(), Odd> {
         for slot in 0..self.out.len() {
             self.look_at(setup, slot)?;
@@ -618,7 +638,7 @@ impl<P: Run + Naming> Replay<P> {
         Ok(())
     }
 
-    // Takes a group out of those whose last pass was left, one that ends without an entry. None if there is none.
+    // Takes a group out of `lasts`, the groups whose last pass was left: one that ends without an entry, as `sides` says. None if there is none.
     fn silent_last(&mut self) -> Option<Last<P>> {
         let sides = &self.sides;
         let place = self
@@ -629,8 +649,8 @@ impl<P: Run + Naming> Replay<P> {
         Some(self.passes.lasts.swap_remove(place))
     }
 
-    // Takes the group of this side out of those whose last pass was left, so that the caller can close it. None if it still has a pass, or isn't
-    // open.
+    // Takes the group of this side out of `lasts`, the groups whose last pass was left, so that the caller can close it. None if the group still has
+    // a pass, or isn't open. `sides` says which side each group is.
     fn last_of(&mut self, side: Side) -> Option<Last<P>> {
         let sides = &self.sides;
         let place = self
@@ -710,6 +730,7 @@ impl<P: Run + Naming> Replay<P> {
 
     /// Whether the book keeps the token with this mark: it is there, waits, and the replay doesn't have it. False of a mark that no token has, too.
     pub(crate) fn keeps(&self, setup: &Setup<'_, P>, mark: u64) -> bool {
+        // `slots` has the slot of each token, by the token's mark.
         let Some(slot) = self.slots.get(mark as usize) else {
             return false;
         };
@@ -721,6 +742,7 @@ impl<P: Run + Naming> Replay<P> {
 
     /// Whether the replay has the token with this mark. False of a mark that no token has, too.
     pub(crate) fn is_out(&self, mark: u64) -> bool {
+        // `slots` has the slot of each token, by the token's mark.
         let Some(slot) = self.slots.get(mark as usize) else {
             return false;
         };

@@ -81,16 +81,22 @@ pub(crate) enum Shows {
     IsFullAfter(usize),
 }
 
-/// A row: its name says what it shows, in the words that the program writes. `limit` is the most entries of the journal, cancels left out; `words`
-/// and `passes` are how many of them the book has.
+/// A row: a program with a script, and what is done with a book of it.
 #[derive(Clone, Copy)]
 pub(crate) struct Row {
+    /// What the row shows, in the words that the program writes.
     pub name: &'static str,
+    /// The text of the program.
     pub source: &'static str,
+    /// The text of its script; empty if it calls no site of a script.
     pub script: &'static str,
+    /// The most entries of the journal, cancels left out.
     pub limit: usize,
+    /// How many words the book has: one for each group at a time.
     pub words: u32,
+    /// How many passes there are: one for each record in a group.
     pub passes: u32,
+    /// What is done with the book, and what it has to answer.
     pub shows: Shows,
 }
 
@@ -120,7 +126,7 @@ pub(crate) fn enter_all<P: Run + Naming>(
     so(rest.is_empty())
 }
 
-/// The journal of the whole run has these entries, a line each, and no other.
+/// The journal of the whole run has these entries, a line each, and no other. The clause asks that the run keeps its journal.
 pub(crate) fn has_written<P: Run + Naming>(
     alloc: Global,
     setup: &Setup<'_, P>,
@@ -134,11 +140,12 @@ pub(crate) fn has_written<P: Run + Naming>(
     wanted.extend_from_slice(lines.as_bytes()).ok()?;
     let journal = replay.into_ledger().into_journal();
     let mut text = Vec::new(alloc);
+    // `is_whole` says that each entry was written; false means that one names a site that isn't in the table.
     let is_whole = write_journal(&journal, setup.inputs.answers, &mut text).ok()?;
     so(is_whole && text.as_slice() == wanted.as_slice())
 }
 
-// Whether two answers of `Book::next` are the same one.
+// Whether two answers of `Book::next` are the same one; the type `Next` has no `==`.
 fn is_next(one: Next, other: Next) -> bool {
     match (one, other) {
         (Next::Work, Next::Work) => true,
@@ -167,7 +174,7 @@ fn is_so<P: Run + Naming>(setup: &Setup<'_, P>, replay: &mut Replay<P>, step: &S
     }
 }
 
-// All steps hold, one after another, and the journal has the lines of the steps `Does`, and no others.
+// All steps hold, one after another, and the journal has the lines of the steps `Does`, and no others. For that the run has to keep its journal.
 fn are_so<P: Run + Naming>(
     alloc: Global,
     setup: &Setup<'_, P>,
@@ -186,7 +193,8 @@ fn are_so<P: Run + Naming>(
     has_written(alloc, setup, replay, lines.as_str())
 }
 
-// What the row shows holds of this run, which has just begun.
+// Does with this run, which has just begun, what the row shows: Some if all is as it has to be. The clauses ask that the run keeps its journal, and
+// that there are two words at least, since some rows open word 1.
 fn show_with<P: Run + Naming>(
     alloc: Global,
     setup: &Setup<'_, P>,
@@ -214,8 +222,8 @@ fn show_with<P: Run + Naming>(
     }
 }
 
-// `show` for a graph that is built. In contracts `P` stands for the run and its table of words; the caller picks it. `limit` and `count` are those of
-// the row (`count` its number of words), in variables of which the contract speaks.
+// `show` for a graph that is built. In contracts `P` stands for the run and its table of words; the caller picks it, and the clauses ask that `P` has
+// this graph, these sites, this limit and these words. `limit` and `count` are those of the row (`count` its number of words).
 fn show_named<P: Run + Naming>(
     alloc: Global,
     words: Unnamed,

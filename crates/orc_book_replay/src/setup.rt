@@ -7,6 +7,8 @@ use orc_word::{Groups, Naming};
 /// The program and the table of sites of a run, and the words of its groups: a word counts the passes that name its group.
 #[derive(Drop)]
 pub(crate) struct Setup<'h, P: Run + Naming> {
+    // The program and the table of sites.
     pub inputs: &'h Inputs<'h, P>,
+    // The words.
     pub groups: &'h Groups<P>,
 }

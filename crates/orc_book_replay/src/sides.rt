@@ -20,6 +20,7 @@ pub(crate) enum Side {
 /// A group.
 #[derive(Clone, Copy)]
 struct Group {
+    // What it is.
     side: Side,
     // The word of the group outside it. That one keeps its word until this one is closed.
     parent: u32,
@@ -40,6 +41,7 @@ const WHOLE: Group = Group {
 /// The groups by their words. The program's own has word 0.
 #[derive(Drop)]
 pub(crate) struct Sides {
+    // The group that has each word, or had it last; the program's own for a word that no group has had.
     groups: Vec<Group>,
 }
 

@@ -32,6 +32,7 @@ fn move_in_line<P: Run + Naming>(
         if out.born.is_empty() {
             return None;
         }
+        // Tokens are added at the end, so the first one has waited longest.
         let token = out.born.remove(0);
         if let Err(refused) = replay
             .book
@@ -53,6 +54,7 @@ fn moves_once<P: Run + Naming>(
 ) -> Option<()> {
     let token = replay.take_token(1)?;
     let view = replay.book.view(setup.inputs, token.slot, token.serial)?;
+    // The token is to enter the `>x>`. For that it needs no pass, neither to its group nor an idle one.
     so(matches!(view.what, Action::Seq) && view.needs.same == 0 && view.needs.idle == 0)?;
     let slot = token.slot;
     let double = replay.passes.same(setup.groups, &token.pass)?;
@@ -72,6 +74,7 @@ fn moves_once<P: Run + Naming>(
         Ok(()) => None,
         Err(refused) => {
             so(refused.why == BookFault::Gone && out.born.len() == 1)?;
+            // The second pass isn't the last one to the group: the new token has the first.
             so(!replay.passes.leave(setup.groups, refused.back.pass).ok()?)
         }
     }
@@ -112,6 +115,7 @@ pub(crate) fn makes_moves<P: Run + Naming>(
     so(move_in_line(setup, &mut replay, &mut births, &mut out)? == why)?;
     so(replay.book.entries() == entries)?;
     so(births.same.len() == left && births.idle.len() == 1 && out.leave.is_empty())?;
+    // `MOVES` has, at the number of moves, what these write.
     has_written(alloc, setup, replay, MOVES.get(entries)?)
 }
 

@@ -9,14 +9,16 @@ use orc_book::{BookFault, Next};
 use orc_rules::limits::MOST_ENTRIES;
 use orc_rules::value::{Answer, Value};
 
+// The answer `signal`, as `Rwait` gives it.
 const SIGNAL: Answer = Answer::Value(Value::Signal);
 
+// The answer 5, which `Rwait` never gives.
 const FIVE: Answer = Answer::Value(Value::Number(5));
 
 // The limit of a row that names none: the greatest that there is.
 const LIMIT: usize = MOST_ENTRIES as usize;
 
-// A row whose book has the usual words, passes and limit.
+// A row whose book has the usual numbers of words and passes and the greatest limit of entries. `source` is the program, `script` its script.
 fn row(name: &'static str, source: &'static str, script: &'static str, shows: Shows) -> Row {
     Row {
         name,
@@ -29,7 +31,7 @@ fn row(name: &'static str, source: &'static str, script: &'static str, shows: Sh
     }
 }
 
-// A row of a book with another limit.
+// A row of a book with this limit of entries, cancels not counted. It has no script.
 fn limited(name: &'static str, source: &'static str, limit: usize, shows: Shows) -> Row {
     Row {
         name,
@@ -42,7 +44,7 @@ fn limited(name: &'static str, source: &'static str, limit: usize, shows: Shows)
     }
 }
 
-// A row of a book with other words and passes.
+// A row of a book with this many words (one for each group that it has at a time) and passes (one for each record in a group). It has no script.
 fn with_words(
     name: &'static str,
     source: &'static str,
@@ -61,8 +63,8 @@ fn with_words(
     }
 }
 
-// `g(x) <x< 10` has cell 1, and `Add(a, x) <x< 1` in its body cell 2. Token 5 is at `Add(a, x)`: its `a` is cell 1 and its `x` cell 2. Once it is out
-// again it runs on, so the run hasn't ended yet.
+// `g(x) <x< 10` has cell 1, and `Add(a, x) <x< 1` in the body of g cell 2. Token 5 is at `Add(a, x)`: its `a` is cell 1 and its `x` cell 2. The book
+// keeps the token until both cells are bound. Then it is out again and can move, so the run hasn't ended yet.
 const WAITS_FOR_TWO: [Step; 9] = [
     Step::Does("open 1 1 2 3\ndef 2 4\nopen 4 2 5 6\n"),
     Step::Keeps(5),
@@ -75,8 +77,9 @@ const WAITS_FOR_TWO: [Step; 9] = [
     Step::HasEnded(true),
 ];
 
-// The program is `(Rwait(3) >> Ift(false)) ; 9`. Call 1, `Rwait(3)`, is due at time 3 and answers a signal: before that, with 5, and a second time
-// its answer is refused. `Ift(false)` halts, so the otherwise goes to its right side, 9.
+// The program is `(Rwait(3) >> Ift(false)) ; 9`. Call 1, `Rwait(3)`, is due at time 3 and answers a signal. Before that time, and with 5, an answer
+// is refused as Wrong; a second answer is refused as Gone. At time 3 that answer comes before time can go on (`Next::Work`). `Ift(false)` halts, so
+// the otherwise goes to its right side, 9.
 const IS_DUE: [Step; 13] = [
     Step::Does("other 1 2\nseq 2 3\ncall 3 1 Rwait(3)\n"),
     Step::Refuses(1, SIGNAL, BookFault::Wrong),
@@ -154,12 +157,14 @@ const IS_CANCELLED: [Step; 6] = [
     Step::HasEnded(true),
 ];
 
-// Programs that several rows have: a pipeline, and a race.
+// A program that several rows have, a pipeline: each of two values goes through a call.
 const PIPE: &str = "(1 | 2) >x> Add(x, 10)";
 
+// A program that several rows have, a race: the first of two values to come binds the cell of x.
 const RACE: &str = "x <x< (1 | 2)";
 
-/// All rows.
+/// All rows. Each has its name, its program, its script (empty if no site of a script is called) and what it shows. `limited` also takes the limit of
+/// entries, `with_words` the numbers of words and of passes.
 pub(crate) fn rows() -> [Row; 23] {
     [
         row(
@@ -204,7 +209,7 @@ pub(crate) fn rows() -> [Row; 23] {
             "",
             Shows::Steps(&LEAVES_LEFT_SIDE),
         ),
-        // The first token takes one of the three passes.
+        // There are two words and three passes, of which the first token takes one.
         with_words(
             "a supply gives the passes that it has, and those that come back",
             "stop",
@@ -212,7 +217,7 @@ pub(crate) fn rows() -> [Row; 23] {
             3,
             Shows::GivesPassesAgain,
         ),
-        // Word 0 is the program's own, and word 1 the one that is opened. Three passes would do.
+        // There are two words: 0 is the program's own, and 1 is the one that is opened. Three of the five passes would do.
         with_words(
             "one of two passes wins that their group is killed, and so again when its word is opened anew",
             "stop",
@@ -232,7 +237,7 @@ pub(crate) fn rows() -> [Row; 23] {
             "",
             Shows::GivesALostMarkBack,
         ),
-        // Word 1 is the only one for the two prunings. The row needs far fewer than 100 passes.
+        // There are two words: word 1 is the only one for the two prunings. The row needs far fewer than 100 passes.
         with_words(
             "a killed group's word is taken until its last pass is left",
             "(x <x< 1) >y> (z <z< 2)",
@@ -258,26 +263,29 @@ pub(crate) fn rows() -> [Row; 23] {
             "",
             Shows::RefusesOtherMoves,
         ),
-        // The moves are `seq`, `fork` (which takes the lent pass) and two `send`; the next token is at a call, which is no move for `step`. So it is
-        // refused as Wrong.
+        // The four moves are `seq`, `fork` (which takes the lent pass, so 0 remain) and two `send`. The next token is at a call, which `step` doesn't
+        // make, so it is refused as Wrong.
         row(
             "four moves of three tokens take one pass, and a token that has moved is gone",
             PIPE,
             "",
             Shows::MakesMoves(4, BookFault::Wrong, 0),
         ),
+        // The second `send` is refused as Limit. The `fork` has taken the lent pass, so 0 remain.
         limited(
             "a limit of three entries leaves three of these moves",
             PIPE,
             3,
             Shows::MakesMoves(3, BookFault::Limit, 0),
         ),
+        // The `fork` is refused as Limit, so the lent pass remains.
         limited(
             "a limit of one entry leaves one of them, and the pass that was lent",
             PIPE,
             1,
             Shows::MakesMoves(1, BookFault::Limit, 1),
         ),
+        // The script answers no call of N.
         row(
             "a bind cancels the calls inside its right side in the order of their numbers",
             "N() | (x <x< (N() | ((N() ; 2) | ((y <y< N()) | 1))))",

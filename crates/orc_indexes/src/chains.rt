@@ -49,6 +49,7 @@ pub struct Chains {
 fn set_after(firsts: &mut Vec<usize>, links: &mut Vec<Link>, link: Link, after: usize) {
     match links.get_mut(link.before) {
         Some(before) => before.after = after,
+        // `link.before` is `NOWHERE`: this link is the first of its chain.
         None => {
             if let Some(first) = firsts.get_mut(link.group as usize) {
                 *first = after;
@@ -64,7 +65,7 @@ fn set_before(links: &mut Vec<Link>, link: Link, before: usize) {
     }
 }
 
-// Writes the link of a place. Where there is no such place nothing changes.
+// Writes `link` as the link of a place. Where there is no such place nothing changes.
 fn set_link(links: &mut Vec<Link>, place: usize, link: Link) {
     if let Some(old) = links.get_mut(place) {
         *old = link;
@@ -88,12 +89,14 @@ fn link_at(links: &Vec<Link>, place: usize) -> Link {
     }
 }
 
-// The first place of a group's chain, or `NOWHERE` if the chain is empty. None for group 0, for `MOST_GROUPS` and more, and if memory is refused.
+// The first place of the chain of the group with this number, or `NOWHERE` if the chain is empty. None for group 0, for `MOST_GROUPS` and more, and
+// if memory is refused.
 #[inline(always)]
 fn reach_first(firsts: &mut Vec<usize>, group: u32) -> Option<usize> {
     if group == 0 {
         return None;
     }
+    // No group with so great a number has a chain yet.
     if group as usize >= firsts.len() {
         grow_firsts(firsts, group as usize);
     }
@@ -176,6 +179,7 @@ impl Chains {
     /// Notes that no member is at this place.
     pub fn take(&mut self, place: usize) {
         let link = link_at(&self.links, place);
+        // The place is in no chain.
         if link.group == 0 {
             return;
         }
@@ -189,7 +193,7 @@ impl Chains {
     pub fn swap_take(&mut self, place: usize, last: usize) {
         self.take(place);
         let link = link_at(&self.links, last);
-        // This is also so if `last` is `place`, which was just emptied.
+        // The place `last` is in no chain. This is also so if `last` is `place`, which was just emptied.
         if link.group == 0 {
             return;
         }
@@ -207,9 +211,10 @@ impl Chains {
         places.clear();
         let mut at = match self.firsts.get(group as usize) {
             Some(first) => *first,
+            // The group has no chain yet.
             None => return,
         };
-        // Ranks fall along a chain. The test makes sure of it, so that the loop ends and names no place twice.
+        // The rank of the place before. Ranks fall along a chain: the test below makes sure of it, so that the loop ends and names no place twice.
         let mut rank = u64::MAX;
         while let Some(link) = find_link(&self.links, at) {
             if link.rank >= rank || reserve(places).is_err() {

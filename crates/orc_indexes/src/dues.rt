@@ -29,7 +29,7 @@ impl Model for Dues {
     ghost invariant = { λ d. IsFirst d.first d.others.keys };
 }
 
-// Whether a note comes before another: at an earlier time, or with a lesser number.
+// Whether a note comes before another: at an earlier time, or at the same time with a lesser number of the call.
 #[inline(always)]
 fn is_before(one: (u64, u64), other: (u64, u64)) -> bool
     ensures before { result ≡ true → IsBefore one other }
@@ -49,13 +49,15 @@ impl Dues {
         }
     }
 
-    /// Notes when a call is due. To repeat a note changes nothing. The error is refused memory, and then nothing changes.
+    /// Notes that the call with this number is due at this logical time. To repeat a note changes nothing. The error is refused memory, and then
+    /// nothing changes.
     pub fn note(&mut self, time: u64, number: u64) -> Result<(), AllocError>
         ensures noted { OnOk result (IsNoted self.new time number) }
         ensures kept { (t k : ℕ) → IsNoted self.old t k → IsNoted self.new t k }
     {
         let note = (time, number);
         match self.first {
+            // There are no notes yet.
             None => self.first = Some(note),
             // The earlier of the two is kept as the first, and the other one goes into the tree. If both are the same, nothing changes.
             Some(first) => {
@@ -77,10 +79,11 @@ impl Dues {
         self.first
     }
 
-    /// The least number, `from` or more, that is noted with this time. None if there is none.
+    /// The least number of a call, `from` or more, that is noted with exactly this time. None if there is none.
     pub fn first_at(&self, time: u64, from: u64) -> Option<u64>
         ensures { MatchOption result ((k : ℕ) → IsNoted self.now time k → k < from) (IsLeastFrom self.now time from) }
     {
+        // Without a first note there are no notes.
         let first = self.first?;
         // No note has an earlier time than the first.
         if first.0 > time {
@@ -97,7 +100,7 @@ impl Dues {
         }
     }
 
-    /// Takes a note out, if it is there. The others stay.
+    /// Takes a note out, if it is there, so that there are fewer. The others stay.
     pub fn forget(&mut self, time: u64, number: u64)
         ensures kept { KeepsBut self.old self.new time number }
         ensures gone { IsNoted self.old time number → length self.new < length self.old }

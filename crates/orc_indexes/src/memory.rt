@@ -4,7 +4,7 @@ ghost use Rattle.std.specs.Prelude.{◌≡◌, ◌+◌, ◌<◌, ◌≤◌, ◌+
 
 use std::alloc::AllocError;
 
-/// Adds an item at the end, where there is room (`reserve`).
+/// Adds an item at the end. There has to be room for it, which `reserve` makes.
 // `push_reserved` builds the item in place; `push` would build it on the stack first.
 #[inline(always)]
 pub fn push_within<T: Drop>(items: &mut Vec<T>, item: T)
@@ -31,6 +31,7 @@ pub fn reserve<T: Drop>(items: &mut Vec<T>) -> Result<(), AllocError>
     ensures items { items.new.items ≡ items.old.items }
     ensures room { OnOk result (vec_len items.new + 1 ≤ vec_capacity items.new) }
 {
+    // The list is full: it has no room for another item.
     if items.len() >= items.capacity() {
         return grow(items);
     }

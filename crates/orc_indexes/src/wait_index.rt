@@ -9,12 +9,12 @@ ghost use Rattle.orc_indexes.specs.declared.wait_index.Note.{Note as Its};
 use std::alloc::{AllocError, Global};
 use std::marker::Model;
 
-/// A token that waits for a cell.
+/// A token that waits for a cell. Each cell has a list of such notes.
 #[derive(Clone, Copy)]
 pub struct Note {
-    /// Its slot, in which another token may stand later.
+    /// The token's slot, that is the place of its record, in which another token may stand later.
     pub slot: usize,
-    /// Its serial, which tells whether it is still the one in the slot.
+    /// The token's serial, which tells whether the token is still the one in the slot.
     pub serial: u64,
 }
 
@@ -56,7 +56,7 @@ impl Model for Parking {
     ghost invariant = { λ p. p.count ≡ weight one p.flags.items };
 }
 
-// Whether the flag of a slot is set. False for a slot without a flag.
+// Whether the flag of a slot is set: the token there is known to wait. False for a slot without a flag.
 #[inline(always)]
 fn is_set(flags: &Vec<bool>, slot: usize) -> bool
     ensures { result ≡ is_set flags.now.items slot }
@@ -67,7 +67,7 @@ fn is_set(flags: &Vec<bool>, slot: usize) -> bool
     }
 }
 
-// Writes the flag of a slot. For a slot without a flag nothing changes.
+// Writes the flag of a slot: whether the token there is known to wait. For a slot without a flag nothing changes.
 #[inline(always)]
 fn write_flag(flags: &mut Vec<bool>, slot: usize, value: bool)
     ensures { flags.new.items ≡ slice_set flags.old.items slot value }
@@ -77,7 +77,8 @@ fn write_flag(flags: &mut Vec<bool>, slot: usize, value: bool)
     }
 }
 
-// Gives each slot up to this one a flag. New flags aren't set. The error is refused memory; some of the slots may have a flag then.
+// Gives each slot up to this one a flag. New flags aren't set, so those that are set stay the same. The error is refused memory; some of the slots
+// may have a flag then.
 fn reach_slot(flags: &mut Vec<bool>, slot: usize) -> Result<(), AllocError>
     ensures same { (k : ℕ) → is_set flags.new.items k ≡ is_set flags.old.items k }
     ensures count { weight one flags.new.items ≡ weight one flags.old.items }
@@ -92,7 +93,8 @@ fn reach_slot(flags: &mut Vec<bool>, slot: usize) -> Result<(), AllocError>
     Ok(())
 }
 
-// Gives each cell up to this one a list. New lists are empty. The error is refused memory; some of the cells may have a list then.
+// Gives each cell up to this one a list of notes. New lists are empty, so each cell's notes are as before. The error is refused memory; some of the
+// cells may have a list then.
 fn reach_cell(alloc: Global, notes: &mut Vec<Vec<Note>>, cell: usize) -> Result<(), AllocError>
     ensures same { (c : ℕ) → notes_at (map vec_items notes.new.items) c ≡ notes_at (map vec_items notes.old.items) c }
     ensures there { OnOk result (cell < vec_len notes.new) }
@@ -105,7 +107,8 @@ fn reach_cell(alloc: Global, notes: &mut Vec<Vec<Note>>, cell: usize) -> Result<
     Ok(())
 }
 
-// Adds a note to a cell's list, which has to be there. The error is refused memory.
+// Adds a note to the list of the cell with this number; the list has to be there. The error is refused memory. The notes that were there stay either
+// way.
 fn write_note(notes: &mut Vec<Vec<Note>>, cell: usize, note: Note) -> Result<(), AllocError>
     requires there { cell < vec_len notes.old }
     ensures noted { OnOk result (IsIn note (notes_at (map vec_items notes.new.items) cell)) }
@@ -118,7 +121,7 @@ fn write_note(notes: &mut Vec<Vec<Note>>, cell: usize, note: Note) -> Result<(),
     }
 }
 
-// Takes the last note out of a cell's list. None if the cell has no note or no list.
+// Takes the last note out of the list of the cell with this number; the other cells' notes stay. None if the cell has no note or no list.
 fn take_note(notes: &mut Vec<Vec<Note>>, cell: usize) -> Option<Note>
     ensures note { MatchOption result (notes_at (map vec_items notes.old.items) cell ≡ []) (λ n. notes_at (map vec_items notes.old.items) cell ≡ notes_at (map vec_items notes.new.items) cell ++ n ∷ []) }
     ensures others { (c : ℕ) → (c ≡ cell → ⊥) → notes_at (map vec_items notes.new.items) c ≡ notes_at (map vec_items notes.old.items) c }
@@ -162,6 +165,7 @@ impl Parking {
         ensures flags { self.new.flags ≡ slice_set self.old.flags slot false }
         ensures notes { self.new.notes ≡ self.old.notes }
     {
+        // The flag isn't set, or there is none.
         if !is_set(&self.flags, slot) {
             return;
         }
@@ -178,6 +182,7 @@ impl Parking {
         let len = self.flags.len();
         // Shows the prover that the flag is there.
         prove!(slot < len);
+        // The flag is set already, and counted.
         if is_set(&self.flags, slot) {
             return;
         }
@@ -194,7 +199,7 @@ impl Parking {
         reach_slot(&mut self.flags, slot)
     }
 
-    /// Notes a token with a cell for which it waits. The error is refused memory. The notes that were there stay either way.
+    /// Notes that a token waits for the cell with this number. The error is refused memory. The notes that were there stay either way.
     pub fn note(&mut self, cell: u64, note: Note) -> Result<(), AllocError>
         ensures flags { self.new.flags ≡ self.old.flags }
         ensures noted { OnOk result (IsIn note (notes_at self.new.notes cell)) }
@@ -204,7 +209,7 @@ impl Parking {
         write_note(&mut self.notes, cell as usize, note)
     }
 
-    /// Takes one of a cell's notes out, the latest first. None if the cell has no note.
+    /// Takes one of a cell's notes out, the latest first. The other cells' notes and the flags stay. None if the cell has no note.
     pub fn take(&mut self, cell: u64) -> Option<Note>
         ensures flags { self.new.flags ≡ self.old.flags }
         ensures note { MatchOption result (notes_at self.old.notes cell ≡ []) (λ n. notes_at self.old.notes cell ≡ notes_at self.new.notes cell ++ n ∷ []) }

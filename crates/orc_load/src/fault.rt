@@ -4,7 +4,7 @@ use orc_scope::ScopeFault;
 use orc_site::ScriptFault;
 use orc_syntax::SyntaxFault;
 
-/// Why no program was loaded.
+/// Why no program was loaded. docs/orc.md says what each number (S1, say) means.
 #[derive(Clone, Copy, Debug, PartialEq, Eq)]
 pub enum LoadFault {
     /// The source's text spells no program (S1 to S8).

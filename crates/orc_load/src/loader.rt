@@ -20,6 +20,7 @@ use std::alloc::Global;
 
 /// A program, and what answers its calls.
 pub struct Loaded {
+    /// The program that the source spells.
     pub program: Program,
     /// The table of the built-in sites and the script's; the program names a site by its number there.
     pub answers: Answers,
@@ -55,7 +56,8 @@ const NO_MEMORY: ScopeFault = ScopeFault {
     span: Span { start: 0, end: 0 },
 };
 
-// The program of a source's tree, with the sites of this table. The error is a fault of the source's names, or refused memory.
+// The program of a source's tree, with the sites of this table: what the scope check gives for the tree and the sites' names (`Checks`). The error is
+// a fault of the source's names, or refused memory.
 fn checked(alloc: Global, ast: &Ast, answers: &Answers) -> Result<Program, ScopeFault>
     ensures { (s : Source) → IsAst ast.now s → Checks answers.now.names s result }
 {
@@ -75,10 +77,12 @@ pub fn load(alloc: Global, source: &[u8], script: &[u8]) -> Result<Loaded, LoadF
     ensures spells { IfOk result (λ p. IsProgramOf source.now p.answers p.program) }
     ensures fault { IfErr result (IsLoadFault source.now script.now) }
 {
+    // The source's text, read as a tree. Its fault comes before any other.
     let ast = match parse(alloc, source) {
         Ok(ast) => ast,
         Err(fault) => return Err(LoadFault::Syntax(fault)),
     };
+    // The table of the built-in sites and the script's.
     let answers = match read_script(alloc, script) {
         Ok(answers) => answers,
         Err(fault) => return Err(LoadFault::Script(fault)),

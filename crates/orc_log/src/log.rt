@@ -36,8 +36,9 @@ pub struct Log<P: Run> {
     keeps: bool,
     // The entries, where they are held.
     held: Journal,
-    // The entries that aren't held, for contracts alone; and how many they are.
+    // The entries that aren't held, for contracts alone.
     past: GhostList<Entry>,
+    // How many entries aren't held.
     passed: usize,
     // The values that the entries which aren't held publish, in order.
     published: Vec<Value>,
@@ -60,7 +61,8 @@ impl<P: Run> Model for Log<P> {
     ghost invariant = { λ c. (c.keeps ≡ P.keeps) × IsKnown P.sites c.keeps c.past.items c.passed c.published.items c.is_local (length c.held.entries) };
 }
 
-// The past with an entry behind it. At run time the arguments aren't used: the caller's proof names them where it picks the items.
+// The past, which is the ghost list of the entries that aren't held, with an entry behind it. At run time the arguments aren't used: the caller's
+// proof names them where it picks the items.
 fn past_with_entry(past: &GhostList<Entry>, entry: &Entry) -> GhostList<Entry>
     ghost items: { List EntryOf }
     ensures { result.items ≡ items }
@@ -70,7 +72,8 @@ fn past_with_entry(past: &GhostList<Entry>, entry: &Entry) -> GhostList<Entry>
     ghost_list_of::<Entry>()
 }
 
-// The past with a call behind it. At run time the arguments aren't used: the caller's proof names them where it picks the items.
+// The past (the ghost list of the entries that aren't held) with a call behind it. At run time the arguments aren't used: the caller's proof names
+// them where it picks the items.
 fn past_with_call(
     past: &GhostList<Entry>,
     token: u64,
@@ -87,7 +90,8 @@ fn past_with_call(
     ghost_list_of::<Entry>()
 }
 
-// The past with a bind and its cancels behind it. At run time the arguments aren't used: the caller's proof names them where it picks the items.
+// The past (the ghost list of the entries that aren't held) with a bind and its cancels behind it. At run time the arguments aren't used: the
+// caller's proof names them where it picks the items.
 fn past_with_bind(
     past: &GhostList<Entry>,
     token: u64,
@@ -105,7 +109,8 @@ fn past_with_bind(
     ghost_list_of::<Entry>()
 }
 
-// The first `len` entries of the past. At run time the arguments aren't used: the caller's proof names them where it picks the items.
+// The first `len` entries of the past, the ghost list of the entries that aren't held. At run time the arguments aren't used: the caller's proof
+// names them where it picks the items.
 fn first_of_past(past: &GhostList<Entry>, len: usize) -> GhostList<Entry>
     ghost items: { List EntryOf }
     ensures { result.items ≡ items }
@@ -115,8 +120,8 @@ fn first_of_past(past: &GhostList<Entry>, len: usize) -> GhostList<Entry>
     ghost_list_of::<Entry>()
 }
 
-// The past with a part's entries behind it, under the numbers that they have in this run. At run time the arguments aren't used: the caller's proof
-// names them where it picks the items.
+// The past (the ghost list of the entries that aren't held) with the entries of a part, the log of a sub-run, behind it, under the numbers that they
+// have in this run. At run time the arguments aren't used: the caller's proof names them where it picks the items.
 fn past_with_part<P: Run>(
     past: &GhostList<Entry>,
     part: &Log<P>,
@@ -131,7 +136,7 @@ fn past_with_part<P: Run>(
     ghost_list_of::<Entry>()
 }
 
-// Whether `more` entries may still be held: at most `MOST` in all. Where not, callers answer as if memory were refused.
+// Whether `more` entries may still be held beside those that are: at most `MOST` in all. Where not, callers answer as if memory were refused.
 #[inline(always)]
 fn has_room(held: &Journal, more: usize) -> bool
     ensures { result ≡ true → length held.now.entries + more ≤ 2 ^ 62 }
@@ -234,6 +239,7 @@ impl<P: Run> Log<P> {
     pub fn len(&self) -> usize
         ensures entries { result ≡ length self.now.entries }
     {
+        // Either all entries are held or none is, so one of the two counts is 0.
         self.passed + self.held.len()
     }
 
@@ -243,12 +249,14 @@ impl<P: Run> Log<P> {
         ensures added { OnOk result (self.new ≡ log_with self.old (entry.now ∷ [])) }
         ensures refused { OnErr result (self.new ≡ self.old) }
     {
+        // The run keeps its journal, so the entry is held.
         if self.keeps {
             if !has_room(&self.held, 1) {
                 return Err(AllocError);
             }
             return self.held.push(entry);
         }
+        // No memory has room for so many, so this is as if memory were refused.
         if self.passed >= MOST {
             return Err(AllocError);
         }
@@ -279,6 +287,7 @@ impl<P: Run> Log<P> {
         ensures added { OnOk result (self.new ≡ log_with self.old (Call token call site args.now ∷ [])) }
         ensures refused { OnErr result (self.new ≡ self.old) }
     {
+        // The run keeps its journal, so the entry is held.
         if self.keeps {
             if !has_room(&self.held, 1) {
                 return Err(AllocError);
@@ -287,7 +296,7 @@ impl<P: Run> Log<P> {
         }
         count_more(&mut self.passed, 1)?;
         self.past = past_with_call(&self.past, token, call, site, args);
-        // A script's answer depends on the calls that the whole run has made before.
+        // A script's answer depends on the calls that the whole run has made before, so the call isn't local.
         if answers.is_scripted(site) {
             self.is_local = false;
         }
@@ -308,6 +317,7 @@ impl<P: Run> Log<P> {
     {
         // The bind and its cancels.
         let more = cancelled.len().saturating_add(1);
+        // The run keeps its journal, so the entries are held.
         if self.keeps {
             if !has_room(&self.held, more) {
                 return Err(AllocError);
@@ -367,6 +377,7 @@ impl<P: Run> Log<P> {
         ensures made { OnOk result (calls.new.made ≡ calls.old.made + made) }
         ensures refused { OnErr result ((self.new ≡ self.old) × (calls.new.made ≡ calls.old.made)) }
     {
+        // The run keeps its journal, so the part's entries are held.
         if self.keeps {
             append_held(&mut self.held, &part.held, numbering, calls, made)
         } else {
@@ -422,7 +433,7 @@ impl<P: Run> Log<P> {
         if self.keeps { self.held.get(at) } else { None }
     }
 
-    /// The whole journal, of a run that keeps it.
+    /// The whole journal, of a run that keeps it; the clause asks for that.
     pub fn journal(&self) -> &Journal
         requires { P.keeps ≡ true }
         ensures entries { result.now.entries ≡ self.now.entries }
@@ -431,7 +442,7 @@ impl<P: Run> Log<P> {
         &self.held
     }
 
-    /// The whole journal, of a run that keeps it; the log itself goes.
+    /// The whole journal, of a run that keeps it; the clause asks for that. The log itself goes.
     pub fn into_journal(self) -> Journal
         requires { P.keeps ≡ true }
         ensures entries { result.entries ≡ self.entries }
@@ -444,6 +455,7 @@ impl<P: Run> Log<P> {
     pub fn into_published(self) -> Result<Vec<Value>, AllocError>
         ensures { IfOk result (λ values. values.items ≡ published self.entries) }
     {
+        // The run keeps its journal: the values are read out of the held entries.
         if self.keeps {
             self.held.published(self.alloc)
         } else {

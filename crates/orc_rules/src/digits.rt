@@ -13,8 +13,10 @@ pub fn digits_at(bytes: &[u8]) -> Option<(u64, &[u8])>
         if !c.is_ascii_digit() {
             return Some((number, rest));
         }
+        // Each digit counts ten times the next. None if the number gets too large.
         number = number.checked_mul(10)?.checked_add((*c - b'0') as u64)?;
         rest = behind;
     }
+    // All bytes are digits, so none is left.
     Some((number, rest))
 }

@@ -48,7 +48,7 @@ pub enum Entry {
 }
 
 impl Entry {
-    /// Its kind.
+    /// The entry's kind, which says with which word its line begins and which fields follow.
     pub fn kind(&self) -> Kind
         ensures { result ≡ kind_of self.now }
     {

@@ -18,13 +18,16 @@ use std::marker::Model;
 /// A line of a script: calls that match the patterns get the answers in their order. A pattern is a value, or None for `_`, which matches any.
 #[derive(Drop)]
 pub struct Line {
+    /// One pattern for each argument.
     pub patterns: Vec<Option<Value>>,
+    /// The answers to the first such call, the second and so on; after the last one it comes again and again.
     pub answers: Vec<Found>,
 }
 
 /// The lines of a site in their order. The shape of a line is at which places it has a value and at which a `_`. Which line answers a call is found
 /// in a time that grows with their shapes and not with their number; where they have more than `MOST_SHAPES`, one by one.
 pub struct Lines {
+    // The lines by their places, from 0.
     lines: Vec<Line>,
     // Up to `FEW_LINES` lines it isn't kept up, and not used.
     index: Index,
@@ -45,6 +48,7 @@ struct Index {
 struct Patterns {
     // From `len` on there is only filling.
     patterns: [Option<Value>; MOST_ARGUMENTS],
+    // How many patterns there are.
     len: usize,
 }
 
@@ -94,6 +98,7 @@ fn is_match(patterns: &[Option<Value>], args: &[Value]) -> bool
 {
     match (patterns, args) {
         ([], []) => true,
+        // None is a `_`, which matches any value.
         ([None, patterns @ ..], [_, args @ ..]) => is_match(patterns, args),
         ([Some(pattern), patterns @ ..], [arg, args @ ..]) => {
             is_same(*pattern, *arg) && is_match(patterns, args)
@@ -103,7 +108,7 @@ fn is_match(patterns: &[Option<Value>], args: &[Value]) -> bool
     }
 }
 
-// The n-th answer, from 0; after the last one it is the last one again. A line without answers, which no script has, halts.
+// The n-th of a line's answers, from 0; after the last one it is the last one again. A line without answers, which no script has, halts.
 fn nth(answers: &[Found], n: u64) -> Found
     ensures { result ≡ nth_answer answers.now n }
 {
@@ -119,7 +124,7 @@ fn nth(answers: &[Found], n: u64) -> Found
     }
 }
 
-// The place of the first line that matches, looking at one after another. Without such a line, how many there are.
+// The place, from 0, of the first line that matches these arguments, looking at one after another. Without such a line, how many lines there are.
 fn first_match(lines: &[Line], args: &[Value]) -> usize
     ensures { result ≡ match_place (lines_of lines.now) args.now }
 {
@@ -142,7 +147,7 @@ fn shape(alloc: Global, patterns: &[Option<Value>]) -> Result<Vec<bool>, AllocEr
     Ok(shape)
 }
 
-// Adds a shape to these, unless it is among them. The error is refused memory, and then nothing changes.
+// Adds a shape to these, unless it is among them; those that were there stay. The error is refused memory, and then nothing changes.
 fn know(shapes: &mut Vec<Vec<bool>>, shape: Vec<bool>) -> Result<(), AllocError>
     ensures known { OnOk result (is_among shape.items shapes.new.items ≡ true) }
     ensures kept { Keeps shapes.old.items shapes.new.items }
@@ -164,7 +169,7 @@ impl Patterns {
         }
     }
 
-    // Adds a pattern at the end.
+    // Adds a pattern at the end. There has to be room for it: fewer than `MOST_ARGUMENTS` so far.
     fn push(&mut self, pattern: Option<Value>)
         requires { length self.old < MOST_ARGUMENTS }
         ensures { self.new ≡ self.old ++ pattern ∷ [] }
@@ -180,8 +185,8 @@ impl Patterns {
         &self.patterns[..self.len]
     }
 
-    // Adds the patterns of this shape that match these arguments: an argument's value where the shape has one, else `_`. Each line of the shape that
-    // matches a call of these arguments has these patterns.
+    // Adds the patterns of this shape that match these arguments: an argument's value where the shape has one (true), else `_`. Each line of the
+    // shape that matches a call of these arguments has these patterns. There has to be room for as many as there are arguments.
     // The attribute names a lemma that the prover needs.
     #[tactic(auto, using(crate::proofs::Places::none_filled))]
     fn fill(&mut self, shape: &[bool], args: &[Value])
@@ -218,8 +223,9 @@ impl Index {
         Ok(index)
     }
 
-    // Enters the line behind the others, which has these patterns. If an earlier line has the same ones, this line never answers, and its place isn't
-    // kept. The error is refused memory; then the shape may have been added, which does no harm: a look-up by it finds nothing.
+    // Enters the line at `place`, which is behind all lines entered so far and has these patterns. If an earlier line has the same ones, this line
+    // never answers, and its place isn't kept. The error is refused memory; then the shape may have been added, which does no harm: a look-up by it
+    // finds nothing.
     fn enter(
         &mut self,
         alloc: Global,
@@ -242,20 +248,24 @@ impl Index {
         Ok(())
     }
 
-    // The place of the first line of this shape that matches, if there is one.
+    // The place, from 0, of the first line of this shape that matches these arguments; None if there is none. There may be `MOST_ARGUMENTS` arguments
+    // at most, as many as `Patterns` can hold.
     fn place(&self, shape: &[bool], args: &[Value]) -> Option<usize>
         requires { length args.now ≤ MOST_ARGUMENTS }
         ensures { result ≡ place_in self.now.places.entries shape.now args.now }
     {
+        // A line of this shape has another number of patterns than the call has arguments.
         if shape.len() != args.len() {
             return None;
         }
+        // The patterns of a line of this shape that matches.
         let mut patterns = Patterns::new();
         patterns.fill(shape, args);
         self.places.get(patterns.as_slice()).copied()
     }
 
-    // The place of the first of these lines that matches. Without such a line, how many there are.
+    // The place, from 0, of the first of these lines that matches the arguments. Without such a line, how many lines there are. The clauses ask that
+    // this is the index of these lines, and that it is kept up: they have `MOST_SHAPES` shapes at most.
     fn first(&self, lines: &[Line], args: &[Value]) -> usize
         requires args { length args.now ≤ MOST_ARGUMENTS }
         requires shapes { length self.now.shapes.items ≤ MOST_SHAPES }
@@ -289,6 +299,7 @@ impl Lines {
         ensures added { OnOk result (self.new ≡ self.old ++ line_of line ∷ []) }
         ensures refused { OnErr result (self.new ≡ self.old) }
     {
+        // With this line there are `FEW_LINES` at most, for which the index isn't used.
         if self.lines.len() < FEW_LINES {
             self.lines.push(line)?;
             return Ok(());
@@ -325,6 +336,7 @@ impl Lines {
     {
         match self.lines.get(self.first(args)) {
             Some(line) => nth(&line.answers, n),
+            // No line matches: the place is behind the last.
             None => no_answer(),
         }
     }
@@ -334,7 +346,9 @@ impl Lines {
         ensures { result ≡ last_of_line self.now args.now }
     {
         match self.lines.get(self.first(args)) {
+            // A line without answers, which no script has, gives 0 too.
             Some(line) => (line.answers.len() as u64).saturating_sub(1),
+            // No line matches: the place is behind the last.
             None => 0,
         }
     }

@@ -13,6 +13,7 @@ use std::marker::Model;
 pub enum Param {
     /// A variable, by its number.
     Name(u32),
+    /// A value.
     Is(Value),
     /// A variable that has no value yet, as the number of its cell, from 1.
     Cell(u64),
@@ -23,15 +24,18 @@ pub enum Param {
 /// What stands as an argument in a source: a variable, by its number, or a value.
 #[derive(Clone, Copy, PartialEq, Eq, Debug)]
 pub enum Operand {
+    /// A variable, by its number.
     Name(u32),
+    /// A value.
     Is(Value),
 }
 
-/// The operands of one call, `MOST_ARGUMENTS` at most. They are stored in place, so none of its calls asks for memory.
+/// The operands of one call, `MOST_ARGUMENTS` at most. They are stored in place, so nothing that is done with them asks for memory.
 #[derive(Drop)]
 pub struct Operands {
     // The elements from `len` on are unused.
     operands: [Operand; MOST_ARGUMENTS],
+    // How many operands there are.
     len: usize,
 }
 
@@ -50,6 +54,7 @@ impl Operands {
         ensures { result ≡ [] }
     {
         Operands {
+            // Filling, which isn't read as long as `len` is 0.
             operands: [Operand::Is(Value::Signal); MOST_ARGUMENTS],
             len: 0,
         }

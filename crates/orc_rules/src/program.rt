@@ -12,6 +12,7 @@ use std::marker::Model;
 /// One node of a program's terms: its parts by their nodes' numbers, a call's operands by the number of their list, a variable by its own number.
 #[derive(Clone, Copy)]
 pub enum TermNode {
+    /// `stop`, which publishes nothing. It has no parts.
     Stop,
     /// A variable or a value.
     Operand(Operand),
@@ -32,7 +33,9 @@ pub enum TermNode {
 /// The nodes of terms, each behind its parts, and the lists of operands that they name. Both are numbered from 0.
 #[derive(Drop)]
 pub struct Terms {
+    // The nodes by their numbers.
     nodes: Vec<TermNode>,
+    // The lists of operands by their numbers.
     lists: Vec<Operands>,
 }
 
@@ -91,15 +94,20 @@ impl Terms {
 /// A definition: its parameters, as numbers of variables, and the node of its body.
 #[derive(Drop)]
 pub struct Definition {
+    /// The variables that are its parameters, in their order.
     pub params: Vec<u32>,
+    /// The number of its body's node, from 0.
     pub body: usize,
 }
 
 /// A program: its terms, its definitions and the node of its main term.
 #[derive(Drop)]
 pub struct Program {
+    // The nodes of all its terms, and the lists of operands.
     terms: Terms,
+    // The definitions by their numbers, from 0.
     definitions: Vec<Definition>,
+    // The number of the main term's node.
     source: usize,
 }
 
@@ -124,7 +132,7 @@ impl Program {
         }
     }
 
-    // The node of that number, `stop` if there is none. `node` gives the same, and adds the second clause of its contract.
+    // The node with the number `id`, from 0; `stop` if there is none. `node` gives the same, and adds the second clause of its contract.
     fn node_or_stop(&self, id: usize) -> TermNode
         ensures { result ≡ node_of self.now.nodes id }
     {
@@ -134,7 +142,7 @@ impl Program {
         }
     }
 
-    /// The node of that number, `stop` if there is none. Its term is made of those of its parts.
+    /// The node with the number `id`, from 0; `stop` if there is none. Its term is made of those of its parts.
     pub fn node(&self, id: usize) -> TermNode
         ensures node { result ≡ node_of self.now.nodes id }
         ensures term { code self.now id ≡ unfold_node (code self.now) self.now.lists result }
@@ -144,7 +152,7 @@ impl Program {
         self.node_or_stop(id)
     }
 
-    /// The operands of that list; none if there is no such list.
+    /// The operands of the list with the number `list`, from 0; none if there is no such list.
     pub fn operands(&self, list: usize) -> &[Operand]
         ensures value { result.now ≡ slice_index_or self.now.lists list [] }
         ensures len { length result.now ≤ MOST_ARGUMENTS }
@@ -162,7 +170,7 @@ impl Program {
         self.terms.lists.len()
     }
 
-    /// The node of the main term.
+    /// The number of the main term's node, from 0. If no node has it, the main term is `stop`.
     pub fn source(&self) -> usize
         ensures { result ≡ self.now.root }
     {

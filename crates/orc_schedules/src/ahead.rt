@@ -24,8 +24,9 @@ use std::alloc::{AllocError, Global};
 const MOST_EARLY: u64 = 1000;
 
 impl Tables {
-    // Whether the sieve keeps nothing of what happens, and the calls to come are answered after it as before. The lists after it may be new ones,
-    // which stay in the tables then. The error is refused memory, or one of the sieve's.
+    // Whether nobody sees this happening, which is that of an early step of the state `from`: the sieve keeps nothing of it, and the calls to come
+    // are answered after it as before. The lists after it may be new ones, which stay in the tables then. `AreKnown` says that all numbers in the
+    // tables are of something, `Keeps` that all that was there keeps its number. The error is refused memory, or one of the sieve's.
     fn is_unseen(
         &mut self,
         alloc: Global,
@@ -44,6 +45,7 @@ impl Tables {
         ensures states { self.new.states ≡ self.old.states }
         ensures ends { self.new.ends ≡ self.old.ends }
     {
+        // The numbers of the two lists after the happening: of the calls that were made, and of what was seen.
         let made = self.counts.after(alloc, answers, from.made, happening)?;
         let seen = self.lists.after(from.seen, sieve, happening)?;
         // Another list of calls: some call to come may be answered otherwise.
@@ -54,8 +56,8 @@ impl Tables {
         Ok(seen == from.seen)
     }
 
-    // The number of the term to which the first early step of the state leads that nobody sees; None if it has no such step. The error is refused
-    // memory, a count past its type, or one of the sieve's.
+    // The number of the term to which the first early step of the state leads that nobody sees; None if it has no such step. `IsReady` asks that each
+    // node of the program has the number of its term. The error is refused memory, a count past its type, or one of the sieve's.
     fn early_term(
         &mut self,
         alloc: Global,
@@ -77,6 +79,7 @@ impl Tables {
         let mut parts = Parts::of_term(alloc, from.term)?;
         // The loop ends with the term's parts; its bound is for the prover, and the error behind it isn't reached.
         for _early in 0..u64::MAX {
+            // The calls that were made before: what a step of a call leads to depends on them.
             let made = self.counts.made(from.made);
             let Some(step) = parts.next_early(&mut self.terms, alloc, source, made)? else {
                 return Ok(None);
@@ -89,8 +92,9 @@ impl Tables {
         Err(AllocError)
     }
 
-    // The number of the term to which early steps of the state lead that nobody sees. It has no such step itself, unless there are more than
-    // `MOST_EARLY`. The error is refused memory, or one of the sieve's.
+    // The number of the term to which early steps of the state lead that nobody sees: the state's own if it has none. That term has no such step
+    // itself, unless there are more than `MOST_EARLY`. Such steps change neither list, so only the term's number does. `IsReady` asks that each node
+    // of the program has the number of its term. The error is refused memory, a count past its type, or one of the sieve's.
     pub(crate) fn ahead_of(
         &mut self,
         alloc: Global,
@@ -109,6 +113,7 @@ impl Tables {
         ensures states { OnOk result (self.new.states ≡ self.old.states) }
         ensures ends { OnOk result (self.new.ends ≡ self.old.ends) }
     {
+        // The term to which the steps so far have led.
         let mut ahead = from.term;
         for _early in 0..MOST_EARLY {
             let at = Key {

@@ -10,14 +10,14 @@ use orc_rules::builtin::are_same;
 use orc_rules::value::Value;
 use orc_search::node::{mix, mix_value};
 
-// Whether both are equal. Only true is promised to mean it.
+// Whether the two calls have become the same, with equal values. Only true is promised to mean it.
 fn is_same_phase(one: Phase, other: Phase) -> bool
     ensures { result ≡ true → one ≡ other }
 {
     one == other
 }
 
-// Whether both are equal. Only true is promised to mean it.
+// Whether both are equal: the same became of calls of one site with the same arguments, or equal values were published. Only true is promised.
 fn is_same(one: &Occurrence, other: &Occurrence) -> bool
     ensures { result ≡ true → one.now ≡ other.now }
 {
@@ -29,11 +29,12 @@ fn is_same(one: &Occurrence, other: &Occurrence) -> bool
             are_same(args.as_slice(), others.as_slice())
         }
         (Occurrence::Published(value), Occurrence::Published(other)) => *value == *other,
+        // One is a call, the other a publication.
         _ => false,
     }
 }
 
-// A hash with a phase mixed in. A phase without a value has a number in its place.
+// A hash with what became of a call mixed in: its answer's value, or, where there is none, a number for the phase.
 fn hash_of_phase(mixed: u64, phase: Phase) -> u64 {
     match phase {
         Phase::Called => mix(mixed, 1),
@@ -43,7 +44,7 @@ fn hash_of_phase(mixed: u64, phase: Phase) -> u64 {
     }
 }
 
-// The hash of an occurrence. Each kind mixes in a small number of its own.
+// The hash by which an equal occurrence is looked for. Each kind mixes in a small number of its own: 1 for a call, 2 for a publication.
 fn hash_of(what: &Occurrence) -> u64 {
     match what {
         Occurrence::Call(site, args, phase) => {
@@ -57,7 +58,7 @@ fn hash_of(what: &Occurrence) -> u64 {
     }
 }
 
-/// A copy. It asks for no memory: `Args` has its values in place.
+/// A copy of an occurrence. It asks for no memory: `Args` has its values in place.
 pub(crate) fn copied(what: &Occurrence) -> Occurrence
     ensures { result ≡ what.now }
 {
@@ -67,7 +68,7 @@ pub(crate) fn copied(what: &Occurrence) -> Occurrence
     }
 }
 
-/// A copy of the one at that place, from 0; some publication if there is none, which no caller asks for.
+/// A copy of the occurrence at that place, from 0; some publication if there is none, which no caller asks for.
 pub(crate) fn copied_at(occurrences: &[Occurrence], at: usize) -> Occurrence
     ensures { result ≡ slice_index_or occurrences.now at (Published Signal) }
 {
@@ -78,10 +79,12 @@ pub(crate) fn copied_at(occurrences: &[Occurrence], at: usize) -> Occurrence
 }
 
 impl Hashed for Occurrence {
+    // The hash of the function above, by which `Once` looks for an occurrence.
     fn hash(&self) -> u64 {
         hash_of(self)
     }
 
+    // The comparison of the function above.
     fn is_same(&self, other: &Occurrence) -> bool {
         is_same(self, other)
     }

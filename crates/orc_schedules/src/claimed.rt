@@ -26,6 +26,6 @@ pub enum ClaimSearched {
     TooMany,
     /// A run within the limit of entries, or one to a state that was found, may come to a time of more than 64 bits, which the rules don't allow.
     TooLong,
-    /// The claim asks for a cancel, or counts the calls that are pending at once: a search can't watch for it.
+    /// The claim asks for a cancel, or counts the calls that are pending at once: a search can't watch for that.
     NotWatched,
 }

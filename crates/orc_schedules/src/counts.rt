@@ -27,6 +27,7 @@ use std::marker::Model;
 /// Lists of calls that were made by their numbers; the empty list has the number 0. A list that is asked for again has the same number again, unless
 /// one with an equal hash came between. A list has one entry at most for a site with arguments.
 pub struct Counts {
+    // The lists by their numbers, from 0.
     lists: Vec<Vec<Made>>,
     // Where the list last made with a hash stands. Nothing is promised of it: what is found there is compared.
     places: Places,
@@ -52,7 +53,7 @@ impl Model for Counts {
     ghost view = { λ c. map (λ v. v.items) c.lists.items };
 }
 
-// Where the entry for some calls is in a list, or is to be put.
+// Where a list has its entry for some calls (a site with arguments), or is to get it.
 #[derive(Clone, Copy)]
 struct Place {
     // The place in the list: from 0, the list's length at most.
@@ -61,14 +62,14 @@ struct Place {
     again: bool,
 }
 
-// Whether both entries are for the same calls, however many.
+// Whether both entries are for the same calls (the same site with the same arguments), however many.
 fn is_kind(one: &Made, other: &Made) -> bool
     ensures { result ≡ is_kind (count_of one.now) (count_of other.now) }
 {
     one.site == other.site && are_same(&one.args, &other.args)
 }
 
-// Whether both entries are equal. Only true is promised to mean it.
+// Whether both entries are equal: for the same calls, and as many. Only true is promised to mean it.
 fn is_same(one: &Made, other: &Made) -> bool
     ensures { result ≡ true → count_of one.now ≡ count_of other.now }
 {
@@ -78,7 +79,7 @@ fn is_same(one: &Made, other: &Made) -> bool
     one.times == other.times
 }
 
-// The hash of the calls that an entry is for, without their number. The seeds, 2 here and 3 for a list, are arbitrary.
+// The hash of the calls that an entry is for (a site with arguments), without how many they are. The seeds, 2 here and 3 for a list, are arbitrary.
 fn hash_of_kind(calls: &Made) -> u64 {
     let mut mixed = mix(2, calls.site as u64);
     for arg in &calls.args {
@@ -87,7 +88,7 @@ fn hash_of_kind(calls: &Made) -> u64 {
     mixed
 }
 
-// The hash by which a list is looked for.
+// The hash by which an equal list is looked for.
 fn hash_of(made: &[Made]) -> u64 {
     let mut mixed = 3;
     for calls in made {
@@ -96,8 +97,8 @@ fn hash_of(made: &[Made]) -> u64 {
     mixed
 }
 
-// Where the entry for these calls is or is to be put. The entries of a list are in the order of their hashes, so that it is the same list whichever
-// calls were made first. Nothing is promised of that order: in another one the search would find more states.
+// Where a list has its entry for the calls of `calls`, or is to get it. The entries of a list are in the order of their hashes, so that it is the
+// same list whichever calls were made first. Nothing is promised of that order: in another one the search would find more states.
 fn place_of(made: &[Made], calls: &Made) -> Place
     ensures within { result.at ≤ length made.now }
     // No entry before the place is for these calls.
@@ -111,6 +112,7 @@ fn place_of(made: &[Made], calls: &Made) -> Place
         if is_kind(entry, calls) {
             return Place { at, again: true };
         }
+        // The list is in the order of the hashes, so no later entry is for these calls.
         if hash < hash_of_kind(entry) {
             return Place { at, again: false };
         }
@@ -143,8 +145,8 @@ fn push_copies(alloc: Global, list: &mut Vec<Made>, made: &[Made]) -> Result<(),
     Ok(())
 }
 
-// A copy of the list with this entry at that place, in place of the one that is there for the same calls or before what is there. The error is
-// refused memory.
+// A copy of the list with the entry `calls` at that place: in place of the entry for the same calls if `place.again` says that it is there, else
+// before what is there. The error is refused memory.
 fn raised(alloc: Global, made: &[Made], place: Place, calls: Made) -> Result<Vec<Made>, AllocError>
     requires within { place.at ≤ length made.now }
     requires again { place.again ≡ true → place.at < length made.now }
@@ -203,6 +205,7 @@ impl Counts {
         ensures { IfOk result (λ c. c ≡ [] ∷ []) }
     {
         let mut lists = Vec::new(alloc);
+        // The empty list gets the number 0. It isn't noted in `places`: a list that is looked for has an entry.
         lists.push(Vec::new(alloc))?;
         Ok(Counts {
             lists,
@@ -231,7 +234,7 @@ impl Counts {
         Ok(at)
     }
 
-    // The number that a list with this hash may have; None if none is known.
+    // The number of the list that was last made with this hash; None if none is known. Another list may have the same hash.
     fn place_of(&self, hash: u64) -> Option<usize> {
         self.places.get(hash)
     }
@@ -243,7 +246,7 @@ impl Counts {
         self.places.insert(hash, at)
     }
 
-    // Whether the list of that number has the same entries.
+    // Whether the list of that number is there and has the same entries. Only true is promised to mean it.
     fn stands_at(&self, at: usize, list: &[Made]) -> bool
         ensures { result ≡ true → (at < length self.now) × (map count_of (made_at self.now at) ≡ map count_of list.now) }
     {
@@ -268,8 +271,8 @@ impl Counts {
         Ok(at)
     }
 
-    // The number of the list `at` with this entry for its calls, in place of the one that it had for them, if it had one. The error is refused
-    // memory.
+    // The number of the list `at` with this entry for its calls, in place of the one that it had for them, if it had one. That may be a new list. The
+    // error is refused memory. The lists that were there stay, in both cases.
     fn raised(&mut self, alloc: Global, at: usize, calls: Made) -> Result<usize, AllocError>
         requires { at < length self.old }
         ensures there { IfOk result (λ to. to < length self.new) }
@@ -311,6 +314,7 @@ impl Counts {
         if times >= last {
             return Ok(at);
         }
+        // The entry of these calls, which counts one more.
         let calls = Made {
             site,
             args: Vec::from_slice(alloc, args)?,

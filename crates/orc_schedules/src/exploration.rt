@@ -48,8 +48,8 @@ fn number_at(numbers: &[usize], at: usize) -> Option<usize>
     }
 }
 
-// The number of the program's main term as a small one; that of `stop` if the program has no such node. `numbers` are those of its nodes' terms. The
-// error is refused memory.
+// The number of the program's main term, as a small one, among `terms`; that of `stop` if the program has no such node. `numbers` has by node the
+// number of its term (`AreNumbered`). The error is refused memory.
 fn number_of_source(
     terms: &mut Terms,
     program: &Program,
@@ -136,9 +136,9 @@ impl<'p> Explorer<'p> {
         })
     }
 
-    // Begins a search, looks at up to `most` states, and says whether these were all. `IsExplorer` says that what the searches share is right; after
-    // an error it may not be. The error is refused memory, or that a count is past its type: a call has too many arguments, say, or the test names
-    // 2^32 sites.
+    // Begins a search, looks at up to `most` states, and says whether these were all. `sieve` says what the search keeps of what happens.
+    // `IsExplorer` says that what the searches share is right; after an error it may not be. The error is refused memory, or that a count is past its
+    // type: a call has too many arguments, say, or the test names 2^32 sites.
     fn explore(&mut self, alloc: Global, sieve: &Sieve, most: usize) -> Result<bool, AllocError>
         requires { IsExplorer self.old }
         ensures ready { OnOk result (IsExplorer self.new) }
@@ -169,11 +169,14 @@ impl<'p> Explorer<'p> {
         ensures program { OnOk result (program_of self.new ≡ program_of self.old) }
         ensures answers { OnOk result (answers_of self.new ≡ answers_of self.old) }
     {
+        // None is a claim for which a search can't watch.
         let watched = Watch::of_claim(alloc, claim)?;
         let Some(watch) = watched else {
             return Ok(ClaimSearched::NotWatched);
         };
+        // The search keeps what the claim names alone; `sites` turn a site's number in the table into that in claims.
         let sieve = Sieve::Named(&watch, sites);
+        // Whether the search has looked at all states.
         let all = self.explore(alloc, &sieve, most)?;
         let searched = claimed(alloc, &self.tables, all, claim, limit)?;
         Ok(searched)
@@ -192,13 +195,15 @@ pub fn search(
     ensures all { IfOk result (λ s. IsSearched program.now answers.now limit s) }
 {
     let mut explorer = Explorer::new(alloc, program, answers)?;
+    // Whether the search has looked at all states; it keeps the publications alone.
     let all = explorer.explore(alloc, &Sieve::Publications, most)?;
     if !all {
         return Ok(Schedules::TooMany);
     }
     let tables = &explorer.tables;
     let states = tables.states.len();
-    // Two kinds of paths must stay in time: runs of at most `limit` entries, and a path to each state, which goes through no state twice.
+    // Two kinds of paths must stay in time: runs of at most `limit` entries, and a path to each state, which goes through no state twice. `longest`
+    // is the longest single wait.
     let steps = limit.max(states as u64);
     if !is_in_time(tables.longest, steps) {
         return Ok(Schedules::TooLong);
@@ -207,8 +212,9 @@ pub fn search(
     Ok(Schedules::All(ended, states))
 }
 
-// The answer of a search for a claim, from its tables; `all` says that it looked at all states. `Fails` needs only that no path to a state that was
-// found can be too long. `Holds` also needs that all states were looked at, and that no run of `limit` entries can be too long.
+// The answer of a search for a claim, from its tables; `all` says that it looked at all states, `limit` is the most entries of a run. `Fails` needs
+// only that no path to a state that was found can be too long. `Holds` also needs that all states were looked at, and that no run of `limit` entries
+// can be too long.
 fn claimed(
     alloc: Global,
     tables: &Tables,
@@ -220,6 +226,7 @@ fn claimed(
     ensures holds { IfOk result (λ s. IfHolds tables.now all claim.now limit s) }
 {
     let states = tables.states.len();
+    // A path to a state goes through no state twice, so it has no more steps than there are states.
     if !is_in_time(tables.longest, states as u64) {
         return Ok(ClaimSearched::TooLong);
     }

@@ -23,7 +23,8 @@ fn state_of_end(end: End) -> State
     }
 }
 
-/// Whether a claim fails in a run that ended so at the time `now`, of which this was seen, in order. The error is refused memory.
+/// Whether a claim fails in a run that ended by `end` at the logical time `now`, of which `seen` is what was seen, in order and with times. The error
+/// is refused memory.
 pub fn fails_by(
     alloc: Global,
     claim: &Claim,
@@ -35,6 +36,7 @@ pub fn fails_by(
 {
     let judged = judge(alloc, from_ref(claim), seen, state_of_end(end), now)?;
     match judged.first() {
+        // By any other verdict the claim doesn't hold, and so fails.
         Some(one) => Ok(one.verdict != Verdict::Holds),
         // `judge` answers one for each claim, and one was handed in.
         None => unreachable!(),

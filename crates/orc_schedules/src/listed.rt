@@ -30,8 +30,10 @@ pub struct Listed {
     pub next: Vec<Successor>,
 }
 
-/// What terms may do after lists of calls. What is asked for again is there, unless so many came between, or something with an equal hash did.
+/// What terms may do after lists of calls, kept for later. What is asked for again is there, unless so many came between that all was dropped, or
+/// something with an equal hash came.
 pub struct Moves {
+    // What is kept, `MOST` of them at most.
     listed: Vec<Listed>,
     // Where what was last listed with a hash stands. Nothing is promised of it: what is found there is compared.
     places: Places,
@@ -68,7 +70,7 @@ impl Moves {
         }
     }
 
-    /// The steps that are kept at that place, as `find` gave it; none if nothing is kept there.
+    /// The steps that are kept at the place `at`, from 0, which `find` has given; none if nothing is kept there.
     pub fn next(&self, at: usize) -> &[Successor]
         ensures { result.now ≡ next_at self.now at }
     {
@@ -78,7 +80,7 @@ impl Moves {
         }
     }
 
-    // Where something with this hash may be kept; None if nothing is known to be.
+    // The place of what was last kept with this hash; None if none is known. What is kept there may be of another term or list of calls.
     fn place_of(&self, hash: u64) -> Option<usize> {
         self.places.get(hash)
     }
@@ -103,7 +105,7 @@ impl Moves {
         }
     }
 
-    // Drops all if there are as many as are kept at most.
+    // Drops all that is kept if there are `MOST` of them, so that one more can be kept.
     fn make_room(&mut self, alloc: Global)
         ensures { (self.new ≡ self.old) ⊎ (self.new ≡ []) }
     {
@@ -113,7 +115,7 @@ impl Moves {
         }
     }
 
-    // Keeps one more behind the others, and gives its place, from 0. The error is refused memory.
+    // Keeps one more `Listed` behind the others, and gives its place, from 0. The error is refused memory.
     fn push(&mut self, listed: Listed) -> Result<usize, AllocError>
         ensures number { IfOk result (λ at. at ≡ length self.old) }
         ensures added { OnOk result (self.new ≡ self.old ++ listed ∷ []) }
@@ -130,8 +132,9 @@ impl Moves {
         self.places.insert(hash, at)
     }
 
-    /// The place at which all is kept that the term of the state may do after its list of calls; it is worked out if it isn't there. A place holds
-    /// until the next `find`, which may drop all. The error is refused memory, or one of `successors`. The terms that were there stay, in both cases.
+    /// The place, from 0, at which all is kept that the term of the state `from` may do after its list of calls; it is worked out if it isn't there.
+    /// The place holds until the next `find`, which may drop all. `IsReady` asks that each node of the program has the number of its term. The error
+    /// is refused memory, or a count past its type (`successors`). The terms that were there stay, in both cases.
     pub fn find(
         &mut self,
         terms: &mut Terms,

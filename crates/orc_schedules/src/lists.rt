@@ -39,11 +39,11 @@ pub enum What {
 /// A list that isn't the empty one: a shorter list with one thing behind it.
 #[derive(Clone, Copy, PartialEq, Eq)]
 pub struct Longer {
-    /// The number of the list before.
+    /// The number of the list to which one thing was added.
     pub before: usize,
     /// The time at the end of the list, in logical units and as far as the sieve tells times apart.
     pub now: u64,
-    /// What is behind that list.
+    /// What was added to that list.
     pub what: What,
 }
 
@@ -80,7 +80,7 @@ impl Model for Lists {
     ghost invariant = { λ l. AreBehind l.longer.items × AreMade l.calls l.longer.items };
 }
 
-// What is at that place, from 0; None if there is nothing.
+// The longer list at that place, from 0; None if there is none.
 fn longer_at(longer: &[Longer], at: usize) -> Option<Longer>
     ensures { result ≡ slice_get longer.now at }
 {
@@ -90,7 +90,8 @@ fn longer_at(longer: &[Longer], at: usize) -> Option<Longer>
     }
 }
 
-// The hash of a list. Each kind of `What` mixes in a number of its own. Only a wait mixes in the time: what else is seen has that of the list before.
+// The hash by which an equal list is looked for. Each kind of `What` mixes in a number of its own (1 to 3). Only a wait mixes in the time: what else
+// is seen has that of the list before.
 fn hash_of(longer: Longer) -> u64 {
     match longer.what {
         What::Published(value) => mix_value(mix(1, longer.before as u64), value),
@@ -128,7 +129,7 @@ impl Lists {
         self.longer.len() + 1
     }
 
-    // What the list of that number is made of; None for the empty one, and if there is no such list.
+    // What the list of that number is made of: the list before, the time and what was added. None for the empty one, and if there is no such list.
     fn made_of(&self, at: usize) -> Option<Longer>
         ensures some { IfSome result (λ x. (x.before < at) × (slice_get (lists self.now) at ≡ Some (list_of self.now.calls (lists self.now) x))) }
         ensures none { IfNone result (list_at (lists self.now) at ≡ nothing_yet) }
@@ -222,7 +223,7 @@ impl Lists {
         Ok(values)
     }
 
-    // Whether this is the list of that number; never for the empty list, nor where there is none.
+    // Whether the list of that number, `at`, is this one, `longer`; never for the empty list, nor where there is no such list.
     fn stands_at(&self, at: usize, longer: Longer) -> bool
         ensures { result ≡ true → slice_get (lists self.now) at ≡ Some (list_of self.now.calls (lists self.now) longer) }
     {
@@ -232,7 +233,8 @@ impl Lists {
         }
     }
 
-    // Adds a list behind the others: its number. Where memory is refused nothing changes.
+    // Adds a list behind the others, and gives its number. The list before it, and the call that it names, have to be there (`IsMade`). The error is
+    // refused memory, and then nothing changes.
     fn add(&mut self, longer: Longer) -> Result<usize, AllocError>
         requires before { longer.before < length (lists self.old) }
         requires made { IsMade (length self.old.calls) longer.what }
@@ -245,7 +247,7 @@ impl Lists {
         Ok(number)
     }
 
-    // The number that a list with this hash may have; None if none is known.
+    // The number of the list that was last made with this hash; None if none is known. Another list may have the same hash.
     fn place_of(&self, hash: u64) -> Option<usize> {
         self.places.get(hash)
     }
@@ -266,8 +268,8 @@ impl Lists {
         self.calls.place(what)
     }
 
-    // The number of a longer list: that of an equal list, or else of a new one. The error is refused memory. The lists that were there stay, in both
-    // cases.
+    // The number of a longer list: that of an equal list, or else of a new one. The list before it, and the call that it names, have to be there
+    // (`IsMade`). The error is refused memory. The lists that were there stay (`Grows`), in both cases.
     fn find(&mut self, longer: Longer) -> Result<usize, AllocError>
         requires before { longer.before < length (lists self.old) }
         requires made { IsMade (length self.old.calls) longer.what }
@@ -286,7 +288,7 @@ impl Lists {
     }
 
     // The number of the list `at` with a publication of this value behind it: `at` itself if the sieve doesn't keep the publication. The error is
-    // refused memory.
+    // refused memory. The lists that were there stay, in both cases.
     fn after_value(&mut self, at: usize, sieve: &Sieve, value: Value) -> Result<usize, AllocError>
         requires { at < length (lists self.old) }
         ensures there { IfOk result (λ to. to < length (lists self.new)) }
@@ -306,7 +308,8 @@ impl Lists {
     }
 
     // The number of the list `at` with what became of a call behind it: `at` itself if the sieve doesn't keep that. `site` is the site's number in
-    // the program's table, `phase` what became of its call. The error is refused memory, or one of `Sieve::call`.
+    // the program's table, `args` the call's arguments, `phase` what became of the call. The error is refused memory, or one of `Sieve::call`: too
+    // many arguments or sites. The lists that were there stay, in both cases.
     fn after_call(
         &mut self,
         at: usize,
@@ -334,8 +337,9 @@ impl Lists {
         Ok(to)
     }
 
-    /// The number of the list after the list `at` and `by` more units of logical time: `at` itself if the sieve doesn't tell the two times apart. The
-    /// error is refused memory. The lists that were there stay, in both cases.
+    /// The number of the list after the list `at` and `by` more units of logical time: `at` itself if the sieve doesn't tell the two times apart. All
+    /// times past the latest that the sieve tells apart count as that one. The error is refused memory. The lists that were there stay, in both
+    /// cases.
     pub(crate) fn wait(&mut self, at: usize, sieve: &Sieve, by: u64) -> Result<usize, AllocError>
         requires { at < length (lists self.old) }
         ensures there { IfOk result (λ to. to < length (lists self.new)) }
@@ -343,6 +347,7 @@ impl Lists {
         ensures list { IfOk result (λ to. list_at (lists self.new) to ≡ seen_after (kept_by sieve.now) (list_at (lists self.old) at) (waits by)) }
         ensures kept { Grows (lists self.old) (lists self.new) }
     {
+        // The time to which the list `at` comes.
         let before = self.now(at);
         // The sum may saturate: the search answers `TooLong` if waits can add up to 2^64.
         let now = before.saturating_add(by).min(sieve.latest());
@@ -358,7 +363,8 @@ impl Lists {
     }
 
     /// The number of the list after the list `at` and this happening: one with the happening behind it if the sieve keeps it, and else `at` itself.
-    /// The error is refused memory, or one of `Sieve::call`. The lists that were there stay, in both cases.
+    /// The sieve says what the search keeps: publications, or what a claim names. The error is refused memory, or that a call has too many arguments
+    /// or the test names 2^32 sites (`Sieve::call`). The lists that were there stay, in both cases.
     pub(crate) fn after(
         &mut self,
         at: usize,
@@ -379,6 +385,7 @@ impl Lists {
             Happening::Answered(site, args, answer) => {
                 self.after_call(at, sieve, *site, args, phase_of(*answer))
             }
+            // A step that shows nothing, as where a definition's body comes in a call's place.
             Happening::Unseen => Ok(at),
         }
     }

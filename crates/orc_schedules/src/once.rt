@@ -7,9 +7,9 @@ use orc_search::places::Places;
 use std::alloc::{AllocError, Global};
 use std::marker::Model;
 
-/// What is found by a hash, and then compared.
+/// An item that `Once` finds by a hash, and then compares.
 pub trait Hashed {
-    /// A hash by which it is looked for. Nothing is promised of it.
+    /// A hash by which the item is looked for. Nothing is promised of it.
     fn hash(&self) -> u64;
 
     /// Whether the other one is equal. Only true is promised to mean it.
@@ -20,8 +20,9 @@ pub trait Hashed {
 /// Items in the order in which they were added. An item that is added again has its place again, unless another item with an equal hash came between:
 /// then it is in the list twice.
 pub struct Once<T> {
+    // The items: each one's place here is its number.
     list: Vec<T>,
-    // Where the item last added with a hash stands. Nothing is promised of it: what is found there is compared.
+    // By a hash: the place of the item that was last added with it. Nothing is promised of it: the item that is found there is compared.
     places: Places,
 }
 
@@ -78,12 +79,12 @@ impl<T: Hashed + Drop> Once<T> {
         &self.list
     }
 
-    // Where an item with this hash may be; None if none is known.
+    // The place, from 0, of the item that was last added with this hash; None if none is known. Another item may have the same hash.
     fn place_of(&self, hash: u64) -> Option<usize> {
         self.places.get(hash)
     }
 
-    // Notes that an item with this hash is there. The error is refused memory.
+    // Notes that an item with this hash is at this place. The error is refused memory.
     fn remember(&mut self, hash: u64, place: usize) -> Result<(), AllocError>
         ensures { self.new ≡ self.old }
     {
@@ -100,7 +101,7 @@ impl<T: Hashed + Drop> Once<T> {
         }
     }
 
-    // Adds an item behind the others: its place. Where memory is refused nothing changes.
+    // Adds an item behind the others, and gives its place, from 0. The error is refused memory, and then nothing changes.
     fn push(&mut self, item: T) -> Result<usize, AllocError>
         ensures place { IfOk result (λ at. at ≡ length self.old) }
         ensures added { OnOk result (self.new ≡ self.old ++ item ∷ []) }

@@ -22,17 +22,18 @@ pub(crate) enum Sieve<'a> {
 }
 
 impl Sieve<'_> {
-    /// The latest time that it tells apart: every later one counts as this one.
+    /// The latest time that the sieve tells apart: every later one counts as this one.
     pub(crate) fn latest(&self) -> u64
         ensures { result ≡ latest_in self.now }
     {
         match self {
+            // 0: no times are told apart.
             Sieve::Publications => 0,
             Sieve::Named(watch, _) => watch.latest(),
         }
     }
 
-    /// Whether it keeps the publication of this value.
+    /// Whether the sieve keeps the publication of this value.
     pub(crate) fn keeps_value(&self, value: Value) -> bool
         ensures { result ≡ is_named (names_of self.now) (published value) }
     {
@@ -42,8 +43,8 @@ impl Sieve<'_> {
         }
     }
 
-    /// What it keeps of what became of a call, with the site's number in claims; None if nothing. `site` is its number in the program's table. The
-    /// error is that no call can have so many arguments, or that the test names 2^32 sites.
+    /// What the sieve keeps of what became of a call, with the site's number in claims; None if it keeps nothing. `site` is the site's number in the
+    /// program's table, `phase` what became of the call. The error is that no call can have so many arguments, or that the test names 2^32 sites.
     pub(crate) fn call(
         &self,
         site: u32,
@@ -53,6 +54,7 @@ impl Sieve<'_> {
         ensures { IfOk result (λ o. option_to_list o ≡ named (names_of self.now) (becomes (sites_of self.now) site args.now phase ∷ [])) }
     {
         match self {
+            // It keeps publications alone.
             Sieve::Publications => Ok(None),
             Sieve::Named(watch, sites) => {
                 // `claim_number` gives a site that isn't among them the number `sites.len()`, which has to fit 32 bits.

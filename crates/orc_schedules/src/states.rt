@@ -5,7 +5,8 @@ ghost use Rattle.std.specs.Prelude.{◌≡◌, true};
 use crate::once::Hashed;
 use orc_search::node::mix;
 
-/// A state, and what was seen on a path to it. Two paths that differ in what was seen lead to two states.
+/// A state: a term, the calls that were made on a path to it, and what was seen there, each by its number. Two paths that differ in what was seen
+/// lead to two states.
 #[derive(Clone, Copy, PartialEq, Eq)]
 pub struct Key {
     /// The number of its term (`Terms`).
@@ -17,7 +18,7 @@ pub struct Key {
 }
 
 impl Hashed for Key {
-    // The seed, 1, is arbitrary.
+    // The hash by which an equal state is looked for. The seed, 1, is arbitrary.
     fn hash(&self) -> u64 {
         mix(
             mix(mix(1, self.term as u64), self.made as u64),
@@ -25,6 +26,7 @@ impl Hashed for Key {
         )
     }
 
+    // Whether all three numbers are equal.
     fn is_same(&self, other: &Key) -> bool {
         *self == *other
     }

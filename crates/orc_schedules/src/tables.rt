@@ -87,7 +87,8 @@ impl Tables {
         })
     }
 
-    // Begins a search: the state of this term, before any call and with nothing seen, is found, and no other. The error is refused memory.
+    // Begins a search: the state of this term, before any call and with nothing seen, is found, and no other. The terms and the lists of calls stay
+    // from the searches before. The error is refused memory.
     pub(crate) fn begin(&mut self, alloc: Global, term: usize) -> Result<(), AllocError>
         ensures { OnOk result (IsBegun term self.old self.new) }
     {
@@ -104,7 +105,8 @@ impl Tables {
         Ok(())
     }
 
-    // Adds the state that `from` becomes by the step `successor` of its term, unless the state is there.
+    // Adds the state that `from` becomes by the step `successor` of its term, unless the state is there. `AreKnown` asks that all numbers in the
+    // tables are of something, `Keeps` promises that all that was there keeps its number. The error is refused memory, or a count past its type.
     fn follow(
         &mut self,
         alloc: Global,
@@ -136,7 +138,8 @@ impl Tables {
         Ok(())
     }
 
-    // Adds the states that `from` becomes by these steps of its term.
+    // Adds the states that `from` becomes by these steps of its term. The clauses are those of `follow`, for all steps. The error is refused memory,
+    // or a count past its type.
     fn follow_all(
         &mut self,
         alloc: Global,
@@ -163,7 +166,8 @@ impl Tables {
     }
 
     // Adds the state that `from` becomes once as much time has passed as the pending call that is due first has left; nothing if no call will be
-    // answered, or one is due at once. Only called where nothing can happen before.
+    // answered, or one is due at once. Only called where nothing can happen before. `AreKnown` asks that all numbers in the tables are of something.
+    // The error is refused memory, or a count past its type.
     fn wait(&mut self, alloc: Global, sieve: &Sieve, from: Key) -> Result<(), AllocError>
         requires all { AreKnown self.old }
         requires from { IsKnown self.old from }
@@ -175,7 +179,7 @@ impl Tables {
         ensures added { OnOk result ((sites : List Site) → AddsOnly sites (IsWaited (kept_by sieve.now) sites self.old from self.new.longest) self.old self.new) }
         ensures ends { OnOk result (self.new.ends ≡ self.old.ends) }
     {
-        // The time that the pending call which is due first has left.
+        // The time that the pending call which is due first has left. With None no call that pends will be answered.
         let Some(by) = self.terms.summary(from.term).left else {
             return Ok(());
         };
@@ -210,7 +214,7 @@ impl Tables {
     {
         let summary = self.terms.summary(from.term);
         let seen = from.seen;
-        // The term has halted.
+        // The term has halted (`over`).
         if summary.over {
             let halted = Told {
                 end: End::Halted,
@@ -233,8 +237,9 @@ impl Tables {
         Ok(())
     }
 
-    // Adds all that may come of `from`, and its end, if it is one. `IsReady` says that each node of the program has the number of its term. `from` is
-    // what early steps make of a state, and need not be one of the states itself.
+    // Adds all states that may come of `from`, and its end, if it is one. `from` is what early steps make of a state, and need not be one of the
+    // states itself. `IsReady` asks that each node of the program has the number of its term, `AreListed` that what `moves` keeps is right. The error
+    // is refused memory, or a count past its type.
     fn expand(
         &mut self,
         alloc: Global,
@@ -263,16 +268,18 @@ impl Tables {
         // Time passes only where nothing else can happen.
         if next.is_empty() {
             self.wait(alloc, sieve, from)?;
+            // `true`: nothing can happen before time passes.
             self.tell(from, true)?;
             return Ok(());
         }
-        // What can still move isn't quiet, but it may have halted: if both sides of an opened pruning have, its cell can still be lost.
+        // What can still move isn't quiet (`false`), but it may have halted: if both sides of an opened pruning have, its cell can still be lost.
         self.tell(from, false)?;
         Ok(())
     }
 
     // Takes those early steps of a state that nobody sees (`ahead_of`), and adds all that may come of the state to which they lead, and that state's
-    // end, if it is one.
+    // end, if it is one. `IsReady` asks that each node of the program has the number of its term, `AreListed` that what `moves` keeps is right. The
+    // error is refused memory, or a count past its type.
     fn look_at(
         &mut self,
         alloc: Global,
@@ -295,6 +302,7 @@ impl Tables {
         ensures found { OnOk result ((begin : State) → IsIn from self.old.states → AreFound (small_definitions source.now.program.now) (kept_by sieve.now) begin source.now.answers.now.sites self.old → AreFound (small_definitions source.now.program.now) (kept_by sieve.now) begin source.now.answers.now.sites self.new) }
     {
         let term = self.ahead_of(alloc, source, sieve, from)?;
+        // Early steps change the term alone: no list keeps anything of them.
         let ahead = Key {
             term,
             made: from.made,
@@ -305,7 +313,8 @@ impl Tables {
     }
 
     // Looks at the states in the order in which they were found, those too that it finds meanwhile, until it has looked at all or there are more than
-    // `most`. Says whether it has looked at all.
+    // `most`. Says whether it has looked at all. `IsReady` asks that each node of the program has the number of its term, `AreListed` that what
+    // `moves` keeps is right. The error is refused memory, or a count past its type.
     pub(crate) fn look_at_all(
         &mut self,
         alloc: Global,
@@ -350,7 +359,7 @@ impl Tables {
         })
     }
 
-    // All ends, with what was published. The error is refused memory.
+    // All ends that were found, each with the values that were published on the path to it. The error is refused memory.
     pub(crate) fn ended(&self, alloc: Global) -> Result<Vec<Ended>, AllocError>
         ensures { IfOk result (λ v. map outcome_of v.items ≡ map shown_of (outcomes self.now)) }
     {
@@ -362,7 +371,7 @@ impl Tables {
         Ok(ended)
     }
 
-    // The end `told`, with its time and what was seen on the path to it. The error is refused memory.
+    // The end `told`, with its time and what was seen on the path to it, in order. The error is refused memory.
     fn seen_of(&self, alloc: Global, told: Told) -> Result<Seen, AllocError>
         ensures { IfOk result (λ s. end_seen s ≡ outcome_at self.now told) }
     {

@@ -33,7 +33,7 @@ impl Model for Watch {
     ghost view = { λ w. record { names = w.names.items; latest = w.latest } };
 }
 
-// Whether this is what was wanted to become of a call, whatever the value. Never for a cancel, which a search doesn't see.
+// Whether `phase`, what became of a call, is what a claim wants (`wanted`), whatever the value. Never for a cancel, which a search doesn't see.
 fn is_same_phase(wanted: Wanted, phase: Phase) -> bool
     ensures { result ≡ is_same_phase wanted phase }
 {
@@ -41,11 +41,13 @@ fn is_same_phase(wanted: Wanted, phase: Phase) -> bool
         (Wanted::Called, Phase::Called) => true,
         (Wanted::Answered(_), Phase::Answered(_)) => true,
         (Wanted::Halted, Phase::Halted) => true,
+        // They differ, or are both a cancel.
         _ => false,
     }
 }
 
-// Whether this names what happened, whatever the arguments and the value.
+// Whether this name, from a claim's event, names what happened, whatever the arguments and the value. A call's site has the number that claims have
+// for it.
 fn names_it(name: &Simple, what: &Occurrence) -> bool
     ensures { result ≡ names_it name.now what.now }
 {
@@ -54,11 +56,12 @@ fn names_it(name: &Simple, what: &Occurrence) -> bool
             *site == *called && is_same_phase(*wanted, *phase)
         }
         (Simple::Published(_), Occurrence::Published(_)) => true,
+        // One is a call, the other a publication.
         _ => false,
     }
 }
 
-// Whether a search can see this: it isn't a cancel.
+// Whether a search can see what this name, from a claim's event, names: it isn't a cancel.
 fn sees(name: &Simple) -> bool
     ensures { result ≡ sees name.now }
 {
@@ -68,7 +71,7 @@ fn sees(name: &Simple) -> bool
     }
 }
 
-// Whether a search can see all of these.
+// Whether a search can see all that these names, from a claim's events, name: none is a cancel.
 fn all_seen(names: &[Simple]) -> bool
     ensures { result ≡ all_seen names.now }
 {
@@ -96,7 +99,8 @@ fn counts_none_out(plain: &Plain) -> bool
     }
 }
 
-// The latest time that a `by` tells apart: the first one after it. Without a `by` it is 0: no times are told apart.
+// The latest time that a `by` tells apart: the first one after it, since all later times are too late alike. Without a `by` it is 0: no times are
+// told apart.
 fn latest_by(by: Option<u64>) -> u64
     ensures { result ≡ latest_by by }
 {
@@ -124,11 +128,13 @@ fn latest_of(plain: &Plain) -> u64
         Plain::Count(_, _, _, by) => latest_by(*by),
         Plain::EachThen(_, _, within) => latest_within(*within),
         Plain::Ends(_, _, by) => latest_by(*by),
+        // No other claim asks for a time.
         _ => 0,
     }
 }
 
-// A copy of a name without what it asks of the arguments, at which a watch doesn't look: the copy names the same. Its empty vector needs no memory.
+// A copy of a name without what it asks of the arguments and of a published value, at which a watch doesn't look: the copy names the same for a
+// watch. Its empty vector needs no memory.
 fn outline(alloc: Global, name: &Simple) -> Simple
     ensures names { (w : What) → names_it result w ≡ names_it name.now w }
     ensures seen { sees result ≡ sees name.now }
@@ -150,14 +156,15 @@ impl Watch {
         }
     }
 
-    // Has the watch tell times apart up to this one: every later time counts as this one.
+    // Has the watch tell times apart up to `latest`: every later time counts as this one.
     fn tell_until(&mut self, latest: u64)
         ensures { self.new ≡ record { names = self.old.names; latest = latest } }
     {
         self.latest = latest;
     }
 
-    // Has the watch keep what this name names too. The error is refused memory.
+    // Has the watch also keep what this name names. By the contract its names then name the same as before with this one (`NameSame`), and a search
+    // sees all of them exactly if it sees those (`all_seen`). The error is refused memory.
     fn add(&mut self, alloc: Global, name: &Simple) -> Result<(), AllocError>
         ensures names { OnOk result (NameSame self.new.names (self.old.names ++ name.now ∷ [])) }
         ensures seen { OnOk result (all_seen self.new.names ≡ all_seen (self.old.names ++ name.now ∷ [])) }
@@ -166,7 +173,8 @@ impl Watch {
         Ok(())
     }
 
-    // Has the watch keep too what any of an event's alternatives names. The error is refused memory.
+    // Has the watch also keep what any of an event's alternatives names: the event is that one of these happens. By the contract its names then name
+    // the same as before with these (`NameSame`), and a search sees all of them exactly if it sees those (`all_seen`). The error is refused memory.
     fn add_event(&mut self, alloc: Global, event: &Event) -> Result<(), AllocError>
         ensures names { OnOk result (NameSame self.new.names (self.old.names ++ event.now.alternatives.items)) }
         ensures seen { OnOk result (all_seen self.new.names ≡ all_seen (self.old.names ++ event.now.alternatives.items)) }
@@ -183,7 +191,7 @@ impl Watch {
         }
     }
 
-    // Has the watch keep what two events name too. The error is refused memory.
+    // Has the watch also keep what two events name. The error is refused memory.
     fn add_events(&mut self, alloc: Global, event: &Event, other: &Event) -> Result<(), AllocError>
         ensures names { OnOk result (NameSame self.new.names (self.old.names ++ (event.now.alternatives.items ++ other.now.alternatives.items))) }
         ensures seen { OnOk result (all_seen self.new.names ≡ all_seen (self.old.names ++ (event.now.alternatives.items ++ other.now.alternatives.items))) }
@@ -193,8 +201,8 @@ impl Watch {
         Ok(())
     }
 
-    // Has the watch keep what a claim without its conditions names too. The error is refused memory. A claim on values needs all publications, one on
-    // the end nothing. `AtOnce` has its event kept, though `of_claim` gives no watch for it.
+    // Has the watch also keep what a claim without its conditions names. The error is refused memory. A claim on values needs all publications, one
+    // on the end nothing. `AtOnce` has its event kept, though `of_claim` gives no watch for it.
     fn add_plain(&mut self, alloc: Global, plain: &Plain) -> Result<(), AllocError>
         ensures names { OnOk result (NameSame self.new.names (self.old.names ++ watched_plain plain.now)) }
         ensures seen { OnOk result (all_seen self.new.names ≡ all_seen (self.old.names ++ watched_plain plain.now)) }
@@ -211,7 +219,7 @@ impl Watch {
         }
     }
 
-    // Has the watch keep what the events of these conditions name too. The error is refused memory.
+    // Has the watch also keep what the events of these conditions name. The error is refused memory.
     fn add_conditions(&mut self, alloc: Global, conditions: &[Condition]) -> Result<(), AllocError>
         ensures names { OnOk result (NameSame self.new.names (self.old.names ++ watched_conditions conditions.now)) }
         ensures seen { OnOk result (all_seen self.new.names ≡ all_seen (self.old.names ++ watched_conditions conditions.now)) }
@@ -241,7 +249,7 @@ impl Watch {
         Ok(watch)
     }
 
-    // Whether a search can see all that it keeps: nothing of it is a cancel.
+    // Whether a search can see all that the watch keeps: nothing of it is a cancel.
     fn sees_all(&self) -> bool
         ensures { result ≡ all_seen self.now.names }
     {
@@ -254,6 +262,7 @@ impl Watch {
         ensures { IfOk result (IsWatchOf claim.now) }
     {
         let watch = Watch::of_all(alloc, claim)?;
+        // The first test is for a claim that counts the calls pending at once, the second for one that names a cancel.
         if !counts_none_out(&claim.plain) || !watch.sees_all() {
             return Ok(None);
         }
@@ -269,14 +278,15 @@ impl Watch {
         Ok(Watch { names, latest: 0 })
     }
 
-    /// The latest time that it tells apart: every later one counts as this one.
+    /// The latest time that the watch tells apart: every later one counts as this one.
     pub fn latest(&self) -> u64
         ensures { result ≡ self.now.latest }
     {
         self.latest
     }
 
-    /// Whether it keeps this: what became of a call, whatever the arguments, or a publication. Sites have the numbers that claims have for them.
+    /// Whether the watch keeps this: what became of a call, whatever the arguments, or a publication. Sites have the numbers that claims have for
+    /// them.
     pub fn names(&self, what: &Occurrence) -> bool
         ensures { result ≡ is_named self.now.names what.now }
     {

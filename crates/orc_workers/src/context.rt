@@ -14,26 +14,29 @@ use std::sync::{Condvar, Mutex, Wait};
 /// What all workers of a run share: the run under its lock, the condition variable that wakes workers at rest, and the sites and the gate.
 #[derive(Drop)]
 pub(crate) struct Context<'h, P: Run + Naming, S: Sites, G: Gate> {
+    // Where memory comes from.
     pub alloc: Global,
     // The program and the words of its groups, which need no lock.
     pub setup: Setup<'h, P>,
     // The run, under the one lock.
     pub shared: &'h Mutex<Shared<P, S::Call>>,
-    // Why the run stops. It is bound under the lock, and read without it.
+    // Has the reason why the run stops. It is bound under the lock, and read without it.
     pub why: &'h Cell<Stop>,
     // On it workers rest; it goes with the lock of `shared`.
     pub wakeups: &'h Condvar,
-    // How many workers have found no work, and look into the queues a last time or rest.
+    // How many workers have found no work, and look into the workers' queues a last time or rest.
     pub idle: &'h AtomicU64,
-    // They make the calls, each of which passes the gate before.
+    // They make the calls.
     pub sites: &'h S,
+    // Each call passes it before it is made; it may hold the call's worker for some time.
     pub gate: &'h G,
     // Whether the sites or the gate may wait for what another worker does.
     pub may_wait: bool,
 }
 
 impl<P: Run + Naming, S: Sites, G: Gate> Context<'_, P, S, G> {
-    /// One worker more is at work: it counts in `working` before it looks for anything, so that no other takes itself for the last one.
+    /// One worker more is at work: it counts in `working` before it looks for anything, so that no other takes itself for the last one. It takes the
+    /// lock for that.
     pub(crate) fn join<R: Wait>(&self, rt: &R) {
         let mut shared = self.shared.lock(rt);
         shared.working = shared.working.saturating_add(1);
@@ -46,7 +49,7 @@ impl<P: Run + Naming, S: Sites, G: Gate> Context<'_, P, S, G> {
         self.wakeups.notify_all();
     }
 
-    /// Has `count` workers at rest look for work again.
+    /// Has `count` workers at rest, or all if fewer rest, look for work again. The caller has the lock.
     pub(crate) fn wake(&self, shared: &mut Shared<P, S::Call>, count: usize) {
         // A worker that has looked before compares this number before it sleeps, and looks again if it differs. A wrap would need 2^64 offers in
         // between.
@@ -59,20 +62,23 @@ impl<P: Run + Naming, S: Sites, G: Gate> Context<'_, P, S, G> {
     /// Wakes workers at rest for `count` tokens that were put into a queue. A worker that finds nothing adds itself to `idle` before it looks into
     /// the queues once more. So either it sees the tokens, or this call sees the worker in `idle`.
     pub(crate) fn offer<R: Wait>(&self, rt: &R, count: usize) {
+        // With nobody in `idle` nobody is to be woken, and the lock isn't needed.
         if self.idle.load(Ordering::SeqCst) > 0 {
             let mut shared = self.shared.lock(rt);
             self.wake(&mut shared, count);
         }
     }
 
-    // Wakes another worker for a call that is due, if there is one, before this worker goes outside the lock and may wait there.
+    // Wakes one worker at rest for a call that is due and that no worker has, if there is one, before this worker goes outside the lock and may wait
+    // there.
     fn leave_due(&self, shared: &mut Shared<P, S::Call>) {
         if self.may_wait && shared.find_due().is_some() {
             self.wake(shared, 1);
         }
     }
 
-    /// The work that there is for a worker without a token, and the number of offers so far.
+    /// Looks under the lock for work for a worker without a token, and gives that work and the number of offers so far: how often workers at rest
+    /// were asked to look again. A later `rest` compares this number.
     pub(crate) fn look<R: Wait>(&self, rt: &R) -> (OutsideWork<S::Call>, u64) {
         let mut shared = self.shared.lock(rt);
         let work = shared.look(self.setup.inputs);
@@ -89,7 +95,7 @@ impl<P: Run + Naming, S: Sites, G: Gate> Context<'_, P, S, G> {
     }
 
     /// Wakes workers at rest before this worker leaves the lock with this work: all of them if the run has stopped, and one for a call that is due if
-    /// this worker goes outside.
+    /// this worker goes outside, where it may wait. The caller has the lock.
     pub(crate) fn tell(&self, shared: &mut Shared<P, S::Call>, work: &OutsideWork<S::Call>) {
         self.wake_at_end(shared);
         match work {
@@ -99,13 +105,16 @@ impl<P: Run + Naming, S: Sites, G: Gate> Context<'_, P, S, G> {
         }
     }
 
-    /// Rests until something was offered since `seen`, the number of offers when this worker last looked, or the run is over. The answer is None
-    /// then: the worker looks again. The last worker doesn't rest: if it finds nothing either, no worker has what is left, and the run stops.
+    /// Has a worker without work rest until something was offered since `seen`, the number of offers when this worker last looked, or the run is
+    /// over. The answer is None then: the worker looks again. The last worker that isn't at rest doesn't rest: if it finds nothing either, no worker
+    /// has what is left, and the run stops.
     pub(crate) fn rest<R: Wait>(&self, rt: &R, seen: u64) -> OutsideWork<S::Call> {
         let mut shared = self.shared.lock(rt);
+        // Something was offered meanwhile: the worker looks again.
         if shared.offers != seen {
             return OutsideWork::None;
         }
+        // All other workers rest.
         if shared.is_alone() {
             let work = shared.look_last(self.setup.inputs);
             self.tell(&mut shared, &work);

@@ -7,8 +7,9 @@ use std::alloc::Global;
 /// How many passes to the group of the token that it moved last a worker keeps, for the next forks there.
 const MOST_NEAR: usize = 64;
 
-/// The tokens that are out with a worker and in no queue, the one that moves next last; the passes that it has to leave and the calls of whose
-/// cancels it has to tell the sites; passes for births; and the groups that it was the last to leave.
+/// The tokens that are *out* with a worker (the book has their records, the worker the tokens) and in no queue, the one that moves next last; the
+/// passes that the worker has to leave and the calls of whose cancels it has to tell the sites; passes for *births*, the tokens and groups that its
+/// moves bring; and the groups that it was the last to leave.
 pub(crate) struct Local<P: Naming> {
     // Its tokens, the passes to leave and the cancelled calls. The book's calls add to it.
     pub out: StepOut<P>,
@@ -55,19 +56,19 @@ impl<P: Naming> Local<P> {
         }
     }
 
-    /// A token that is out with the worker from now on, and moves next. It is lost if memory is refused (`was_refused_memory`).
+    /// Takes a token that is out with the worker from now on, and moves next. It is lost if memory is refused (`was_refused_memory`).
     pub(crate) fn hold(&mut self, token: Token<P>) {
         if self.out.born.push(token).is_err() {
             self.was_refused_memory = true;
         }
     }
 
-    /// The token that moves next; None if the worker has none.
+    /// Takes out the token that moves next; None if the worker has none.
     pub(crate) fn take_token(&mut self) -> Option<Token<P>> {
         self.out.born.pop()
     }
 
-    /// A pass that no record has any more, to be left. It is lost if memory is refused (`was_refused_memory`).
+    /// Takes a pass that no record has any more, which the worker has to leave. It is lost if memory is refused (`was_refused_memory`).
     pub(crate) fn put(&mut self, pass: Pass<P>) {
         if self.out.leave.push(pass).is_err() {
             self.was_refused_memory = true;
@@ -90,8 +91,9 @@ impl<P: Naming> Local<P> {
         self.word = word;
     }
 
-    /// Gets the passes that the births of a move need, if the worker has none; no move needs more than one of a kind. `with` is the pass of the token
-    /// that moves, in the worker's group. If the supply is empty the move lacks a pass, and the book refuses it as Short.
+    /// Gets the passes that the births of a move need (the tokens and groups that it brings), if the worker has none; no move needs more than one of
+    /// a kind. `needs` says how many passes to the token's group it needs (`same`), and how many that name no group (`idle`). `with` is the pass of
+    /// the token that moves, in the worker's group. If the supply is empty the move lacks a pass, and the book refuses it as Short.
     pub(crate) fn prepare(&mut self, groups: &Groups<P>, needs: Needs, with: &Pass<P>) {
         if needs.same > 0 && self.births.same.is_empty() {
             let same = self.same(groups, with);
@@ -111,16 +113,19 @@ impl<P: Naming> Local<P> {
             return None;
         }
         if let Some(pass) = self.out.leave.pop() {
+            // A pass to the token's group, left by another record, does for the new one.
             if pass.group() == word {
                 return Some(pass);
             }
+            // It names another group, and stays among those to be left.
             self.put(pass);
         }
         let idle = self.supply.take(groups)?;
         Some(groups.enter(with, idle))
     }
 
-    // Keeps a pass for a birth in the same group, if there is one. Where memory is refused it is to be left, and the run stops: the move lacks it.
+    // Keeps a pass for a birth in the same group, if there is one. Where memory is refused the pass is to be left, and the run stops: the move lacks
+    // it.
     fn add_same(&mut self, pass: Option<Pass<P>>) {
         if let Some(pass) = pass
             && let Err(refused) = self.births.same.push(pass)
@@ -130,7 +135,7 @@ impl<P: Naming> Local<P> {
         }
     }
 
-    // Keeps an idle pass for a birth, if there is one. Where memory is refused it is to be left, and the run stops: the move lacks it.
+    // Keeps an idle pass for a birth, if there is one. Where memory is refused the pass is to be left, and the run stops: the move lacks it.
     fn add_idle(&mut self, pass: Option<Pass<P>>) {
         if let Some(pass) = pass
             && let Err(refused) = self.births.idle.push(pass)
@@ -140,7 +145,8 @@ impl<P: Naming> Local<P> {
         }
     }
 
-    /// Leaves the passes that are to be left, but some to the group in which the worker is: they are for births. No lock is needed.
+    /// Leaves the passes that are to be left, but keeps some to the group in which the worker is, up to `MOST_NEAR`: they are for births. No lock is
+    /// needed.
     pub(crate) fn settle(&mut self, groups: &Groups<P>) {
         // The prover asks for a bound. Each round takes a pass.
         for _ in 0..u64::MAX {
@@ -151,7 +157,8 @@ impl<P: Naming> Local<P> {
         }
     }
 
-    // Keeps a pass for births, or leaves it. Where memory is refused it is left: no move has asked for it yet.
+    // Keeps a pass to the group in which the worker is for births, or leaves it. Where memory to keep it is refused it is left: no move has asked for
+    // it yet.
     fn settle_one(&mut self, groups: &Groups<P>, pass: Pass<P>) {
         if pass.group() != self.word || self.births.same.len() >= MOST_NEAR {
             self.leave(groups, pass);
@@ -160,8 +167,10 @@ impl<P: Naming> Local<P> {
         }
     }
 
-    // Leaves a pass, and takes it back into the supply. A group that it was the last to leave is noted.
+    // Leaves a pass: its group's word counts one less, and the pass, idle then, goes back into the supply. A group that the worker was the last to
+    // leave is noted.
     fn leave(&mut self, groups: &Groups<P>, pass: Pass<P>) {
+        // An idle pass is in no group that it could leave.
         if pass.group().is_none() {
             self.supply.give(groups, pass);
             return;
@@ -175,7 +184,7 @@ impl<P: Naming> Local<P> {
         }
     }
 
-    /// A group that the worker was the last to leave, which is to be closed; None if there is none.
+    /// Takes out a group that the worker was the last to leave, which is to be closed under the lock; None if there is none.
     pub(crate) fn take_last(&mut self) -> Option<Last<P>> {
         self.lasts.pop()
     }
@@ -185,7 +194,7 @@ impl<P: Naming> Local<P> {
         self.out.leave.is_empty() && self.lasts.is_empty()
     }
 
-    /// Whether it has no token, no pass to leave and no group to close, and so nothing to do under the lock.
+    /// Whether the worker has no token, no pass to leave and no group to close, and so nothing to do under the lock.
     pub(crate) fn is_empty(&self) -> bool {
         self.out.born.is_empty() && self.is_settled()
     }

@@ -16,16 +16,16 @@ use orc_word::Naming;
 /// What a move of a token has come to.
 #[derive(Clone, Copy)]
 pub(crate) enum Step {
-    /// It was made, or the token is there no more, or the run has stopped.
+    /// The move was made, or the token is there no more, or the run has stopped.
     On,
     /// The call with this number was recorded, and is to be made.
     Calls(u64),
-    /// The words of killed groups leave no room for it. The token is still with the worker.
+    /// The words of killed groups leave no room for the group that the move opens. The token is still with the worker.
     Full,
 }
 
 impl<P: Run + Naming, C: Drop> Shared<P, C> {
-    /// One move of a token that is out with a worker. The worker gets the tokens and passes that come of it.
+    /// One move of a token that is out with a worker. The worker gets the tokens and passes that come of it. The caller has the lock.
     pub(crate) fn step(
         &mut self,
         setup: &Setup<'_, P>,
@@ -38,7 +38,7 @@ impl<P: Run + Naming, C: Drop> Shared<P, C> {
             local.put(token.pass);
             return Step::On;
         };
-        // From here on passes for births have to name this token's group.
+        // From here on passes for births have to name this token's group; the worker leaves those to another group.
         local.go_to(token.pass.group());
         match view.what {
             Action::Publish(_) => self.publish(setup, local, token),
@@ -54,7 +54,7 @@ impl<P: Run + Naming, C: Drop> Shared<P, C> {
                     return Step::On;
                 }
                 let step = self.move_on(setup, local, token);
-                // The token that moves next is the last one: after a fork that is to be the left side's.
+                // The token that moves next is the last in the list: after a fork that is to be the left side's.
                 if let Action::Fork = what {
                     turn_last_two(local);
                 }
@@ -78,7 +78,7 @@ impl<P: Run + Naming, C: Drop> Shared<P, C> {
         }
     }
 
-    // What comes of a token whose move the book has refused.
+    // What comes of a token whose move the book has refused for the reason `why`.
     fn refused(&mut self, local: &mut Local<P>, why: BookFault, token: Token<P>) -> Step {
         match why {
             // The book finds no such token out, as where `step` finds no record: the worker drops it, and has to leave its pass.
@@ -86,7 +86,7 @@ impl<P: Run + Naming, C: Drop> Shared<P, C> {
                 local.put(token.pass);
                 Step::On
             }
-            // The fault can be for want of a word only if killed groups use this many.
+            // Full may mean that no word is free for a group. That is so only if killed groups use this many words, which are to be freed then.
             BookFault::Full if self.book.dying() >= MOST_GROUPS => {
                 local.hold(token);
                 Step::Full
@@ -135,7 +135,7 @@ impl<P: Run + Naming, C: Drop> Shared<P, C> {
     }
 
     // Drops the calls that the last bind has cancelled, and notes that the worker has to tell the sites. A call that a worker polls outside isn't in
-    // `pending`: its result is dropped later.
+    // `pending`: its result is dropped later, since the call doesn't pend.
     fn drop_cancelled(&mut self, local: &mut Local<P>) {
         for number in self.cancelled.iter() {
             self.pending.remove(number);
@@ -158,6 +158,7 @@ impl<P: Run + Naming, C: Drop> Shared<P, C> {
         // The book writes the call's arguments over `args`. Nobody reads them here: `request` gives them again.
         let args = &mut self.args;
         match self.book.call(setup.inputs, token, args) {
+            // The worker makes the call with this number outside the lock.
             Ok(number) => Step::Calls(number),
             Err(refused) => self.refused(local, refused.why, refused.back),
         }
@@ -171,21 +172,23 @@ impl<P: Run + Naming, C: Drop> Shared<P, C> {
         }
     }
 
-    /// Enters the answer of a call, if it still pends. This worker gets the token on the answer, or, if the call has halted, its pass to leave.
+    /// Enters the answer of the call with this number, if it still pends. This worker gets the token that stands on the value, or, if the call has
+    /// halted, its pass to leave.
     pub(crate) fn answer(&mut self, local: &mut Local<P>, number: u64, answer: Answer) {
         match self.book.returned(number, answer) {
             Ok(Answered::Token(token)) => local.hold(token),
             Ok(Answered::Halted(pass)) => local.put(pass),
-            // It was cancelled meanwhile.
+            // The call was cancelled meanwhile.
             Err(BookFault::Gone) => {}
+            // The table has another answer, or not at this time: the site is to blame.
             Err(BookFault::Wrong) => self.stop(Stop::Site(number)),
             Err(why) => self.stop(stop_of(why)),
         }
     }
 }
 
-// After a fork, has the left side of `f | g` move first. Of a pruning the right side moves first, so that its group may be gone before the left side
-// opens more.
+// After a fork, has the left side of `f | g` move first: the last token in the list moves next. Of a pruning the right side moves first, so that its
+// group may be gone before the left side opens more.
 fn turn_last_two<P: Naming>(local: &mut Local<P>) {
     let count = local.out.born.len();
     if count >= 2 {

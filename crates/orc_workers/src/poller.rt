@@ -10,25 +10,26 @@ use std::alloc::Global;
 use std::io;
 use std::random::RandomSource;
 
-// Bytes that are always the same: a queue of one task needs no name that others can't guess.
+// Gives bytes that are always the same, where a random source is asked for: a queue of one task needs no name that others can't guess.
 #[derive(Drop)]
 struct Fixed;
 
 impl RandomSource for Fixed {
+    // The bytes are all 0. No error comes.
     fn fill_bytes(&self, buf: &mut [u8]) -> io::Result<()> {
         buf.fill(0);
         Ok(())
     }
 }
 
-/// What came of a poll.
+/// What came of a poll of a call.
 #[derive(Clone, Copy)]
 pub(crate) enum Polled {
-    /// It has this answer.
+    /// The call has this answer.
     Answered(Answer),
-    /// It has no answer yet, and says when it is due.
+    /// The call has no answer yet, and says when it is due.
     Waits(Due),
-    /// It is due and has no answer.
+    /// The call is due and has no answer, so its site is to blame.
     Late,
 }
 
@@ -47,12 +48,14 @@ impl Poller {
         })
     }
 
-    // Polls a future once: its output, or none where it is pending.
+    // Polls a future once: its output, or None where it is pending. The clauses ask that the future may be polled, and promise that a pending one may
+    // be polled again.
     fn poll<F: Future>(&self, future: &mut F) -> Option<F::Output>
         requires { F.can_poll future.old }
         ensures some { IfSome result (F.gives future.old) }
         ensures none { IfNone result (F.can_poll future.new) }
     {
+        // A poll has a context, which would wake the task; here nobody waits for that.
         let mut cx = self.solo.begin();
         let polled = future.poll(&mut cx);
         cx.end(&polled);
@@ -62,13 +65,15 @@ impl Poller {
         }
     }
 
-    /// Hands the logical time `now` to a call and polls it once. Late if the call doesn't answer though it is due by then.
+    /// Hands the logical time `now` to a call and polls the call once. Late if the call doesn't answer though it is due by then.
     pub(crate) fn ask<C: SiteFuture>(&self, call: &mut C, now: u64) -> Polled {
         call.at(now);
         match self.poll(call) {
             Some(answer) => Polled::Answered(answer),
             None => match call.due() {
+                // It was due at `now` or before.
                 Due::At(time) if time <= now => Polled::Late,
+                // It is due later, or never.
                 due => Polled::Waits(due),
             },
         }

@@ -102,8 +102,8 @@ where
     )
 }
 
-// Runs a program whose graph is built, with workers and a limit in range, and asks the sites and the gate. The journal is kept. The faults are those
-// of `run_pool` but Range.
+// Runs a program whose graph is built, with workers and a limit in range, and asks the sites and the gate. The journal is kept. By the clause
+// *played* the result is the outcome of a run of the program. The faults are those of `run_pool` but Range.
 fn run_graph<R, S, G>(
     rt: &R,
     alloc: Global,
@@ -136,8 +136,9 @@ where
     )
 }
 
-// Runs a program with workers, once its graph is built and the words of the groups are made. In contracts `P` stands for the run, with its program
-// and sites, and for the table of words; the caller picks it. The faults are those of `run_pool` but Range.
+// Runs a program with workers, once its graph is built and the words of the groups are made (a group's word counts the passes to it). In contracts
+// `P` stands for the run, with its program and sites, and for the table of words; the caller picks it, and the clauses ask that all of these are
+// those of `P`. The faults are those of `run_pool` but Range.
 fn run_named<'x, P, R, S, G>(
     rt: &'x R,
     alloc: Global,
@@ -168,6 +169,7 @@ where
     ensures kept { IfOk result (λ p. is_some p.journal ≡ true) }
     ensures range { IfErr result (λ fault. fault ≡ EngineFault.Range → ⊥) }
 {
+    // The words of the groups, and all passes, of which each worker gets a part.
     let (groups, mut supply) = words.named::<P>();
     let Some(idle) = supply.take(&groups) else {
         // Never so: the supply is new, and so is word 0 below. No contract says so.
@@ -186,6 +188,7 @@ where
         inputs: &inputs,
         groups: &groups,
     };
+    // The cell that is bound to the reason once the run stops.
     let Ok(why) = Cell::new(alloc) else {
         return Err(EngineFault::Memory);
     };
@@ -208,8 +211,9 @@ where
     }
 }
 
-// Lets all workers work until the run has stopped. The first worker, on the calling thread, begins with `token`, the run's first. `why` is bound once
-// the run stops, to the reason. The fault is Memory if memory for the workers was refused, or Broken if there are too few passes or no workers.
+// Lets all workers work until the run has stopped. The first worker, on the calling thread, begins with `token`, the run's first. `supply` has the
+// passes of all workers. `why` is bound once the run stops, to the reason. The fault is Memory if memory for the workers was refused, or Broken if
+// there are too few passes or no workers.
 fn play<'x, P, R, S, G>(
     rt: &'x R,
     alloc: Global,
@@ -239,9 +243,11 @@ where
     };
     let mut supply = supply;
     let mut local = local_of(alloc, setup.groups, &mut supply)?;
+    // The first worker begins with the run's first token.
     local.hold(token);
     let wakeups = Condvar::new();
     let idle = AtomicU64::new(0);
+    // Whether a call may wait for what another thread does: then a worker hands over all that others may need before it makes one.
     let may_wait = sites.may_wait() || gate.may_wait();
     let context = Context {
         alloc,
@@ -266,7 +272,8 @@ where
     Ok(())
 }
 
-// What a worker has at first: passes. Broken if the supply has too few, which doesn't come up: it was made with `PASSES` for each worker.
+// What a worker has at first: `PASSES` passes, taken out of the run's supply. Broken if the supply has too few, which doesn't come up: it was made
+// with `PASSES` for each worker.
 fn local_of<P: Naming>(
     alloc: Global,
     groups: &Groups<P>,
@@ -281,7 +288,8 @@ fn local_of<P: Naming>(
     }
 }
 
-// The workers beside the first one, each with one of these queues. Memory if memory is refused, else Broken as of `local_of`.
+// The workers beside the first one, each with one of these queues and a part of the supply. The fault is Memory if memory is refused, else Broken as
+// of `local_of`: too few passes.
 fn others_of<'h, P: Run + Naming, R: Wait, S: Sites, G: Gate>(
     rt: &'h R,
     context: &'h Context<'h, P, S, G>,
@@ -328,7 +336,7 @@ where
     });
 }
 
-// Starts a thread for a worker. One that can't be started is dropped with its worker, and the others have the work.
+// Starts a thread for a worker. If the thread can't be started its worker is dropped, and the others have the work.
 fn start<'s, 'h: 's, E, P, R, S, G>(scope: &Scope<'s, E>, worker: Worker<'h, P, R, S, G>)
 where
     P: Run + Naming + Send + Sync + 's,

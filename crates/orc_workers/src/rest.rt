@@ -10,8 +10,8 @@ use orc_scheduler::Stop;
 use orc_word::Naming;
 
 impl<P: Run + Naming, C: Drop> Shared<P, C> {
-    /// Looks for work for a worker that has no token, no pass to leave and no group to close: a call that is due, else a tick. The work is Rest if
-    /// other workers have all that is left.
+    /// Looks for work for a worker that has no token, no pass to leave and no group to close: a call that is due, else a tick, by which time goes on
+    /// to the next due time. The work is Rest if other workers have all that is left, and Over if the run has stopped. The caller has the lock.
     pub(crate) fn look(&mut self, inputs: &Inputs<'_, P>) -> OutsideWork<C> {
         if self.is_over() {
             return OutsideWork::Over;
@@ -20,9 +20,11 @@ impl<P: Run + Naming, C: Drop> Shared<P, C> {
             return work;
         }
         match self.book.next(inputs) {
-            // The call that is due now is taken by another look.
+            // Time has gone on, and a call is due now. The worker takes it when it looks again.
             Ok(Next::Ticked) => OutsideWork::None,
+            // Something comes before time can go on: a token or a call is with another worker.
             Ok(Next::Work) => OutsideWork::Rest,
+            // Nothing can come any more, though the term hasn't halted: the run ends so.
             Ok(Next::Quiet) => {
                 self.stop(Stop::Quiet);
                 OutsideWork::Over
@@ -34,7 +36,8 @@ impl<P: Run + Naming, C: Drop> Shared<P, C> {
         }
     }
 
-    /// Looks for work for the last worker that isn't at rest. If there is none, no worker has what is left, and the run stops.
+    /// Looks for work for the last worker that isn't at rest. If there is none, no worker has what is left, and the run stops. The work is never
+    /// Rest.
     pub(crate) fn look_last(&mut self, inputs: &Inputs<'_, P>) -> OutsideWork<C> {
         match self.look(inputs) {
             OutsideWork::Rest => {
@@ -54,13 +57,15 @@ impl<P: Run + Naming, C: Drop> Shared<P, C> {
         Some(OutsideWork::Ask(number, self.book.now(), call))
     }
 
-    /// The least number of a call that is due and that no worker has; None if there is no such call. On the way the book drops its notes on calls
-    /// that don't pend any more.
+    /// The least number of a call that is due and that no worker has (it is in `pending`); None if there is no such call. On the way the book drops
+    /// its notes of due times of calls that don't pend any more.
     pub(crate) fn find_due(&mut self) -> Option<u64> {
         let mut number = 0;
         // The prover asks for a bound; the numbers rise, so there are fewer rounds than calls.
         for _ in 0..u64::MAX {
+            // The next number of a call that is due, in rising order, from 1.
             number = self.book.due_beyond(number)?;
+            // A call that isn't in `pending` is with a worker, which polls it.
             if self.pending.contains_key(&number) {
                 return Some(number);
             }

@@ -9,6 +9,6 @@ use orc_word::{Groups, Naming};
 pub(crate) struct Setup<'h, P: Run + Naming> {
     // The graph and the table.
     pub inputs: &'h Inputs<'h, P>,
-    // The words.
+    // The words: a group's word counts the passes to that group.
     pub groups: &'h Groups<P>,
 }

@@ -109,7 +109,7 @@ impl<P: Run + Naming, C: Drop> Shared<P, C> {
         }
     }
 
-    /// The book, and why the run has stopped. The first worker returns only once it has, so Broken doesn't come from here.
+    /// The book, and why the run has stopped. The first worker returns only once the run has stopped, so `Broken` doesn't come from here.
     pub(crate) fn into_book(self) -> (Book<P>, Stop) {
         let Shared {
             book,
@@ -142,14 +142,14 @@ impl<P: Run + Naming, C: Drop> Shared<P, C> {
         self.stop(Stop::Refused(LedgerFault::Memory));
     }
 
-    /// Whether all other workers rest. The one that asks doesn't, and has the lock.
+    /// Whether all other workers rest. The worker that asks doesn't rest, and has the lock.
     pub(crate) fn is_alone(&self) -> bool {
         self.working <= self.resting.saturating_add(1)
     }
 
-    /// A worker's turn: it reports `event`, the result of its last call, and closes the groups that it was the last to leave. Then its tokens move
-    /// until it has work outside the lock or has made its moves. At the beginning of a round a call that is due comes before its tokens. None if it
-    /// has no token left or has made its moves.
+    /// A worker's turn: it reports `event`, the result of the call that it made or polled last, and closes the groups that it was the last to leave.
+    /// Then its tokens move until it has work outside the lock or has made its moves. If this turn begins a round (`begins_round`), a call that is
+    /// due comes before its tokens. The work is None if the worker has no token left or has made its moves.
     pub(crate) fn work(
         &mut self,
         setup: &Setup<'_, P>,
@@ -165,6 +165,7 @@ impl<P: Run + Naming, C: Drop> Shared<P, C> {
         {
             return work;
         }
+        // How many moves the turn has at most: more if nobody waits for the lock.
         let moves = if self.is_alone() { MOVES_ALONE } else { MOVES };
         for _move in 0..moves {
             // The last move may have lost a token, a pass or a group.
@@ -180,6 +181,7 @@ impl<P: Run + Naming, C: Drop> Shared<P, C> {
             match self.step(setup, local, token) {
                 // On to the next move.
                 Step::On => {}
+                // The token is at a call, which the book has recorded and the worker makes outside the lock.
                 Step::Calls(number) => return self.make(number),
                 Step::Full => return OutsideWork::MakeRoom,
             }
@@ -187,7 +189,7 @@ impl<P: Run + Naming, C: Drop> Shared<P, C> {
         OutsideWork::None
     }
 
-    // Enters the result of a worker's last call into the book. Once the run has stopped the result is dropped.
+    // Enters the result of the call that a worker made or polled last into the book. Once the run has stopped the result is dropped.
     fn take_call_event(&mut self, answers: &Answers, local: &mut Local<P>, event: CallEvent<C>) {
         if self.is_over() {
             return;
@@ -198,7 +200,7 @@ impl<P: Run + Naming, C: Drop> Shared<P, C> {
             CallEvent::Answered(number, answer) => self.answer(local, number, answer),
             CallEvent::Waits(number, due, call) => self.park(answers, number, due, call),
             CallEvent::Late(number) => {
-                // Sites that were told of its cancel need not answer it.
+                // Sites that were told of the call's cancel need not answer it. A call that still pends is theirs to answer.
                 if self.book.request(number).is_some() {
                     self.stop(Stop::Site(number));
                 }
@@ -207,7 +209,7 @@ impl<P: Run + Naming, C: Drop> Shared<P, C> {
         }
     }
 
-    // Keeps a call that waits until it is due, if it still pends.
+    // Keeps a call that waits until it is due, if it still pends. `number` is the call's, `due` when it is due as the call says.
     fn park(&mut self, answers: &Answers, number: u64, due: Due, call: Box<C>) {
         // A call that doesn't pend was cancelled meanwhile, and is dropped.
         let Some(request) = self.request(number) else {
@@ -224,7 +226,7 @@ impl<P: Run + Naming, C: Drop> Shared<P, C> {
         }
     }
 
-    // The work of making a call that the book has recorded.
+    // The work of making a call that the book has recorded, with what it asks. `number` is the call's.
     fn make(&mut self, number: u64) -> OutsideWork<C> {
         match self.request(number) {
             Some(request) => OutsideWork::Make(request),
@@ -236,7 +238,8 @@ impl<P: Run + Naming, C: Drop> Shared<P, C> {
         }
     }
 
-    // What the call with this number asks; None if it doesn't pend.
+    // What the call with this number asks (its site, its arguments, which of such calls it is, from 1, and when it was made); None if it doesn't
+    // pend.
     fn request(&self, number: u64) -> Option<Request> {
         let asked = self.book.request(number)?;
         // `nth` counts from 1, as a `Request` asks. That it does isn't in the book's contract, so it is tested here.
@@ -266,11 +269,14 @@ impl<P: Run + Naming, C: Drop> Shared<P, C> {
         }
     }
 
-    // Closes a group that the worker was the last to leave. The worker gets the tokens that this sets free.
+    // Closes a group that the worker was the last to leave. The worker gets the tokens that this sets free: one that starts a right side, or those
+    // that wait for a cell that is lost.
     fn close(&mut self, local: &mut Local<P>, last: Last<P>) {
         match self.book.halt(last, &mut local.out.leave) {
+            // It was the program's own group, so the term has halted.
             Ok(Ended::Run) => self.stop(Stop::Halted),
             Ok(Ended::Token(token)) => local.hold(token),
+            // The right side of this cell has ended without a value.
             Ok(Ended::Lost(cell)) => self.wake(local, cell),
             // Nothing follows. The pass to the enclosing group is in `leave`.
             Ok(Ended::Group) => {}
@@ -278,7 +284,7 @@ impl<P: Run + Naming, C: Drop> Shared<P, C> {
         }
     }
 
-    /// Drops those of a worker's tokens that have no record any more. The worker has to leave their passes.
+    /// Drops those of a worker's tokens that have no record any more, since a bind has killed their group. The worker has to leave their passes.
     pub(crate) fn drop_gone(&mut self, alloc: Global, setup: &Setup<'_, P>, local: &mut Local<P>) {
         let tokens = mem::replace(&mut local.out.born, Vec::new(alloc));
         for token in tokens {

@@ -31,6 +31,7 @@ const SPARE: usize = 4;
 
 /// A worker at work.
 pub(crate) struct Shift<'h, P: Run + Naming, R: Wait, S: Sites, G: Gate> {
+    // By it the worker takes the lock and waits.
     rt: &'h R,
     // What it shares with the others.
     context: &'h Context<'h, P, S, G>,
@@ -98,7 +99,8 @@ impl<'h, P: Run + Naming, R: Wait, S: Sites, G: Gate> Shift<'h, P, R, S, G> {
         }
     }
 
-    /// Gives the work that the worker has to do outside the lock next. The call blocks while other workers have all that is left.
+    /// Gives the work that the worker has to do outside the lock next, after a turn under the lock or a look for work. The call blocks while other
+    /// workers have all that is left.
     pub(crate) fn next_work(&mut self) -> OutsideWork<S::Call> {
         // If memory was refused since the last turn, the run stops here.
         self.tell_lost();
@@ -111,7 +113,8 @@ impl<'h, P: Run + Naming, R: Wait, S: Sites, G: Gate> Shift<'h, P, R, S, G> {
         }
     }
 
-    // Reads, without the lock, whether the run has stopped. Once it reads so it always does, and the worker polls no waiting call any more.
+    // Reads, without the lock, whether the run has stopped. Once it reads so it always does, and the worker polls no waiting call any more. By the
+    // clause a false answer means that the cell of the reason wasn't bound when it was read.
     fn finds_end(&mut self) -> bool
         ensures { result ≡ false → has_read self.new.why ≡ None }
     {
@@ -121,11 +124,12 @@ impl<'h, P: Run + Naming, R: Wait, S: Sites, G: Gate> Shift<'h, P, R, S, G> {
     // Whether the worker has something for a turn: a token, the result of a call, a pass to leave or a group to close. If it has none of these it
     // takes a token from its queue, or steals one.
     fn take_turn(&mut self) -> bool {
+        // The result of the last call is to be reported, or there is something to do under the lock.
         if !matches!(&self.event, CallEvent::None) || !self.local.is_empty() {
             return true;
         }
         match self.queue.next() {
-            // A stolen token wasn't counted. Its own queue is empty then, so the count is still not too small.
+            // A stolen token wasn't counted in `queued`. The worker's own queue is empty then, so the count is still not too small.
             Some(token) => {
                 self.queued = self.queued.saturating_sub(1);
                 self.local.hold(token);
@@ -139,14 +143,16 @@ impl<'h, P: Run + Naming, R: Wait, S: Sites, G: Gate> Shift<'h, P, R, S, G> {
         }
     }
 
-    // A turn under the lock.
+    // A turn under the lock, in which the worker's tokens move. Gives the work that it has to do outside the lock.
     fn turn(&mut self) -> OutsideWork<S::Call> {
         self.turns = self.turns.saturating_add(1);
+        // A round has `ROUND` turns after the one that begins it.
         let begins_round = self.turns > ROUND;
         if begins_round {
             self.turns = 0;
             self.take_oldest();
         }
+        // The result of the last call, which this turn reports.
         let event = mem::replace(&mut self.event, CallEvent::None);
         let context = self.context;
         let mut shared = context.shared.lock(self.rt);
@@ -156,8 +162,8 @@ impl<'h, P: Run + Naming, R: Wait, S: Sites, G: Gate> Shift<'h, P, R, S, G> {
         work
     }
 
-    // Puts all its tokens into its queue, and takes out the one that has waited longest, which moves next. If others have stolen them all, it takes
-    // none.
+    // Puts all its tokens into its queue, and takes out the one that has waited longest in the queue, which moves next. If others have stolen them
+    // all, the worker has none then.
     fn take_oldest(&mut self) {
         self.share(0);
         if let Some(token) = self.queue.oldest() {
@@ -166,12 +172,13 @@ impl<'h, P: Run + Naming, R: Wait, S: Sites, G: Gate> Shift<'h, P, R, S, G> {
         }
     }
 
-    /// Does this work outside the lock, and before it what each turn leaves to do. Says whether the run is over.
+    /// Does this work outside the lock, and before it what each turn leaves to do: it leaves passes and tells the sites of cancels. Says whether the
+    /// run is over.
     pub(crate) fn do_work(&mut self, work: OutsideWork<S::Call>) -> bool {
         self.settle();
         self.cancel();
         match work {
-            // The token that moves next stays with the worker.
+            // The tokens go into the queue, but the one that moves next stays with the worker.
             OutsideWork::None | OutsideWork::Rest => self.share(1),
             OutsideWork::MakeRoom => self.make_room(),
             OutsideWork::Make(request) => {
@@ -187,14 +194,15 @@ impl<'h, P: Run + Naming, R: Wait, S: Sites, G: Gate> Shift<'h, P, R, S, G> {
             }
             OutsideWork::Over => return true,
         }
-        // No run has so many tokens. So others have stolen some of them, or some have no record any more and keep words of killed groups in use.
+        // No run has so many tokens as `queued` says. So others have stolen some of them, or some have no record any more and keep words of killed
+        // groups in use.
         if self.queued > MOST_TOKENS {
             self.make_room();
         }
         false
     }
 
-    // Leaves the passes that no record needs any more.
+    // Leaves the passes that no record needs any more, but some that the worker keeps for its next moves in the same group.
     fn settle(&mut self) {
         let context = self.context;
         let groups = context.setup.groups;
@@ -209,8 +217,8 @@ impl<'h, P: Run + Naming, R: Wait, S: Sites, G: Gate> Shift<'h, P, R, S, G> {
         self.local.out.cancelled.clear();
     }
 
-    // Moves its tokens into its queue, where others may steal them, but not the last `keep` ones, which move next. A push is refused only for want of
-    // memory: the run stops then, and tokens may be dropped.
+    // Moves its tokens into its queue, where others may steal them, but not the last `keep` ones, which move next, and offers them to workers at
+    // rest. A push is refused only for want of memory: the run stops then, and tokens may be dropped.
     fn share(&mut self, keep: usize) {
         let count = self.local.out.born.len().saturating_sub(keep);
         if count == 0 {
@@ -222,6 +230,7 @@ impl<'h, P: Run + Naming, R: Wait, S: Sites, G: Gate> Shift<'h, P, R, S, G> {
                 refused = Some(token);
             }
         }
+        // One of the refused tokens goes back to the worker, and the run stops.
         if let Some(token) = refused {
             self.local.hold(token);
             self.stop_for_memory();
@@ -230,8 +239,8 @@ impl<'h, P: Run + Naming, R: Wait, S: Sites, G: Gate> Shift<'h, P, R, S, G> {
         self.offer(count);
     }
 
-    // Offers `count` tokens to workers at rest. If neither sites nor gate ever wait, it wakes one only once there have been enough tokens for some
-    // time, since a wake-up takes longer than a few moves.
+    // Offers `count` tokens, which were put into its queue, to workers at rest. If neither sites nor gate ever wait, it wakes one only once there
+    // have been enough tokens for some time (`PATIENCE` turns), since a wake-up takes longer than a few moves.
     fn offer(&mut self, count: usize) {
         if self.context.may_wait {
             self.context.offer(self.rt, count);
@@ -261,7 +270,8 @@ impl<'h, P: Run + Naming, R: Wait, S: Sites, G: Gate> Shift<'h, P, R, S, G> {
             .stop(self.rt, Stop::Refused(LedgerFault::Memory));
     }
 
-    // Hands over all that others may need, before the worker makes or polls a call outside the lock and may wait there.
+    // Hands over all that others may need, before the worker makes or polls a call outside the lock and may wait there: its tokens, and the groups
+    // that it can close.
     fn go_outside(&mut self) {
         // Neither the sites nor the gate wait, so the worker is back soon and keeps its passes and the token that moves next.
         if !self.context.may_wait {
@@ -273,7 +283,7 @@ impl<'h, P: Run + Naming, R: Wait, S: Sites, G: Gate> Shift<'h, P, R, S, G> {
         self.tell_lost();
     }
 
-    // Leaves all its passes, and closes the groups that it is the last to leave.
+    // Leaves all its passes that no token has, and closes under the lock the groups that it is the last to leave.
     fn leave_groups(&mut self) {
         // In no group from now on: the passes for births are put among those to leave.
         self.local.go_to(None);
@@ -290,8 +300,8 @@ impl<'h, P: Run + Naming, R: Wait, S: Sites, G: Gate> Shift<'h, P, R, S, G> {
         }
     }
 
-    // Frees words: a killed group uses its word until the tokens that were in it have left. Takes all tokens that it finds in the queues, and drops
-    // those that have no record any more.
+    // Frees words: a killed group uses its word until the tokens that were in it have left. The worker takes all tokens that it finds in the queues,
+    // its own and others', and drops those that have no record any more.
     fn make_room(&mut self) {
         // The prover asks for a bound. Each round takes a token from some queue.
         for _ in 0..u64::MAX {
@@ -308,15 +318,15 @@ impl<'h, P: Run + Naming, R: Wait, S: Sites, G: Gate> Shift<'h, P, R, S, G> {
         thread::yield_now();
     }
 
-    // Drops those of its tokens that have no record any more.
+    // Drops those of its tokens that have no record any more: a bind has killed their group. It takes the lock.
     fn drop_gone(&mut self) {
         let context = self.context;
         let mut shared = context.shared.lock(self.rt);
         shared.drop_gone(context.alloc, &context.setup, &mut self.local);
     }
 
-    // Makes a call once it has passed the gate, and polls it once at the time at which it is made. A call that was recorded is made even if the run
-    // has stopped meanwhile: the journal has it.
+    // Makes a call once it has passed the gate, and polls it once at the time at which it is made. Gives what the next turn reports. A call that was
+    // recorded is made even if the run has stopped meanwhile: the journal has it.
     fn make(&self, request: Request) -> CallEvent<S::Call> {
         self.context.gate.pass(request.number);
         let Ok(mut call) = self.context.sites.call(&request) else {
@@ -332,7 +342,8 @@ impl<'h, P: Run + Naming, R: Wait, S: Sites, G: Gate> Shift<'h, P, R, S, G> {
         }
     }
 
-    // Polls the call with this number again, which is due at the time `now`. It has to answer: if it waits even so, it is late.
+    // Polls the call with this number again, which is due at the time `now`. It has to answer: if it waits even so, it is late. The clause asks that
+    // the run hadn't stopped when the worker last looked.
     fn ask(&self, number: u64, now: u64, mut call: Box<S::Call>) -> CallEvent<S::Call>
         requires { has_read self.now.why ≡ None }
     {

@@ -4,8 +4,8 @@ use orc_cell::Cell;
 use orc_scheduler::Stop;
 use std::alloc::{AllocError, Global};
 
-/// Binds the cell that has the reason why a run stops. It is kept under the lock, with the one box that a bind takes. Workers read the cell without
-/// the lock; under the lock they read `reason` here, which takes no atomic operation.
+/// Binds the cell that has the reason why a run stops. The stopper is kept under the lock, with the one box that a bind of a cell takes. Workers read
+/// the cell without the lock; under the lock they read `reason` here, which takes no atomic operation.
 #[derive(Drop)]
 pub(crate) struct Stopper {
     // This side of the cell, which binds it.
@@ -18,7 +18,7 @@ pub(crate) struct Stopper {
 }
 
 impl Stopper {
-    /// For the cell `why`, which isn't bound yet. The error is refused memory.
+    /// For the cell `why`, which isn't bound yet: the run goes on. The error is refused memory.
     pub(crate) fn new(alloc: Global, why: &Cell<Stop>) -> Result<Stopper, AllocError> {
         let why = why.share()?;
         let unused = Some(Box::new(alloc, Stop::Broken)?);
@@ -35,7 +35,7 @@ impl Stopper {
         if let Some(mut bound) = self.unused.take() {
             *bound = reason;
             self.reason = Some(reason);
-            // Nobody else binds the cell, so the box doesn't come back.
+            // Nobody else binds the cell, so the box doesn't come back, and `unused` is None from now on.
             self.unused = self.why.bind(bound).err();
         }
     }

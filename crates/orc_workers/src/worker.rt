@@ -16,6 +16,7 @@ use std::sync::Wait;
 /// A worker before its work begins.
 #[derive(Drop)]
 pub(crate) struct Worker<'h, P: Run + Naming, R: Wait, S: Sites, G: Gate> {
+    // By it the worker takes the lock and waits.
     pub rt: &'h R,
     // What it shares with the others.
     pub context: &'h Context<'h, P, S, G>,
@@ -28,7 +29,8 @@ pub(crate) struct Worker<'h, P: Run + Naming, R: Wait, S: Sites, G: Gate> {
 }
 
 impl<P: Run + Naming, R: Wait, S: Sites, G: Gate> Worker<'_, P, R, S, G> {
-    /// Works until the run is over. If memory is refused before that begins, the first worker stops the run, and any other is left out.
+    /// Works until the run is over. If memory for the poller is refused before that begins, the first worker stops the run, since it has the first
+    /// token, and any other is left out.
     pub(crate) fn work(self) {
         let Worker {
             rt,
@@ -43,13 +45,14 @@ impl<P: Run + Naming, R: Wait, S: Sites, G: Gate> Worker<'_, P, R, S, G> {
             }
             return;
         };
-        // The first one counts from the beginning on.
+        // `working` counts the first worker from the beginning on, each other one from here.
         if !is_first {
             context.join(rt);
         }
         let mut shift = Shift::new(rt, context, queue, local, poller);
         for _ in rt.forever() {
             let work = shift.next_work();
+            // `do_work` says that the run is over.
             if shift.do_work(work) {
                 return;
             }
