@@ -20,7 +20,7 @@ use orc_log::Run;
 use orc_word::{Bit, Groups, Naming, Pass};
 use std::alloc::AllocError;
 
-// How many tokens, pending calls and open groups there are; none where a sum overflows.
+// How many records the ledger has: tokens, pending calls and open groups (`side_count`). None where a sum overflows.
 fn count_records<P: Run>(ledger: &Ledger<P>) -> Option<usize>
     ensures { IfSome result (λ count. count ≡ records_in ledger.now) }
 {
@@ -28,8 +28,8 @@ fn count_records<P: Run>(ledger: &Ledger<P>) -> Option<usize>
     count.checked_add(ledger.side_count())
 }
 
-// Makes room in `leave` for one pass more than there are records: so for all passes that the book holds, and the token's own. The error is refused
-// memory.
+// Makes room in `leave`, the passes that the caller is to leave, for one more than there are records: the book holds one pass for a record at most,
+// and the token that binds has its own. The error is refused memory.
 fn reserve_all<P: Run, J: Naming>(
     ledger: &Ledger<P>,
     leave: &mut Vec<Pass<J>>,
@@ -37,7 +37,7 @@ fn reserve_all<P: Run, J: Naming>(
     ensures items { leave.new.items ≡ leave.old.items }
     ensures room { OnOk result (vec_len leave.new + records_in ledger.now + 1 ≤ vec_capacity leave.new) }
 {
-    // No sum overflows: a run has far fewer records. The prover isn't told so, and the call may refuse.
+    // A run has far fewer records than a `usize` counts. The prover isn't told so: a sum that overflows counts as refused memory.
     let Some(count) = count_records(ledger) else {
         return Err(AllocError);
     };
@@ -48,12 +48,17 @@ fn reserve_all<P: Run, J: Naming>(
 }
 
 impl<P: Run + Naming> Book<P> {
-    /// Binds the cell that takes what this token publishes: all records inside the cell's right side go. The token's pass wins the mark that its
-    /// group is killed, and is added to `leave`, with the passes that the book held for records that went and holds no more. The word of a group
-    /// that went stands for a killed one until its last pass is left. Refused as Gone if the token isn't out or the mark was set already, as Wrong if
-    /// it does something else next, as Full, Limit or Memory if the ledger refuses the entry for that or memory is refused. The pass of a refused
-    /// token has won the mark only if the fault is Memory. `cancelled` is lent: after an Ok it holds the numbers of the calls that went, in rising
-    /// order, and else any numbers.
+    /// Binds the cell that takes what this token publishes: the records of all tokens, calls and groups inside the cell's right side go. A *pass*
+    /// counts one member of a group in the group's word, an atomic counter. The token's pass wins the mark that its group is killed, a bit of that
+    /// word. That pass is added to `leave`, which the caller is to leave, with the passes that the book held for records that went. The word of a
+    /// group that went stands for a killed one until its last pass is left. Refused as Gone if the token isn't out with a worker or the mark was set
+    /// already, as Wrong if the token does something else next, as Full, Limit or Memory if the ledger refuses the entry for that or memory is
+    /// refused. The pass of a refused token has won the mark only if the fault is Memory. `cancelled` is lent: after an Ok it holds the numbers of
+    /// the calls that went, in rising order, and else any numbers.
+    ///
+    /// In the contract `marks` has, by slots, the serials of the kept tokens, `HaveDied` says that each word stands for what it did, or for a killed
+    /// group if its group went, `GivesUp` that just the passes which the book and the token give up are added, `IsUnkept` that `t` is the token's
+    /// record and the book doesn't keep the token.
     pub fn bind(
         &mut self,
         groups: &Groups<P>,
@@ -77,12 +82,13 @@ impl<P: Run + Naming> Book<P> {
             Ok(found) => found,
             Err(why) => return Err(Refused { why, back: token }),
         };
+        // The cell and the value aren't used here: `advance`, below, finds them by itself.
         let Action::Bind(_cell, _value) = found.what else {
             let why = BookFault::Wrong;
             return Err(Refused { why, back: token });
         };
-        // All refusals that can be foreseen come before the mark, since nothing clears that again: here for one entry, with no token, group or frame
-        // more.
+        // Nothing clears the mark again, so all refusals that can be foreseen come before it is set. `within` asks the limits for one entry more,
+        // with no token, group or left side of a `>x>` more.
         if let Err(fault) = self.ledger.within(0, 0, 0) {
             return Err(Refused {
                 why: fault_of(fault),
@@ -95,7 +101,8 @@ impl<P: Run + Naming> Book<P> {
                 back: token,
             });
         }
-        // Taken apart, since the mark changes the pass: it has seen the bit then. `mark` gives false if the bit was set before.
+        // The token is taken apart, since `mark` changes its pass: the pass has seen the bit then. `mark` gives false if the bit was set before, so
+        // that another token has won.
         let Token {
             serial,
             slot,
@@ -107,16 +114,17 @@ impl<P: Run + Naming> Book<P> {
                 back: Token { serial, slot, pass },
             });
         }
-        // A law, before the move and behind it: it shows the prover that the journal leads to a place that the records spell. Nothing runs.
+        // A law, before the move and behind it: it shows the prover that the journal leads to a term, which the records describe. Nothing runs.
         stands(&self.ledger);
         match self
             .ledger
             .advance(inputs, slot, found.its, &mut self.scopes, cancelled)
         {
+            // The answer, `Moved::Bound`, has the cell and the group round the pruning; neither is needed.
             Ok(_bound) => {
                 stands(&self.ledger);
-                // What was in the cell's right side has gone from the records. Its words are those of killed groups then, and its passes are to be
-                // left.
+                // What was in the cell's right side has gone from the records. `bury_missing` notes that the words of its groups stand for killed
+                // ones; `settle_all` moves the passes that the book held for it to `leave`.
                 bury_missing(&self.ledger, &mut self.posts, &mut self.words);
                 settle_all(&self.ledger, &mut self.posts, leave);
                 leave.push_reserved(pass);

@@ -21,7 +21,8 @@ use orc_word::{Naming, Pass};
 use std::alloc::Global;
 use std::marker::Model;
 
-/// The records of a run, and of each record that is not out with a worker a pass to its group.
+/// The records of a run: its tokens, pending calls and open groups. A *pass* counts one member of a group. The book has the pass of each record, but
+/// for tokens that are *out*: a worker has theirs.
 pub struct Book<P: Run + Naming> {
     // The records of the run, with its journal.
     pub(crate) ledger: Ledger<P>,
@@ -29,9 +30,9 @@ pub struct Book<P: Run + Naming> {
     pub(crate) alloc: Global,
     // What the book has of each group, by the ledger's numbers of groups (0 is the program's own) up to the highest one that was given.
     pub(crate) posts: Vec<Post<P>>,
-    // Which group each word counts.
+    // Which group each *word* counts. A word is an atomic counter of a group's passes.
     pub(crate) words: WordTable<P>,
-    // Which tokens are kept here while they wait for a cell.
+    // Which tokens are kept here, and not out, while they wait for a cell.
     pub(crate) keeping: Keeping,
     // Three lists that the ledger's calls fill: new scopes of a definition's parameters, numbers of cancelled calls, cells for which a token waits.
     // What an earlier call left there is never read; they stay here so that their memory is used again.
@@ -46,9 +47,11 @@ impl<P: Run + Naming> Model for Book<P> {
 
     ghost Value = { Held };
 
-    // `stands`: by words, what each stands for. `marks`: by slots, the serial of the token that the book keeps there, 0 for none.
+    // What contracts see. `ledger`: the records. `posts`: by groups, what the book has of each. `stands`: by words, what each stands for. `marks`: by
+    // slots, the serial of the token that the book keeps there, 0 for none.
     ghost view = { λ b. record { ledger = b.ledger; posts = b.posts.items; stands = b.words.stands; marks = b.keeping } };
 
+    // The passes fit the records (`AreHeld`), and each open group has a word of its own, which stands for it (`AreNamed`).
     ghost invariant = { λ b. AreHeld b.posts.items b.ledger × AreNamed b.ledger b.posts.items b.words.stands };
 }
 
@@ -76,9 +79,10 @@ impl<P: Run + Naming> Drop for Book<P> {
 }
 
 impl<P: Run + Naming> Book<P> {
-    /// A new run, over `words` words for its groups: token 1 is out, at the program's main term, with `pass`, which names group 0. The journal is to
-    /// have at most `limit` entries (1 to `MOST_ENTRIES`, the cancels left out); it is kept where the run `keeps` it, and else only counted. The only
-    /// fault is Memory, where memory was refused; `back` is the pass.
+    /// A new run, with `words` words for its groups; a *word* is an atomic counter of a group's passes. Token 1 is out with the caller, at the
+    /// program's main term, with `pass`, which names group 0, the program's own. The journal is to have at most `limit` entries (1 to `MOST_ENTRIES`,
+    /// the cancels left out); it is kept if `keeps`, and else its entries are only counted. The only fault is Memory, where memory was refused;
+    /// `back` is the pass.
     pub fn new(
         alloc: Global,
         inputs: &Inputs<'_, P>,
@@ -99,12 +103,14 @@ impl<P: Run + Naming> Book<P> {
         ensures refused { IfErr result (λ r. r.back ≡ pass) }
         ensures why { IfErr result (λ r. r.why ≡ BookFault.Memory) }
     {
+        // What the book has of each group: so far of group 0 alone, without a pass.
         let Ok(mut posts) = first_posts(alloc) else {
             return Err(Refused {
                 why: BookFault::Memory,
                 back: pass,
             });
         };
+        // What each word stands for: the first for group 0, the others are free.
         let Ok(words) = WordTable::new(alloc, words) else {
             return Err(Refused {
                 why: BookFault::Memory,
@@ -129,7 +135,7 @@ impl<P: Run + Naming> Book<P> {
             cancelled: Vec::new(alloc),
             cells: Vec::new(alloc),
         };
-        // Token 1 is in slot 0, by the ledger's `begin`.
+        // Token 1 is in slot 0, by the ledger's `begin`. `born` makes it for the caller, from the record in that slot.
         let token = book.born(0, pass);
         Ok((book, token))
     }
@@ -141,7 +147,7 @@ impl<P: Run + Naming> Book<P> {
         ensures whole { IsWhole P.listing P.sites self.ledger }
     {
         let ledger = self.into_ledger();
-        // A law: it shows the prover the clause *whole*. Nothing runs.
+        // A law: it shows the prover the clause *whole*, that the journal is a run by Orc's rules. Nothing runs.
         ledger.is_whole();
         ledger.into_journal()
     }
@@ -169,7 +175,7 @@ impl<P: Run + Naming> Book<P> {
         ledger
     }
 
-    /// How many words stand for killed groups: each does until its last pass is left and `halt` is told so.
+    /// How many words stand for groups that a bind has killed: each does until the group's last pass is left and `halt` is called for it.
     pub fn dying(&self) -> usize
         ensures { result ≡ count_by is_dying self.now.stands }
     {

@@ -32,10 +32,13 @@ pub enum Answered<P: Naming> {
 }
 
 impl<P: Run + Naming> Book<P> {
-    /// Makes the call of a site at which this token is, whose operands have values: the call pends in the token's place, and the book holds the
-    /// token's pass for it. Gives the call's number, from 1. `args` is lent: it has the call's arguments afterwards, and what it held is lost.
-    /// Refused as Gone if the token isn't out, as Wrong if it does something else next, as Full or Limit if the entry is over such a limit, else as
-    /// Memory.
+    /// Makes the call of a site at which this token is, whose operands have values: the call pends in the token's place. The book takes the token's
+    /// pass, which counts the call as a member of the group from here on. Gives the call's number, from 1. `args` is lent: it has the call's
+    /// arguments afterwards, and what it held is lost. Refused as Gone if the token isn't out with a worker, as Wrong if it does something else next,
+    /// as Full or Limit if the entry is over such a limit, else as Memory.
+    ///
+    /// In the contract `KeepsWords` says that each word stands for what it did and the same tokens are kept, `HasStayed` that nothing has changed but
+    /// room for passes.
     pub fn call(
         &mut self,
         inputs: &Inputs<'_, P>,
@@ -55,22 +58,23 @@ impl<P: Run + Naming> Book<P> {
             let why = BookFault::Wrong;
             return Err(Refused { why, back: token });
         };
-        // Room in the ledger for one entry, with no token, group or frame more. It is asked before memory, so that Limit is the fault where both are
-        // lacking.
+        // Room in the ledger for one entry, with no token, group or left side of a `>x>` more. It is asked before memory, so that Limit is the fault
+        // where both are lacking.
         if let Err(fault) = self.ledger.within(0, 0, 0) {
             return Err(Refused {
                 why: fault_of(fault),
                 back: token,
             });
         }
-        // Room for the call's pass: behind the ledger's call nothing is refused.
+        // Room for the call's pass in the *post* of its group, which is what the book has of the group. Once the ledger has made the call nothing is
+        // refused.
         if reserve_at(&mut self.posts, found.group).is_err() {
             return Err(Refused {
                 why: BookFault::Memory,
                 back: token,
             });
         }
-        // A law: it shows the prover that the journal leads to a place that the records spell. Nothing runs.
+        // A law: it shows the prover that the journal leads to a term, which the records describe. Nothing runs.
         stands(&self.ledger);
         match self.ledger.call(inputs, token.slot, found.its, args) {
             Ok(call) => {
@@ -89,8 +93,11 @@ impl<P: Run + Naming> Book<P> {
 
 impl<P: Run + Naming> Book<P> {
     /// Answers the pending call with this `number`, from 1, if the table of sites gives this answer and it is due now. If the answer is a value, a
-    /// token on it is out, with a pass of the call's group; if the call halts, that pass comes back, to be left. Refused as Gone if no call pends
-    /// with the number, as Wrong if the answer isn't due now, as Limit if the journal has as many entries as the limit, else as Memory.
+    /// token on it is out, with a pass to the call's group; if the call halts, the pass that the book held for it comes back, to be left by the
+    /// caller. Refused as Gone if no call pends with the number, as Wrong if the answer isn't due now, as Limit if the journal has as many entries as
+    /// the limit, else as Memory.
+    ///
+    /// In the contract `KeepsWords` says that each word stands for what it did and the same tokens are kept.
     pub fn returned(&mut self, number: u64, answer: Answer) -> Result<Answered<P>, BookFault>
         ensures done { IfOk result (λ a. (c : ItsCall) × Pends self.old.ledger number c × IsAnswered self.old c answer a self.new) }
         ensures stands { KeepsWords self.old self.new }
@@ -101,9 +108,10 @@ impl<P: Run + Naming> Book<P> {
         let Some(call) = self.ledger.pending(number) else {
             return Err(BookFault::Gone);
         };
+        // The number of the call's group, and how many of that group's tokens are out.
         let group = self.ledger.group_of_call(&call);
         let out = out_in(&self.posts, group);
-        // A law: it shows the prover that the journal leads to a place that the records spell. Nothing runs.
+        // A law: it shows the prover that the journal leads to a term, which the records describe. Nothing runs.
         stands(&self.ledger);
         match self.ledger.returned(number, answer) {
             Ok(Some(slot)) => {

@@ -24,8 +24,10 @@ pub enum Next {
 }
 
 impl<P: Run + Naming> Book<P> {
-    /// What comes next in the run, whether its tokens are out or kept. If it is a tick, the tick is made. The faults are Limit, if the journal has
-    /// as many entries as the limit, and Memory; both come of a tick alone.
+    /// What comes next in the run, whether its tokens are out with workers or kept by the book. If it is a tick, the tick is made. The faults are
+    /// Limit, if the journal has as many entries as the limit, and Memory; both come of a tick alone.
+    ///
+    /// In the contract `KeepsWords` says that each word stands for what it did and the same tokens are kept.
     pub fn next(&mut self, inputs: &Inputs<'_, P>) -> Result<Next, BookFault>
         ensures says { IfOk result (λ n. SaysNext P.listing P.sites self.old.ledger n self.new.ledger) }
         ensures posts { self.new.posts ≡ self.old.posts }
@@ -34,7 +36,7 @@ impl<P: Run + Naming> Book<P> {
         ensures why { IfErr result (λ why. IsRefusedNext P.listing self.old.ledger why) }
     {
         let next = self.ledger.next(inputs);
-        // A law: the prover needs what the journal is for the clause *says*. Nothing runs.
+        // A law: it shows the prover that the journal is a run by Orc's rules, which the clause *says* rests on. Nothing runs.
         self.ledger.is_whole();
         match next {
             Comes::Work => Ok(Next::Work),
@@ -46,7 +48,9 @@ impl<P: Run + Naming> Book<P> {
         }
     }
 
-    // Time goes on to `time`, of which the ledger's `next` has said that a tick may set it. The faults are those of `Book::next`.
+    // Time goes on to `time`, in logical units, of which the ledger's `next` has said that a tick may set it. The faults are Limit, if the journal
+    // has as many entries as the limit, and Memory. In the contract `KeepsWords` says that each word stands for what it did and the same tokens are
+    // kept.
     fn tick(&mut self, time: u64) -> Result<(), BookFault>
         requires { MayTick P.listing P.sites self.old.ledger time }
         ensures done { OnOk result (self.new.ledger ≡ record self.old.ledger { journal = self.old.ledger.journal ++ Tick time ∷ []; entries = self.old.ledger.entries + 1; now = time }) }

@@ -14,9 +14,12 @@ use orc_log::Run;
 use orc_word::Naming;
 
 impl<P: Run + Naming> Book<P> {
-    /// Moves a token at `f >x> g`, or at a call of a definition: a token on the left side, or on the body, is out in its place, with its pass.
-    /// Refused as Gone if the token isn't out, as Wrong if it does something else next or if the call's operands don't fit (no checked program has
-    /// such a call), as Full, Limit or Memory if the ledger refuses the entry for that.
+    /// Moves a token at `f >x> g`, or at a call of a definition: a token on the left side, or on the body, is out in its place, with the same pass,
+    /// since it is in the same group. Refused as Gone if the token isn't out with a worker, as Wrong if it does something else next or if the call's
+    /// operands don't fit (no checked program has such a call), as Full, Limit or Memory if the ledger refuses the entry for that.
+    ///
+    /// In the contract `KeepsWords` says that each word stands for what it did and the same tokens are kept, `IsUnkept` that `t` is the token's
+    /// record and the book doesn't keep the token.
     pub fn go_on(
         &mut self,
         inputs: &Inputs<'_, P>,
@@ -43,7 +46,9 @@ impl<P: Run + Naming> Book<P> {
         }
     }
 
-    // What `go_on` does, of a token that was looked up and is at a `>x>` or a call of a definition. `step` calls it too.
+    // What `go_on` does, of a token that was looked up, with the answer `found`, and is at a `>x>` or a call of a definition. `step` calls this
+    // function too. In the contract `KeepsWords` says that each word stands for what it did and the same tokens are kept, `IsUnkept` that `t` is the
+    // token's record and the book doesn't keep the token.
     #[inline(always)]
     pub(crate) fn go_on_found(
         &mut self,
@@ -61,7 +66,7 @@ impl<P: Run + Naming> Book<P> {
         ensures refused { IfErr result (λ r. (self.new ≡ self.old) × (r.back ≡ token)) }
         ensures why { IfErr result (λ r. IsRefusedOn P.listing self.old token r.why) }
     {
-        // A law: it shows the prover that the journal leads to a place that the records spell. Nothing runs.
+        // A law: it shows the prover that the journal leads to a term, which the records describe. Nothing runs.
         stands(&self.ledger);
         match self.ledger.advance(
             inputs,

@@ -35,10 +35,13 @@ pub enum Ended<P: Naming> {
 }
 
 impl<P: Run + Naming> Book<P> {
-    /// Closes the group whose last pass was left, so that its word is free again. If the book holds a pass to the enclosing group for it, that goes
-    /// to the token that starts a right side, if one does, else to `leave`. The program's own group keeps its word. Refused as Gone if the word
-    /// stands for no group that is there, as Live if that group still has members, as Full or Limit if the ledger refuses the entry for that, else
-    /// as Memory. If refused, the records and `leave` are as they were, and `back` is `last`.
+    /// Closes the group of which `last` says that its last pass was left, so that its word, the counter of its passes, is free again. If the book
+    /// holds a pass to the enclosing group for it, that pass goes to the token that starts a right side, if one does, else to `leave`. The program's
+    /// own group keeps its word. Refused as Gone if the word stands for no group that is there, as Live if that group still has members, as Full or
+    /// Limit if the ledger refuses the entry for that, else as Memory. If refused, the records and `leave` are as they were, and `back` is `last`.
+    ///
+    /// In the contract `marks` has, by slots, the serials of the kept tokens, `FreesWord` says which word is free again, and that no other word has
+    /// changed, `GivesUp` that just the passes which the book gives up are in `leave` or with the token that is out.
     pub fn halt(
         &mut self,
         last: Last<P>,
@@ -56,11 +59,12 @@ impl<P: Run + Naming> Book<P> {
     {
         let word = last.group();
         match self.words.kind(word) {
+            // The word stands for no group.
             Kind::Free => Err(Refused {
                 why: BookFault::Gone,
                 back: last,
             }),
-            // A killed group has left the records with the bind, so the ledger isn't asked.
+            // A bind has killed the group and dropped its record, so the ledger isn't asked.
             Kind::Dying => {
                 if leave.try_reserve(1).is_err() {
                     return Err(Refused {
@@ -68,6 +72,7 @@ impl<P: Run + Naming> Book<P> {
                         back: last,
                     });
                 }
+                // The word may hold a pass of the killed group, to the group that enclosed it: `free` gives that.
                 if let Some(pass) = self.words.free(word) {
                     leave.push_reserved(pass);
                 }
@@ -84,6 +89,7 @@ impl<P: Run + Naming> Book<P> {
                     })
                 }
             }
+            // Any other open group, by its number in the ledger.
             Kind::Open(number) => match self.halt_group(number, word, leave) {
                 Ok(ended) => Ok(ended),
                 Err(why) => Err(Refused { why, back: last }),
@@ -91,9 +97,11 @@ impl<P: Run + Naming> Book<P> {
         }
     }
 
-    // Ends the group with this number, which has no members, and frees its word. If it was the left side of an otherwise that has not published, a
-    // token on the right side is out, with the group's pass to the enclosing one. Else that pass is to be left. A fault is one of `halt`, and has
-    // changed nothing.
+    // Ends the group with this `number`, which has no members, and frees its `word`. If the group was the left side of an otherwise that has not
+    // published, a token on the right side is out, with the group's pass to the enclosing one. Else that pass is to be left. A fault is Gone, Live,
+    // Full, Limit or Memory, as `halt` says, and has changed nothing. In the contract `marks` has, by slots, the serials of the kept tokens, `Turns`
+    // says that the word is free and no other word has changed, `GivesUp` that just the passes which the book gives up are in `leave` or with the
+    // token that is out.
     fn halt_group(
         &mut self,
         number: u32,
@@ -116,9 +124,10 @@ impl<P: Run + Naming> Book<P> {
         if leave.try_reserve(1).is_err() {
             return Err(BookFault::Memory);
         }
-        // A law: it shows the prover that the journal leads to a place that the records spell. Nothing runs.
+        // A law: it shows the prover that the journal leads to a term, which the records describe. Nothing runs.
         stands(&self.ledger);
         match self.ledger.halt(number) {
+            // The group was the right side of `cell`, which is lost now. `parent` is the number of the enclosing group.
             Ok(Halted::Lost(cell, parent)) => {
                 // `close` frees the word. That of an open group holds no pass.
                 self.words.close(word);
@@ -129,7 +138,9 @@ impl<P: Run + Naming> Book<P> {
                 leave.push_reserved(pass);
                 Ok(Ended::Lost(cell))
             }
+            // The group was the left side of an otherwise that has published, so it goes without an entry.
             Ok(Halted::Closed(parent)) => {
+                // Frees the group's word.
                 self.words.close(word);
                 // The group was a member of the one that encloses it, so the book holds a pass to that.
                 let Some(pass) = take_at(&mut self.posts, parent) else {
@@ -138,12 +149,15 @@ impl<P: Run + Naming> Book<P> {
                 leave.push_reserved(pass);
                 Ok(Ended::Group)
             }
+            // The group was the left side of an otherwise that has not published: its right side starts.
             Ok(Halted::Resumed(slot)) => {
+                // Frees the group's word.
                 self.words.close(word);
                 // The token on the right side is in this slot, by the ledger's clause.
                 let Some(its) = self.ledger.held(slot) else {
                     unreachable!()
                 };
+                // The number of the enclosing group, and how many of its tokens are out.
                 let group = self.ledger.group_of_token(&its);
                 let out = out_in(&self.posts, group);
                 // For the prover alone: the number of all tokens, the new one too, is a `usize`, and no more are out. So `out + 1` doesn't overflow.

@@ -36,6 +36,7 @@ pub(crate) struct Keeping {
 impl Model for Keeping {
     ghost use Rattle.std.specs.Prelude.{ℕ, List};
 
+    // Contracts see the marks alone: by slots, the serial of the token that is kept there, 0 for none.
     ghost Value = { List ℕ };
 
     ghost view = { λ k. k.kept.items };
@@ -59,7 +60,7 @@ impl Keeping {
         self.links.len()
     }
 
-    // The link with this place; None for place 0, or one past the links.
+    // The link with this place, which counts from 1; None for place 0, or one past the links.
     fn link_at(&self, place: u32) -> Option<Link> {
         if place == 0 {
             return None;
@@ -75,7 +76,8 @@ impl Keeping {
         }
     }
 
-    // Puts a link into a free place, or else behind the others, and gives the place. Refused if the place takes over 32 bits, or if memory is.
+    // Puts a link into a free place, or else behind the others, and gives its place, from 1. Refused if the place takes over 32 bits, or if memory
+    // is.
     fn put(&mut self, link: Link) -> Result<u32, AllocError>
         ensures { self.new ≡ self.old }
     {
@@ -96,7 +98,8 @@ impl Keeping {
         Ok(place as u32)
     }
 
-    // Puts a token that waits for a cell in front of the cell's chain. The error is that of `put` or refused memory; the chain is as it was then.
+    // Puts a token that waits for this cell in front of the cell's chain, the list of the tokens that may wait for it. The error is that of `put` or
+    // refused memory; the chain is as it was then.
     fn add(&mut self, cell: u64, handle: Handle) -> Result<(), AllocError>
         ensures { self.new ≡ self.old }
     {
@@ -108,6 +111,7 @@ impl Keeping {
         if len > self.heads.len() {
             self.heads.resize(len, 0)?;
         }
+        // The new link is the first of the chain, and what was first comes next.
         let next = self.head_at(cell);
         let place = self.put(Link { handle, next })?;
         if let Some(head) = self.heads.get_mut(cell) {
@@ -132,7 +136,7 @@ impl Keeping {
         self.kept.resize(len, 0)
     }
 
-    /// Keeps a token that waits for these cells. If memory is refused, it isn't kept.
+    /// Keeps a token, by its slot and serial, that waits for these cells. If memory is refused, it isn't kept.
     pub(crate) fn keep(&mut self, cells: &[u64], handle: Handle) -> Result<(), AllocError>
         ensures kept { OnOk result (IsMarked self.old handle.slot handle.serial self.new) }
         ensures refused { OnErr result (self.new ≡ self.old) }
@@ -160,7 +164,7 @@ impl Keeping {
         }
     }
 
-    /// Takes the first token out of the chain of this cell; None where the chain is empty. `release` tells whether it is kept still.
+    /// Takes the first token out of the chain of this cell; None where the chain is empty. The token may be kept no more: `release` tells.
     pub(crate) fn pop(&mut self, cell: u64) -> Option<Handle>
         ensures { self.new ≡ self.old }
     {
@@ -170,7 +174,7 @@ impl Keeping {
         if let Some(head) = self.heads.get_mut(cell) {
             *head = link.next;
         }
-        // Its link becomes the first free one. Places count from 1, so the link's index is `place - 1`.
+        // The link that was taken out becomes the first free one. Places count from 1, so the link's index is `place - 1`.
         if let Some(there) = self.links.get_mut(place.saturating_sub(1) as usize) {
             there.next = self.free;
         }

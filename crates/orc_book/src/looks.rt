@@ -28,7 +28,7 @@ use orc_rules::value::Answer;
 use orc_tables::Call;
 use orc_word::Naming;
 
-/// The passes that a move needs at most, beside the token's own.
+/// The passes that a move needs at most, beside the token's own. A *pass* counts one member of a group; an *idle* one names no group yet.
 #[derive(Clone, Copy)]
 pub struct Needs {
     /// How many passes to the token's own group.
@@ -42,16 +42,19 @@ pub fn needs_of(what: Action) -> Needs
     ensures { result ≡ needs_of what }
 {
     match what {
+        // The second token needs a pass to the group.
         Action::Fork => Needs { same: 1, idle: 0 },
+        // The right side's group needs a pass to the token's group, and an idle one to be opened.
         Action::Prune => Needs { same: 1, idle: 1 },
-        // A `>x>` that takes the value needs the idle pass only if it stands in another group.
+        // The left side's group of a `;` is opened by the idle pass. A `>x>` that takes the value needs it only if the `>x>` stands in another group
+        // than the token.
         Action::Other | Action::Send(_) => Needs { same: 0, idle: 1 },
         // The token ends, goes on in its group, publishes, binds, calls or waits: its own pass is enough.
         _ => Needs { same: 0, idle: 0 },
     }
 }
 
-/// What a book knows of a token.
+/// What a book knows of a token. The token's group has a *word*, an atomic counter of the group's passes.
 #[derive(Clone, Copy)]
 pub struct TokenView {
     /// What the token does next.
@@ -63,7 +66,8 @@ pub struct TokenView {
 }
 
 impl<P: Run + Naming> Book<P> {
-    /// What the token with this serial does next, if it is in this slot, kept or out; None if it isn't there. Serials begin with 1.
+    /// What the token with this serial does next, if it is in this slot, kept by the book or out with a worker; None if it isn't there. Serials begin
+    /// with 1.
     pub fn view(&self, inputs: &Inputs<'_, P>, slot: usize, serial: u64) -> Option<TokenView>
         ensures there { IfSome result (λ v. (t : Its) × IsHeld self.now.ledger.slots slot t × (t.serial ≡ serial) × (v.what ≡ what_of (code P.listing) (definitions P.listing) self.now.ledger t) × (v.word ≡ word_at self.now.posts (group_at self.now.ledger.steps t.step)) × (v.needs ≡ needs_of v.what)) }
         ensures gone { IfNone result ((t : Its) → IsHeld self.now.ledger.slots slot t → t.serial ≡ serial → ⊥) }
@@ -92,18 +96,18 @@ impl<P: Run + Naming> Book<P> {
         let _posts = &self.posts;
     }
 
-    /// A law, for the prover alone: each pass that the book holds for a group names the group's word.
+    /// A law, for the prover alone: each pass that the book holds for a group names the word of that group.
     pub fn names(&self)
         ensures { (i : ℕ) → All (λ v. group_of v ≡ Some (word_at self.now.posts i)) (passes_at self.now.posts i) }
     {
-        // The law of each post, one after another. The loop changes nothing.
+        // `Post::names` is the law of one group's passes. The loop changes nothing.
         for post in self.posts.as_slice() {
             post.names();
         }
     }
 
-    /// A law, for the prover alone: the journal is a timed run of Orc's rules. It leads from the program's term to a place that the records spell,
-    /// and nothing is lost of how it may go on.
+    /// A law, for the prover alone: the journal is a timed run of Orc's rules. It leads from the program's term to one that the records describe, and
+    /// the records have lost nothing of how that may go on.
     pub fn is_run(&self)
         ensures whole { IsWhole P.listing P.sites self.now.ledger }
         ensures spelt { Stands P.listing P.sites self.now.ledger }

@@ -24,8 +24,8 @@ pub(crate) struct Found {
 }
 
 impl<P: Run + Naming> Book<P> {
-    /// Looks up a token that may be out: its record is there, its pass names its group's word, the book doesn't keep it, and some token of the group
-    /// is out. Else the fault is Gone.
+    /// Looks up a token that may be out with a worker: its record is there, its pass names its group's word, the book doesn't keep it, and some token
+    /// of the group is out. Else the fault is Gone.
     #[inline(always)]
     pub(crate) fn find(&self, inputs: &Inputs<'_, P>, token: &Token<P>) -> Result<Found, BookFault>
         ensures found { IfOk result (HasFound P.listing self.now token.now) }
@@ -35,6 +35,7 @@ impl<P: Run + Naming> Book<P> {
         if token.serial < 1 {
             return Err(BookFault::Gone);
         }
+        // A token that the book keeps isn't out.
         if self.keeping.serial_at(token.slot) == token.serial {
             return Err(BookFault::Gone);
         }
@@ -42,10 +43,12 @@ impl<P: Run + Naming> Book<P> {
             return Err(BookFault::Gone);
         };
         let group = self.ledger.group_of_token(&its);
-        // A group that has a token has a post; this doesn't depend on a proof of it.
+        // A *post* is what the book has of one group. Each group that has a token has one, but no proof is asked for that: without one the token
+        // counts as gone.
         let Some(post) = self.posts.get(group as usize) else {
             return Err(BookFault::Gone);
         };
+        // How many of the group's tokens are out.
         let out = post.out();
         if out < 1 || token.pass.group() != Some(post.word()) {
             return Err(BookFault::Gone);

@@ -19,8 +19,13 @@ use orc_log::Run;
 use orc_word::{Naming, Pass};
 
 impl<P: Run + Naming> Book<P> {
-    /// Ends a token that is at `stop` or void. Its pass comes back, to be left. Refused as Gone if the token isn't out, as Wrong if it does
-    /// something else next, as Full, Limit or Memory if the ledger refuses the entry for that.
+    /// Ends a token that is at `stop` or void, that is, at a variable, or at a call of a site with an argument, that will never have a value. Its
+    /// pass, by which its group counted it, comes back, to be left by the caller. Refused as Gone if the token isn't out with a worker, as Wrong if
+    /// it does something else next, as Full, Limit or Memory if the ledger refuses the entry for that.
+    ///
+    /// In the contract `KeepsWords` says that each word stands for what it did and the same tokens are kept, `IsUnkept` that `t` is the token's
+    /// record and the book doesn't keep the token, `ChangesOwn` with `LosesOne` that the token's group alone has changed in the book, by one token
+    /// fewer that is out.
     pub fn end(
         &mut self,
         inputs: &Inputs<'_, P>,
@@ -46,7 +51,10 @@ impl<P: Run + Naming> Book<P> {
         }
     }
 
-    // What `end` does, of a token that was looked up and is at `stop` or void. `step` calls it too.
+    // What `end` does, of a token that was looked up, with the answer `found`, and is at `stop` or void. `step` calls this function too. In the
+    // contract `KeepsWords` says that each word stands for what it did and the same tokens are kept, `IsUnkept` that `t` is the token's record and
+    // the book doesn't keep the token, `ChangesOwn` with `LosesOne` that the token's group alone has changed in the book, by one token fewer that is
+    // out.
     #[inline(always)]
     pub(crate) fn end_found(
         &mut self,
@@ -63,8 +71,8 @@ impl<P: Run + Naming> Book<P> {
         ensures refused { IfErr result (λ r. (self.new ≡ self.old) × (r.back ≡ token)) }
         ensures why { IfErr result (λ r. IsRefusedMove P.listing self.old token is_end (IsHindered P.listing self.old.ledger) r.why) }
     {
-        // A law: it shows the prover that the journal leads to a place that the records spell. Nothing runs. What `advance` writes into `scopes` and
-        // `cancelled` isn't read.
+        // A law: it shows the prover that the journal leads to a term, which the records describe. Nothing runs. What `advance` writes into `scopes`
+        // and `cancelled` isn't read.
         stands(&self.ledger);
         match self.ledger.advance(
             inputs,
@@ -74,7 +82,8 @@ impl<P: Run + Naming> Book<P> {
             &mut self.cancelled,
         ) {
             Ok(_gone) => {
-                // The token was out, so `found.out` is 1 at least.
+                // The answer names the token's group, which `found` has. The token was out, so `found.out`, how many of the group were, is 1 at
+                // least.
                 set_out(&mut self.posts, found.group, found.out - 1);
                 Ok(token.pass)
             }
@@ -87,13 +96,14 @@ impl<P: Run + Naming> Book<P> {
 }
 
 impl<P: Run + Naming> Book<P> {
-    // Makes a token for a worker of the record in this slot, with this pass, which names the record's group. By `requires` the slot holds a token.
+    // Makes, for a worker, the token whose record is in this slot. The pass has to name the group of that record. By `requires` the slot holds a
+    // token.
     pub(crate) fn born(&self, slot: usize, pass: Pass<P>) -> Token<P>
         requires held { (t : Its) × IsHeld self.now.ledger.slots slot t × (group_of pass ≡ Some (word_at self.now.posts (group_at self.now.ledger.steps t.step))) }
         ensures token { (t : Its) × IsToken self.now result.slot result.serial result.pass t }
         ensures same { (result.slot ≡ slot) × (result.pass ≡ pass) }
     {
-        // By the clause *held*.
+        // By the clause *held* a token is in the slot.
         let Some(its) = self.ledger.held(slot) else {
             unreachable!()
         };
@@ -104,9 +114,13 @@ impl<P: Run + Naming> Book<P> {
         }
     }
 
-    /// Forks a token at `f | g`: a token on each side is out in its place, the left one with its pass, the right one with `same`, which names its
-    /// group, too. Refused as Gone if the token isn't out, as Wrong if it does something else next, as Full if there are as many tokens and calls as
-    /// there may be, as Limit or Memory if the ledger refuses the entry for that.
+    /// Forks a token at `f | g`: a token on each side is out in its place, the left one with its pass, the right one with `same`, another pass to the
+    /// same group. Refused as Gone if the token isn't out with a worker, as Wrong if it does something else next, as Full if there are as many tokens
+    /// and calls as there may be, as Limit or Memory if the ledger refuses the entry for that.
+    ///
+    /// In the contract `KeepsWords` says that each word stands for what it did and the same tokens are kept, `IsUnkept` that `t` is the token's
+    /// record and the book doesn't keep the token, `ChangesOwn` with `AddsOne` that the token's group alone has changed in the book, by one token
+    /// more that is out.
     pub fn fork(
         &mut self,
         inputs: &Inputs<'_, P>,
@@ -139,7 +153,9 @@ impl<P: Run + Naming> Book<P> {
         }
     }
 
-    // What `fork` does, of a token that was looked up and is at `f | g`. `step` calls it too.
+    // What `fork` does, of a token that was looked up, with the answer `found`, and is at `f | g`. `step` calls this function too. In the contract
+    // `KeepsWords` says that each word stands for what it did and the same tokens are kept, `IsUnkept` that `t` is the token's record and the book
+    // doesn't keep the token, `ChangesOwn` with `AddsOne` that the token's group alone has changed in the book, by one token more that is out.
     #[inline(always)]
     pub(crate) fn fork_found(
         &mut self,
@@ -159,7 +175,7 @@ impl<P: Run + Naming> Book<P> {
         ensures refused { IfErr result (λ r. (self.new ≡ self.old) × (r.back.0 ≡ token) × (r.back.1 ≡ same)) }
         ensures why { IfErr result (λ r. IsRefusedMove P.listing self.old token is_fork (IsHindered P.listing self.old.ledger) r.why) }
     {
-        // A law: it shows the prover that the journal leads to a place that the records spell. Nothing runs.
+        // A law: it shows the prover that the journal leads to a term, which the records describe. Nothing runs.
         stands(&self.ledger);
         match self.ledger.advance(
             inputs,
@@ -169,7 +185,8 @@ impl<P: Run + Naming> Book<P> {
             &mut self.cancelled,
         ) {
             Ok(Moved::Forked(other)) => {
-                // For the prover alone: the number of all tokens, the new one too, is a `usize`, and no more are out. So `out + 1` doesn't overflow.
+                // `other` is the slot of the right side's token. For the prover alone: the number of all tokens, the new one too, is a `usize`, and
+                // no more are out. So `out + 1` doesn't overflow.
                 let _tokens = self.ledger.token_count();
                 set_out(&mut self.posts, found.group, found.out + 1);
                 let one = self.born(token.slot, token.pass);
@@ -187,8 +204,13 @@ impl<P: Run + Naming> Book<P> {
 }
 
 impl<P: Run + Naming> Book<P> {
-    /// Makes a publication of the program: nothing around the token takes its value. The token's pass comes back, to be left. Refused as Gone if the
-    /// token isn't out, as Wrong if it does something else next, as Full, Limit or Memory if the ledger refuses the entry for that.
+    /// Makes a publication of the program: nothing around the token takes its value. The token's pass, by which its group counted it, comes back, to
+    /// be left by the caller. Refused as Gone if the token isn't out with a worker, as Wrong if it does something else next, as Full, Limit or Memory
+    /// if the ledger refuses the entry for that.
+    ///
+    /// In the contract `KeepsWords` says that each word stands for what it did and the same tokens are kept, `IsUnkept` that `t` is the token's
+    /// record and the book doesn't keep the token, `ChangesOwn` with `LosesOne` that the token's group alone has changed in the book, by one token
+    /// fewer that is out.
     pub fn publish(
         &mut self,
         inputs: &Inputs<'_, P>,
@@ -205,10 +227,12 @@ impl<P: Run + Naming> Book<P> {
             Ok(found) => found,
             Err(why) => return Err(Refused { why, back: token }),
         };
+        // The value isn't used here: `advance`, below, finds it by itself.
         let Action::Publish(_value) = found.what else {
             let why = BookFault::Wrong;
             return Err(Refused { why, back: token });
         };
+        // What `advance` writes into `scopes` and `cancelled` isn't read.
         match self.ledger.advance(
             inputs,
             token.slot,
@@ -217,7 +241,8 @@ impl<P: Run + Naming> Book<P> {
             &mut self.cancelled,
         ) {
             Ok(_gone) => {
-                // The token is gone. It was out, so `found.out` is 1 at least.
+                // The answer names the token's group, which `found` has. The token was out, so `found.out`, how many of the group were, is 1 at
+                // least.
                 set_out(&mut self.posts, found.group, found.out - 1);
                 Ok(token.pass)
             }

@@ -18,15 +18,15 @@ use orc_ledger::{Action, Inputs, Moved, stands};
 use orc_log::Run;
 use orc_word::{Groups, Naming, Pass};
 
-/// A word that was free, and the pass that opened it and names it.
+/// The number of a word that was free, and the pass that opened it and names it. A *word* is an atomic counter of a group's passes.
 #[derive(Drop)]
 struct Opened<P: Naming> {
     word: u32,
     pass: Pass<P>,
 }
 
-// Lets an idle pass open a word that is free in the book. The fault is that of `WordTable::next` if no word is, and Live if a pass still names the
-// word.
+// Lets an idle pass, one that names no group, open a word that is free in the book. The fault is Full or Memory if no word is free, as
+// `WordTable::next` says, and Live if a pass still names the word.
 fn open_word<P: Naming>(
     words: &WordTable<P>,
     groups: &Groups<P>,
@@ -43,6 +43,7 @@ fn open_word<P: Naming>(
         Ok(word) => word,
         Err(why) => return Err(Refused { why, back: idle }),
     };
+    // `groups`, the shared words, refuse if a pass still names this one.
     match groups.open(idle, word) {
         Ok(pass) => Ok(Opened { word, pass }),
         Err(back) => Err(Refused {
@@ -57,6 +58,9 @@ impl<P: Run + Naming> Book<P> {
     /// one has `idle`, which opens the new group's word. For the new group the book holds `same`, which names the token's group. Refused as Gone if
     /// the token isn't out, as Wrong if it does something else next, as Full or Limit if the ledger is at such a limit, as Full also if no word is
     /// free, as Live if the free word is still named, else as Memory.
+    ///
+    /// In the contract `IsOut` says that a token's record is there, `OpensWord` that a word which was free stands for the new group and no other word
+    /// has changed, `HasStayed` that nothing has changed but room for passes.
     pub fn prune(
         &mut self,
         groups: &Groups<P>,
@@ -91,7 +95,9 @@ impl<P: Run + Naming> Book<P> {
         }
     }
 
-    // What `prune` does, of a token that was looked up and is at `f <x< g`. `step` calls it too.
+    // What `prune` does, of a token that was looked up, with the answer `found`, and is at `f <x< g`. `step` calls this function too. In the contract
+    // `IsOut` says that a token's record is there, `OpensWord` that a word which was free stands for the new group and no other word has changed,
+    // `HasStayed` that nothing has changed but room for passes.
     pub(crate) fn prune_found(
         &mut self,
         groups: &Groups<P>,
@@ -121,7 +127,7 @@ impl<P: Run + Naming> Book<P> {
                 back,
             });
         }
-        // Memory for the new group's post, and for the pass that the book is to hold for the group.
+        // Memory for the new group's *post*, which is what the book has of the group, and for the pass that the book is to hold for the group.
         if reserve_opening(&mut self.posts, found.group).is_err() {
             let back = (token, same, idle);
             return Err(Refused {
@@ -129,6 +135,7 @@ impl<P: Run + Naming> Book<P> {
                 back,
             });
         }
+        // The idle pass opens a free word for the new group.
         let opened = match open_word(&self.words, groups, idle) {
             Ok(opened) => opened,
             Err(refused) => {
@@ -139,8 +146,8 @@ impl<P: Run + Naming> Book<P> {
                 });
             }
         };
-        // A law: it shows the prover that the journal leads to a place that the records spell. Nothing runs. What `advance` writes into `scopes` and
-        // `cancelled` isn't read.
+        // A law: it shows the prover that the journal leads to a term, which the records describe. Nothing runs. What `advance` writes into `scopes`
+        // and `cancelled` isn't read.
         stands(&self.ledger);
         match self.ledger.advance(
             inputs,
@@ -161,6 +168,7 @@ impl<P: Run + Naming> Book<P> {
                 grow_to(self.alloc, &mut self.posts, number);
                 put_at(&mut self.posts, found.group, same);
                 raise_at(&mut self.posts, number, opened.word, found.group);
+                // The opened word stands for the new group from here on.
                 self.words.open(number);
                 let one = self.born(token.slot, token.pass);
                 let two = self.born(other, opened.pass);
@@ -169,7 +177,8 @@ impl<P: Run + Naming> Book<P> {
             // A move at `f <x< g` has no other outcome.
             Ok(_) => unreachable!(),
             Err(fault) => {
-                // The word is free in the book still: nothing is to be closed, and `left.last` is dropped. `left.pass` is idle again.
+                // The opened pass is left, and is idle again as `left.pass`. The word is free in the book still: nothing is to be closed, and
+                // `left.last` is dropped.
                 let left = groups.leave(opened.pass);
                 Err(Refused {
                     why: fault_of(fault),
@@ -182,6 +191,9 @@ impl<P: Run + Naming> Book<P> {
     /// Enters the otherwise at which this token is, `f ; g`: a token on the left side is out in its place, with `idle`, which opens the new group's
     /// word. For the new group the book holds the token's pass. Refused as Gone if the token isn't out, as Wrong if it does something else next, as
     /// Full or Limit if the ledger is at such a limit, as Full also if no word is free, as Live if the free word is still named, else as Memory.
+    ///
+    /// In the contract `IsOut` says that a token's record is there, `OpensWord` that a word which was free stands for the new group and no other word
+    /// has changed, `HasStayed` that nothing has changed but room for passes.
     pub fn other(
         &mut self,
         groups: &Groups<P>,
@@ -214,7 +226,9 @@ impl<P: Run + Naming> Book<P> {
         }
     }
 
-    // What `other` does, of a token that was looked up and is at `f ; g`. `step` calls it too.
+    // What `other` does, of a token that was looked up, with the answer `found`, and is at `f ; g`. `step` calls this function too. In the contract
+    // `IsOut` says that a token's record is there, `OpensWord` that a word which was free stands for the new group and no other word has changed,
+    // `HasStayed` that nothing has changed but room for passes.
     pub(crate) fn other_found(
         &mut self,
         groups: &Groups<P>,
@@ -241,7 +255,7 @@ impl<P: Run + Naming> Book<P> {
                 back,
             });
         }
-        // Memory for the new group's post, and for the pass that the book is to hold for the group.
+        // Memory for the new group's *post*, which is what the book has of the group, and for the pass that the book is to hold for the group.
         if reserve_opening(&mut self.posts, found.group).is_err() {
             let back = (token, idle);
             return Err(Refused {
@@ -249,6 +263,7 @@ impl<P: Run + Naming> Book<P> {
                 back,
             });
         }
+        // The idle pass opens a free word for the new group.
         let opened = match open_word(&self.words, groups, idle) {
             Ok(opened) => opened,
             Err(refused) => {
@@ -259,8 +274,8 @@ impl<P: Run + Naming> Book<P> {
                 });
             }
         };
-        // A law: it shows the prover that the journal leads to a place that the records spell. Nothing runs. What `advance` writes into `scopes` and
-        // `cancelled` isn't read.
+        // A law: it shows the prover that the journal leads to a term, which the records describe. Nothing runs. What `advance` writes into `scopes`
+        // and `cancelled` isn't read.
         stands(&self.ledger);
         match self.ledger.advance(
             inputs,
@@ -281,12 +296,14 @@ impl<P: Run + Naming> Book<P> {
                 bring_at(&mut self.posts, found.group, found.out - 1, token.pass);
                 // The new group's post gets its word, and notes that one token is out.
                 raise_at(&mut self.posts, number, opened.word, found.group);
+                // The opened word stands for the new group from here on.
                 self.words.open(number);
                 Ok(self.born(token.slot, opened.pass))
             }
             // A move at `f ; g` has no other outcome.
             Ok(_) => unreachable!(),
-            // The word is free in the book still: nothing is to be closed, and `left.last` is dropped. `left.pass` is idle again.
+            // The opened pass is left, and is idle again as `left.pass`. The word is free in the book still: nothing is to be closed, and `left.last`
+            // is dropped.
             Err(fault) => {
                 let left = groups.leave(opened.pass);
                 Err(Refused {

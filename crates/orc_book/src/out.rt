@@ -7,7 +7,7 @@ use crate::token::Token;
 use orc_word::{Naming, Pass};
 use std::alloc::{AllocError, Global};
 
-/// Passes that a worker lends for the records that a step makes. What the step doesn't use stays here.
+/// Passes that a worker lends for the records that a step makes; a *pass* counts one member of a group. What the step doesn't use stays here.
 #[derive(Drop)]
 pub struct Births<P: Naming> {
     /// Passes to the group of the token that moves; the last one is used first.
@@ -20,7 +20,7 @@ pub struct Births<P: Naming> {
 pub struct StepOut<P: Naming> {
     /// Tokens that have come out, for the worker to move.
     pub born: Vec<Token<P>>,
-    /// Passes to be left, once the book's lock is given up.
+    /// Passes to be left, that is, no longer counted, once the book's lock is given up.
     pub leave: Vec<Pass<P>>,
     /// The numbers of calls that were cancelled.
     pub cancelled: Vec<u64>,

@@ -11,8 +11,9 @@ use std::alloc::Global;
 use std::sync::{Mutex, Wait};
 use std::thread::{Threads, join};
 
-// Leaves a pass, if it names a group: that needs no lock. If it was the group's last, closes the group, which may add a pass to `more`. True if it
-// closed one; false if the pass named no group, wasn't the last, or the book refused to close the group.
+// Leaves a pass, if it names a group: the group's word, an atomic counter, counts it no more, which needs no lock. If the pass was the group's last,
+// closes the group, which may add a pass to `more`. True if it closed one; false if the pass named no group, wasn't the last, or the book refused to
+// close the group.
 fn leave_one<P: Run + Naming, R: Wait>(
     rt: &R,
     groups: &Groups<P>,
@@ -30,8 +31,8 @@ fn leave_one<P: Run + Naming, R: Wait>(
     }
 }
 
-// Closes the group whose last pass was left. Its pass to the group that encloses it is added to `more`. False if the book refuses: then `last` is
-// dropped, and the group's word is never free again.
+// Closes the group whose last pass was left. The group's pass to the one that encloses it is added to `more`. False if the book refuses: then `last`
+// is dropped, and the group's word is never free again.
 fn close<P: Run + Naming, R: Wait>(
     rt: &R,
     book: &Mutex<Book<P>>,
@@ -41,8 +42,8 @@ fn close<P: Run + Naming, R: Wait>(
     book.lock(rt).halt(last, more).is_ok()
 }
 
-// Binds under the lock, and leaves the passes outside it. False if the book refuses the bind: then the token is dropped, and its pass counts for
-// good.
+// Binds the cell that takes the token's value under the book's lock, and leaves the passes that come of it outside the lock. False if the book
+// refuses the bind: then the token is dropped, and its pass counts for good.
 fn bind_one<P: Run + Naming, R: Wait>(
     rt: &R,
     alloc: Global,
@@ -51,6 +52,7 @@ fn bind_one<P: Run + Naming, R: Wait>(
     book: &Mutex<Book<P>>,
     token: Token<P>,
 ) -> bool {
+    // The passes that the bind adds, to be left, and the numbers of the calls that it cancels, which nobody reads here.
     let mut leave = Vec::new(alloc);
     let mut cancelled = Vec::new(alloc);
     let bound = book

@@ -13,10 +13,10 @@ use orc_word::{Groups, Naming, Pass};
 use std::alloc::{AllocError, Global};
 use std::marker::Model;
 
-/// What a book has of one group.
+/// A *post*: what a book has of one group.
 #[derive(Drop)]
 pub(crate) struct Post<J: Naming> {
-    // The number of its word.
+    // The number of its word, which is the atomic counter of its passes.
     word: u32,
     // The ledger's number of the group that encloses it.
     parent: u32,
@@ -33,15 +33,17 @@ impl<J: Naming> Model for Post<J> {
     ghost use Rattle.orc_word.specs.Views.{group_of};
     ghost use Rattle.orc_book.specs.Held.{Hold};
 
+    // Contracts see a post as `Hold`; its `room` is for how many passes more the list has memory.
     ghost Value = { Hold };
 
     ghost view = { λ p. record { word = p.word; passes = p.passes.items; room = vec_capacity p.passes - vec_len p.passes; kept = p.kept; out = p.out } };
 
+    // Each pass names the group's word.
     ghost invariant = { λ p. All (λ v. group_of v ≡ Some p.word) p.passes.items };
 }
 
 impl<J: Naming> Post<J> {
-    /// The post of a group whose word has this number, with no passes and no tokens.
+    /// The post of a group whose word has this number, with no passes and no tokens. `parent` is the ledger's number of the group that encloses it.
     pub(crate) fn new(alloc: Global, word: u32, parent: u32) -> Post<J>
         ensures { (result.word ≡ word) × (result.passes ≡ []) × (result.kept ≡ 0) × (result.out ≡ 0) }
     {
@@ -66,7 +68,8 @@ impl<J: Naming> Post<J> {
         self.parent
     }
 
-    /// Makes this the post of a new group: sets its word and its parent's number, and notes that one token of the group is out.
+    /// Makes this post, which has to have no passes, that of a new group: sets its word and its parent's number, and notes that one token of the
+    /// group is out.
     pub(crate) fn raise(&mut self, word: u32, parent: u32)
         requires { length self.old.passes ≡ 0 }
         ensures { (self.new.word ≡ word) × (self.new.passes ≡ self.old.passes) × (self.new.kept ≡ self.old.kept) × (self.new.out ≡ 1) }
@@ -91,35 +94,35 @@ impl<J: Naming> Post<J> {
         self.passes.len()
     }
 
-    /// How many tokens are kept.
+    /// How many of the group's tokens the book keeps while they wait.
     pub(crate) fn kept(&self) -> usize
         ensures { result ≡ self.now.kept }
     {
         self.kept
     }
 
-    /// How many tokens are out.
+    /// How many of the group's tokens are out with workers.
     pub(crate) fn out(&self) -> usize
         ensures { result ≡ self.now.out }
     {
         self.out
     }
 
-    /// Sets how many tokens are out.
+    /// Sets how many of the group's tokens are out with workers.
     pub(crate) fn set_out(&mut self, out: usize)
         ensures { self.new ≡ record self.old { out = out } }
     {
         self.out = out;
     }
 
-    /// Sets how many tokens are kept.
+    /// Sets how many of the group's tokens the book keeps while they wait.
     pub(crate) fn set_kept(&mut self, kept: usize)
         ensures { self.new ≡ record self.old { kept = kept } }
     {
         self.kept = kept;
     }
 
-    /// Takes out the last pass, if one is held.
+    /// Takes out the last pass; None if no pass is held.
     pub(crate) fn take(&mut self) -> Option<Pass<J>>
         ensures rest { (self.new.word ≡ self.old.word) × (self.new.kept ≡ self.old.kept) × (self.new.out ≡ self.old.out) }
         ensures pass { MatchOption result ((length self.old.passes ≡ 0) × (length self.new.passes ≡ 0)) (λ pass. (group_of pass ≡ Some self.old.word) × (length self.old.passes ≡ length self.new.passes + 1) × (self.old.passes ≡ self.new.passes ++ pass ∷ [])) }
@@ -139,7 +142,7 @@ impl<J: Naming> Post<J> {
     }
 
     /// Fits the post to its group, which has `members` left: moves passes to `leave` until those that stay and the tokens that are out are as many.
-    /// Of a group without members no token is kept or out.
+    /// By `requires` they are that many at least. Of a group without members no token is kept or out.
     pub(crate) fn settle(&mut self, members: usize, leave: &mut Vec<Pass<J>>)
         requires enough { members ≤ length self.old.passes + self.old.out }
         requires out { 1 ≤ members → self.old.out ≤ members }
@@ -156,12 +159,12 @@ impl<J: Naming> Post<J> {
             self.kept = 0;
             self.out = 0;
         }
-        // By the clause *out* no more tokens are out than there are members.
+        // By the clause *out* no more tokens are out than there are members. Each other member has its pass here.
         let wanted = members - self.out;
         self.give_up(wanted, leave);
     }
 
-    // Moves passes to `leave`, which has room for them, until so many are held.
+    // Moves passes to `leave`, which has room for them, until `wanted` are held.
     fn give_up(&mut self, wanted: usize, leave: &mut Vec<Pass<J>>)
         requires enough { wanted ≤ length self.old.passes }
         requires room { vec_len leave.old + length self.old.passes ≤ vec_capacity leave.old }
@@ -171,7 +174,7 @@ impl<J: Naming> Post<J> {
         ensures given { GivesUp leave.old.items leave.new.items (λ f. weight f self.old.passes) (λ f. weight f self.new.passes) }
         ensures capacity { vec_capacity leave.new ≡ vec_capacity leave.old }
     {
-        // Each round takes out a pass, so the loop ends.
+        // Each round takes out a pass, so the loop ends. There is one, since more than `wanted` are held.
         while self.passes.len() > wanted {
             let Some(pass) = self.passes.pop() else {
                 unreachable!()
@@ -199,7 +202,7 @@ impl<J: Naming> Post<J> {
     }
 }
 
-/// Sets how many tokens of a group are out.
+/// Sets how many tokens of the group with this `number` are out. Its post is there, by `requires`. No other post changes (`Becomes`).
 pub(crate) fn set_out<J: Naming>(posts: &mut Vec<Post<J>>, number: u32, out: usize)
     requires there { number < length posts.old.items }
     ensures { (p : Hold) × Becomes posts.old.items number p (record p { out = out }) posts.new.items }
@@ -209,7 +212,8 @@ pub(crate) fn set_out<J: Naming>(posts: &mut Vec<Post<J>>, number: u32, out: usi
     }
 }
 
-/// Fits a group's post to so many members, as `Post::settle` does: the passes that are too many go to `leave`.
+/// Fits the post of the group with this `number` to so many members, as `Post::settle` does: the passes that are too many for them go to `leave`. No
+/// other post changes (`Becomes`).
 pub(crate) fn settle_at<J: Naming>(
     posts: &mut Vec<Post<J>>,
     number: u32,
@@ -228,8 +232,8 @@ pub(crate) fn settle_at<J: Naming>(
     }
 }
 
-/// Whether a group has members, and the passes held and the tokens out are together as many: `settle_at` would change nothing then. False if there is
-/// no post.
+/// Whether the group with this `number` has members, and the passes held and the tokens out are together as many: `settle_at` would change nothing
+/// then. False if there is no post.
 #[inline(always)]
 pub(crate) fn is_settled_at<J: Naming>(posts: &Vec<Post<J>>, number: u32, members: usize) -> bool
     ensures { result ≡ true → (1 ≤ members) × (held_at posts.now.items number + out_at posts.now.items number ≡ members) }
@@ -242,7 +246,7 @@ pub(crate) fn is_settled_at<J: Naming>(posts: &Vec<Post<J>>, number: u32, member
     }
 }
 
-/// Makes room in a group's post for one pass more. The error is refused memory.
+/// Makes room for one pass more in the post of the group with this `number`. The error is refused memory. No other post changes (`Changes`).
 pub(crate) fn reserve_at<J: Naming>(posts: &mut Vec<Post<J>>, number: u32) -> Result<(), AllocError>
     requires there { number < length posts.old.items }
     ensures same { Changes posts.old.items number posts.new.items Same }
@@ -250,11 +254,12 @@ pub(crate) fn reserve_at<J: Naming>(posts: &mut Vec<Post<J>>, number: u32) -> Re
 {
     match posts.get_mut(number as usize) {
         Some(post) => post.reserve(),
+        // Never: by `requires` the post is there.
         None => Ok(()),
     }
 }
 
-/// Puts a pass into a group's post, which has room for it.
+/// Puts a pass into the post of the group with this `number`, which is there and has room for it. No other post changes (`Changes`).
 pub(crate) fn put_at<J: Naming>(posts: &mut Vec<Post<J>>, number: u32, pass: Pass<J>)
     requires there { number < length posts.old.items }
     requires room { 1 ≤ room_at posts.old.items number }
@@ -266,7 +271,7 @@ pub(crate) fn put_at<J: Naming>(posts: &mut Vec<Post<J>>, number: u32, pass: Pas
     }
 }
 
-/// Takes a pass out of a group's post. None if there is no post or it holds none.
+/// Takes a pass out of the post of the group with this `number`. None if there is no post or it holds none. No other post changes (`Changes`).
 pub(crate) fn take_at<J: Naming>(posts: &mut Vec<Post<J>>, number: u32) -> Option<Pass<J>>
     ensures fewer { MatchOption result (held_at posts.old.items number ≡ 0) (λ pass. (group_of pass ≡ Some (word_at posts.old.items number)) × Changes posts.old.items number posts.new.items (TakesOne pass)) }
 {
@@ -277,7 +282,7 @@ pub(crate) fn take_at<J: Naming>(posts: &mut Vec<Post<J>>, number: u32) -> Optio
 }
 
 /// For a token that was out and becomes a pending call or a group: puts its pass into the post of the group with this `number`, and sets how many of
-/// the group's tokens are out.
+/// the group's tokens are out. No other post changes (`Changes`).
 pub(crate) fn bring_at<J: Naming>(posts: &mut Vec<Post<J>>, number: u32, out: usize, pass: Pass<J>)
     requires there { number < length posts.old.items }
     requires room { 1 ≤ room_at posts.old.items number }
@@ -291,7 +296,7 @@ pub(crate) fn bring_at<J: Naming>(posts: &mut Vec<Post<J>>, number: u32, out: us
 }
 
 /// For a token that was out and is kept from here on: puts its pass into the post of the group with this `number`, and sets how many of the group's
-/// tokens are out and how many are kept.
+/// tokens are out and how many are kept. No other post changes (`Changes`).
 pub(crate) fn keep_at<J: Naming>(
     posts: &mut Vec<Post<J>>,
     number: u32,
@@ -312,7 +317,7 @@ pub(crate) fn keep_at<J: Naming>(
 }
 
 /// For a token that comes in the place of a call or a group: takes the record's pass out of the post of the group with this `number`, and sets how
-/// many of the group's tokens are out. None, and nothing changes, if no pass is held.
+/// many of the group's tokens are out. None, and nothing changes, if no pass is held. No other post changes (`Changes`).
 pub(crate) fn send_at<J: Naming>(
     posts: &mut Vec<Post<J>>,
     number: u32,
@@ -331,7 +336,8 @@ pub(crate) fn send_at<J: Naming>(
 }
 
 /// For a token that comes into the group with this `number` without a pass to it: lets the idle pass enter the group, beside one that the post holds,
-/// and sets how many of the group's tokens are out. If the post holds no pass, nothing changes, and the idle one comes back.
+/// and sets how many of the group's tokens are out. If the post holds no pass, nothing changes, and the idle one comes back. No other post changes
+/// (`Changes`).
 pub(crate) fn enter_at<J: Naming>(
     groups: &Groups<J>,
     posts: &mut Vec<Post<J>>,
@@ -342,6 +348,7 @@ pub(crate) fn enter_at<J: Naming>(
     requires { group_of idle ≡ None }
     ensures { MatchResult result (λ pass. (group_of pass ≡ Some (word_at posts.old.items number)) × Changes posts.old.items number posts.new.items (λ p q. (q.passes ≡ p.passes) × (q.kept ≡ p.kept) × (q.out ≡ out))) (λ back. (back ≡ idle) × (held_at posts.old.items number ≡ 0)) }
 {
+    // Without a post no pass is held.
     let Some(post) = posts.get_mut(number as usize) else {
         return Err(idle);
     };
@@ -355,7 +362,7 @@ pub(crate) fn enter_at<J: Naming>(
 }
 
 /// For a token that was kept and goes out: takes a pass out of the post of the group with this `number`, and sets how many of the group's tokens are
-/// out and kept. None, and nothing changes, if no pass is held.
+/// out and kept. None, and nothing changes, if no pass is held. No other post changes (`Changes`).
 pub(crate) fn wake_at<J: Naming>(
     posts: &mut Vec<Post<J>>,
     number: u32,
@@ -380,7 +387,7 @@ pub(crate) fn wake_at<J: Naming>(
     Some(pass)
 }
 
-/// How many tokens of a group are kept; 0 if it has no post.
+/// How many tokens of the group with this `number` the book keeps; 0 if the group has no post.
 pub(crate) fn kept_in<J: Naming>(posts: &Vec<Post<J>>, number: u32) -> usize
     ensures { result ≡ kept_at posts.now.items number }
 {
@@ -390,7 +397,7 @@ pub(crate) fn kept_in<J: Naming>(posts: &Vec<Post<J>>, number: u32) -> usize
     }
 }
 
-/// How many tokens of a group are out; 0 if it has no post.
+/// How many tokens of the group with this `number` are out with workers; 0 if the group has no post.
 pub(crate) fn out_in<J: Naming>(posts: &Vec<Post<J>>, number: u32) -> usize
     ensures out { result ≡ out_at posts.now.items number }
     ensures there { 1 ≤ result → number < length posts.now.items }
@@ -401,8 +408,8 @@ pub(crate) fn out_in<J: Naming>(posts: &Vec<Post<J>>, number: u32) -> usize
     }
 }
 
-/// Takes a pass out of a group's post, if one is held and the passes there and the tokens that are out are together more than `members`, how many
-/// members the group has. Else None.
+/// Takes a pass out of the post of the group with this `number`, if one is held and the passes there and the tokens that are out are together more
+/// than `members`, how many members the group has. Else None, and nothing changes. No other post changes (`Changes`).
 pub(crate) fn spare_at<J: Naming>(
     posts: &mut Vec<Post<J>>,
     number: u32,
@@ -420,7 +427,7 @@ pub(crate) fn spare_at<J: Naming>(
     }
 }
 
-/// How many passes of a group are held; 0 if it has no post.
+/// How many passes to the group with this `number` the book holds; 0 if the group has no post.
 pub(crate) fn held_in<J: Naming>(posts: &Vec<Post<J>>, number: u32) -> usize
     ensures { result ≡ held_at posts.now.items number }
 {
@@ -430,7 +437,7 @@ pub(crate) fn held_in<J: Naming>(posts: &Vec<Post<J>>, number: u32) -> usize
     }
 }
 
-/// The number of the group that encloses a group, as its post was told last; 0, which is the program's own, if it has no post.
+/// The number of the group that encloses the one with this `number`, as its post was told last; 0, which is the program's own, if it has no post.
 pub(crate) fn parent_in<J: Naming>(posts: &Vec<Post<J>>, number: u32) -> u32 {
     match posts.get(number as usize) {
         Some(post) => post.parent(),
@@ -438,7 +445,7 @@ pub(crate) fn parent_in<J: Naming>(posts: &Vec<Post<J>>, number: u32) -> u32 {
     }
 }
 
-/// The number of a group's word; 0, which is that of the program's own, if it has no post.
+/// The number of the word of the group with this `number`; 0, which is that of the program's own group, if it has no post.
 pub(crate) fn word_in<J: Naming>(posts: &Vec<Post<J>>, number: u32) -> u32
     ensures { result ≡ word_at posts.now.items number }
 {
@@ -458,8 +465,8 @@ pub(crate) fn first_posts<J: Naming>(alloc: Global) -> Result<Vec<Post<J>>, Allo
     Ok(posts)
 }
 
-/// Makes room for one pass more of a group, and for the posts of as many groups as there may be. So `grow_to` never asks for memory. The error is
-/// refused memory.
+/// Makes room for one pass more of the group with this `number`, and for the posts of as many groups as there may be. So `grow_to` never asks for
+/// memory. The error is refused memory.
 pub(crate) fn reserve_opening<J: Naming>(
     posts: &mut Vec<Post<J>>,
     number: u32,
@@ -491,7 +498,8 @@ pub(crate) fn grow_to<J: Naming>(alloc: Global, posts: &mut Vec<Post<J>>, number
     }
 }
 
-/// Makes the post with this number that of a new group: sets its word and its parent's number, and notes that one token of the group is out.
+/// Makes the post with this number that of a new group: sets its word and its parent's number, and notes that one token of the group is out. No other
+/// post changes (`Becomes`).
 pub(crate) fn raise_at<J: Naming>(posts: &mut Vec<Post<J>>, number: u32, word: u32, parent: u32)
     requires there { number < length posts.old.items }
     requires empty { held_at posts.old.items number ≡ 0 }

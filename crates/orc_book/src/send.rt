@@ -29,9 +29,9 @@ pub(crate) struct Fed {
     pub name: u32,
     /// The node of the right side.
     pub right: u32,
-    /// The ledger's number of the scope in which the right side is read.
+    /// The ledger's number of the scope in which the right side is read: it says what each variable means there.
     pub scope: usize,
-    /// The ledger's number of the step that encloses the `>x>`.
+    /// The ledger's number of the step that encloses the `>x>`. A *step* enters the left side of a `>x>` or a `;`, or the right side of a `<x<`.
     pub outer: usize,
 }
 
@@ -57,9 +57,10 @@ impl<P: Run + Naming> Book<P> {
     }
 
     // Publishes the token's value into the `>x>` that takes it: a token on a copy of the right side is out in its place, and is added to `out`, which
-    // has room for it. If the `>x>` is in another group, an idle pass of `births` enters that group for the new token, and the old token's own pass
-    // is added to `out.leave`. Refused as Short if it needs an idle pass and the last of `births` names a group or there is none, else as the ledger
-    // refuses the entry.
+    // has room for it. If the `>x>` is in another group, an idle pass of `births` (it names no group yet) enters that group for the new token, and
+    // the old token's own pass is added to `out.leave`. Refused as Short if it needs an idle pass and the last of `births` names a group or there is
+    // none, else as Full, Limit or Memory, as the ledger refuses the entry. In the contract `HasStepped` says that the token has taken its action,
+    // and that the tokens which come of it are in `out.born`; `KeepsWords` says that each word stands for what it did and the same tokens are kept.
     pub(crate) fn send(
         &mut self,
         groups: &Groups<P>,
@@ -93,7 +94,9 @@ impl<P: Run + Naming> Book<P> {
         }
     }
 
-    // What `send` does where the `>x>` stands in the token's group: the token's pass stays with it.
+    // What `send` does where the `>x>` stands in the token's group: the new token has the token's slot and pass. `fed` is the value, and that `>x>`.
+    // In the contract `HasStepped` says that the token has taken its action, and that the tokens which come of it are in `out.born`; `KeepsWords`
+    // says that each word stands for what it did and the same tokens are kept.
     fn send_within(
         &mut self,
         token: Token<P>,
@@ -114,7 +117,7 @@ impl<P: Run + Naming> Book<P> {
         ensures refused { IfErr result (λ r. (self.new ≡ self.old) × (r.back ≡ token) × (out.new.born ≡ out.old.born)) }
         ensures why { (same : List View) → (idle : List View) → IfErr result (λ r. IsRefusedStep P.listing self.old token same idle r.why) }
     {
-        // A law: it shows the prover that the journal leads to a place that the records spell. Nothing runs.
+        // A law: it shows the prover that the journal leads to a term, which the records describe. Nothing runs.
         stands(&self.ledger);
         match self.ledger.send(
             token.slot, found.its, fed.value, fed.name, fed.right, fed.scope, fed.outer,
@@ -131,7 +134,9 @@ impl<P: Run + Naming> Book<P> {
         }
     }
 
-    // What `send` does where the `>x>` stands in another group, `round`: the token goes over to that with an idle pass, and its own is to be left.
+    // What `send` does where the `>x>` of `fed` stands in another group, `round`: the new token has the token's slot and an idle pass that enters
+    // `round`. The token's own pass is to be left. In the contract `HasStepped` says that the token has taken its action, and that the tokens which
+    // come of it are in `out.born`; `KeepsWords` says that each word stands for what it did and the same tokens are kept.
     fn send_across(
         &mut self,
         groups: &Groups<P>,
@@ -162,7 +167,7 @@ impl<P: Run + Naming> Book<P> {
             let why = BookFault::Short;
             return Err(Refused { why, back: token });
         };
-        // A law: it shows the prover that the journal leads to a place that the records spell. Nothing runs.
+        // A law: it shows the prover that the journal leads to a term, which the records describe. Nothing runs.
         stands(&self.ledger);
         match self.ledger.send(
             token.slot, found.its, fed.value, fed.name, fed.right, fed.scope, fed.outer,
@@ -171,6 +176,7 @@ impl<P: Run + Naming> Book<P> {
                 // For the prover alone: the number of all tokens, the new one too, is a `usize`, and no more are out. So `out_there + 1` doesn't
                 // overflow.
                 let _tokens = self.ledger.token_count();
+                // The token's old group has one token fewer out.
                 set_out(&mut self.posts, found.group, found.out - 1);
                 let out_there = out_in(&self.posts, round);
                 // `enter_at` lets the idle pass name that group, beside a pass that the book holds, and notes that one more of its tokens is out. The

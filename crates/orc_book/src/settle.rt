@@ -15,7 +15,7 @@ use orc_ledger::Ledger;
 use orc_log::Run;
 use orc_word::{Naming, Pass};
 
-// Whether a number is that of an open group, or the program's own.
+// Whether a number is that of an open group, or the program's own, so that the ledger still has the group.
 fn is_there<P: Run>(ledger: &Ledger<P>, number: u32) -> bool
     ensures there { result ≡ true → IsThere ledger.now number }
     ensures missing { result ≡ false → IsMissing ledger.now number }
@@ -29,8 +29,9 @@ fn is_there<P: Run>(ledger: &Ledger<P>, number: u32) -> bool
     }
 }
 
-// If the group with this number is there no more, notes that its word stands for a killed one. The word holds the group's own pass to the enclosing
-// group from then on, if that has a pass too many.
+// If the ledger has the group with this number no more, notes that the group's word stands for a killed one. If the enclosing group has a pass too
+// many, the word holds that pass from then on, as the killed group's. By `AreLoose` the book has a pass for each member, or too many; `StayLoose`
+// says that this is still so.
 fn bury_one<P: Run, J: Naming>(
     ledger: &Ledger<P>,
     posts: &mut Vec<Post<J>>,
@@ -54,8 +55,9 @@ fn bury_one<P: Run, J: Naming>(
     if stood != number {
         return;
     }
+    // The number of the group that enclosed this one.
     let parent = parent_in(posts, number);
-    // The number of the enclosing group's word.
+    // The number of that group's word.
     let above = word_in(posts, parent);
     // The enclosing group has lost a member. If its post has a pass too many, `spare_at` takes that out.
     let pass = spare_at(posts, parent, ledger.member_count(parent) as usize);
@@ -76,8 +78,9 @@ fn next_empty<P: Run>(ledger: &Ledger<P>, from: u32, to: u32) -> u32
     to
 }
 
-// Buries each group that is there no more. A group that has members is there; `next_empty` asks that first and passes over most groups, since that is
-// faster than to look at words and posts. `posts` are few enough for a `u32`.
+// Buries each group that the ledger has no more: notes that its word stands for a killed one. A group that has members is there; `next_empty` asks
+// that first and passes over most groups, since that is faster than to look at words and posts. `posts` are few enough for a `u32`. By `AreLoose`
+// they have a pass for each member of a group, or too many; `StayLoose` says that this is still so.
 pub(crate) fn bury_missing<P: Run, J: Naming>(
     ledger: &Ledger<P>,
     posts: &mut Vec<Post<J>>,
@@ -121,8 +124,8 @@ fn next_unsettled<P: Run, J: Naming>(
     to
 }
 
-// Fits each post to its group's members. Passes that are too many go to `leave`; of a group without members no token is kept or out. `next_unsettled`
-// passes over posts that fit, which is faster.
+// Fits each post to its group's members. By `AreLoose` it has a pass for each, or too many, and those that are too many go to `leave`. Of a group
+// without members no token is kept or out. `next_unsettled` passes over posts that fit, which is faster.
 pub(crate) fn settle_all<P: Run, J: Naming>(
     ledger: &Ledger<P>,
     posts: &mut Vec<Post<J>>,

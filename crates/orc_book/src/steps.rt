@@ -23,6 +23,10 @@ impl<P: Run + Naming> Book<P> {
     /// Refused as Gone if the token isn't out, as Wrong if it does something else next, as Short if `births` lacks a pass that the move needs, as
     /// Full or Limit if the move is over a limit, as Full also if a group is to be opened and no word is free, as Live if the free word is still
     /// named, and as Memory if memory is refused. Then the records are as they were, and `back` is the token.
+    ///
+    /// In the contract `marks` has, by slots, the serials of the kept tokens, `HasStepped` says that the token has taken its action, and that the
+    /// tokens which come of it are in `out.born`, `HaveOpened` that each word stands for what it did, but that a free one may stand for a new group,
+    /// `AreBack` that the last idle pass at most has become another, `HasStayed` that nothing has changed but room for passes.
     pub fn step(
         &mut self,
         groups: &Groups<P>,
@@ -70,7 +74,9 @@ impl<P: Run + Naming> Book<P> {
     // move doesn't use: there is room, since they came from there. What comes of the move is added to `out`, which has room for it. Refused as `step`
     // is.
     //
-    // The token ends, and its pass is to be left.
+    // The token ends at `stop` or void, and its pass is added to `out.leave`, to be left. In the contract `HasStepped` says that the token has taken
+    // its action, and that the tokens which come of it are in `out.born`; `KeepsWords` says that each word stands for what it did and the same tokens
+    // are kept.
     fn step_end(
         &mut self,
         inputs: &Inputs<'_, P>,
@@ -99,7 +105,9 @@ impl<P: Run + Naming> Book<P> {
         }
     }
 
-    // The token enters a `>x>` or a body. It needs no pass, so the clause *why* holds whatever was lent.
+    // An arm of `step`: the token enters a `>x>` or a body, and the one in its place is added to `out`. It needs no lent pass, so the clause *why*
+    // holds whatever was lent. In the contract `HasStepped` says that the token has taken its action, and that the tokens which come of it are in
+    // `out.born`, `HaveCome` with which passes; `KeepsWords` says that each word stands for what it did and the same tokens are kept.
     fn step_on(
         &mut self,
         inputs: &Inputs<'_, P>,
@@ -128,8 +136,10 @@ impl<P: Run + Naming> Book<P> {
         }
     }
 
-    // The token becomes one on each side, with its pass and the last of `births.same`. A refused move gives that pass back: there is room, since it
-    // was taken from `births`.
+    // An arm of `step`: the token becomes one on each side of a `|`, with its pass and the last of `births.same`, another pass to its group. A
+    // refused move gives that pass back: there is room, since it was taken from `births`. Refused as Short if no such pass was lent, else as `step`
+    // says. In the contract `HasStepped` says that the token has taken its action, and that the tokens which come of it are in `out.born`, `HaveCome`
+    // with which passes; `KeepsWords` says that each word stands for what it did and the same tokens are kept.
     fn step_fork(
         &mut self,
         inputs: &Inputs<'_, P>,
@@ -172,8 +182,11 @@ impl<P: Run + Naming> Book<P> {
         }
     }
 
-    // A pruning opens: the book keeps the last of `births.same` for the new group, and the last of `births.idle` opens that group's word. A refused
-    // move gives both passes back: there is room, since they were taken from `births`.
+    // An arm of `step`: a pruning opens. The book keeps the last of `births.same`, a pass to the token's group, for the new group, and the last of
+    // `births.idle` opens that group's word. A refused move gives both passes back: there is room, since they were taken from `births`. Refused as
+    // Short if such a pass wasn't lent, else as `step` says. In the contract `marks` has, by slots, the serials of the kept tokens, `HasStepped` says
+    // that the token has taken its action, and that the tokens which come of it are in `out.born`, `HaveCome` with which passes, `HaveOpened` that a
+    // free word may stand for a new group.
     fn step_prune(
         &mut self,
         groups: &Groups<P>,
@@ -203,6 +216,7 @@ impl<P: Run + Naming> Book<P> {
             return Err(Refused { why, back: token });
         };
         let Some(idle) = births.take_idle() else {
+            // No idle pass was lent: the other pass goes back to its list.
             births.same.push_reserved(same);
             let why = BookFault::Short;
             return Err(Refused { why, back: token });
@@ -225,8 +239,11 @@ impl<P: Run + Naming> Book<P> {
         }
     }
 
-    // The token enters an otherwise: its own pass is kept for the new group, and the last of `births.idle` opens that group's word. A refused move
-    // gives the idle pass back: there is room, since it was taken from `births`.
+    // An arm of `step`: the token enters the left side of an otherwise. Its own pass is kept for the new group, and the last of `births.idle` opens
+    // that group's word. A refused move gives the idle pass back: there is room, since it was taken from `births`. Refused as Short if no idle pass
+    // was lent, else as `step` says. In the contract `marks` has, by slots, the serials of the kept tokens, `HasStepped` says that the token has
+    // taken its action, and that the tokens which come of it are in `out.born`, `HaveCome` with which passes, `HaveOpened` that a free word may stand
+    // for a new group.
     fn step_other(
         &mut self,
         groups: &Groups<P>,

@@ -23,13 +23,16 @@ pub enum SubRunEnd<P: Naming> {
 }
 
 impl<P: Run + Naming> Book<P> {
-    /// Merges the sub-run `part` into the run: this token is at the call of a definition, with values, that it has run. The sub-run's entries are
-    /// appended to the journal. If the call yields a value, a token on it is out in the token's place, with its pass; else the token is gone, and
-    /// its pass is to be left.
+    /// Merges the sub-run `part` into the run: `part` has run a call of a definition whose operands have values, and this token is at that call. The
+    /// sub-run's entries are appended to the journal. If the call yields a value, a token on it is out in the token's place, with its pass; else the
+    /// token is gone, and its pass is to be left by the caller.
     ///
-    /// Refused as Gone where the token isn't out, as Wrong where it doesn't stand at the call of the sub-run, or the sub-run may have published
-    /// something and the token isn't the program's outermost, as Limit where the limit has no room for all of the entries, and as Memory. Then
-    /// nothing has changed.
+    /// Refused as Gone where the token isn't out with a worker, as Wrong where it doesn't stand at the call of the sub-run, or the sub-run may have
+    /// published something and the token is inside a side or a `>x>`, so that its publications aren't the program's, as Limit where the limit has no
+    /// room for all of the entries, and as Memory. Then nothing has changed.
+    ///
+    /// In the contract `KeepsWords` says that each word stands for what it did and the same tokens are kept, `IsUnkept` that `t` is the token's
+    /// record and the book doesn't keep the token, `StandsFor` that the token stands at the call of the sub-run.
     pub fn append_sub_run(
         &mut self,
         inputs: &Inputs<'_, P>,
@@ -52,6 +55,7 @@ impl<P: Run + Naming> Book<P> {
             let why = BookFault::Wrong;
             return Err(Refused { why, back: token });
         };
+        // The sub-run is that of another call, or can't replace this one.
         if !part.is_of(&task) {
             let why = BookFault::Wrong;
             return Err(Refused { why, back: token });
@@ -71,11 +75,12 @@ impl<P: Run + Naming> Book<P> {
             Err(LedgerFault::Full) => unreachable!(),
             Err(LedgerFault::Unclaimed) => unreachable!(),
         }
+        // With a value, the ledger has put a token on it into the old token's slot.
         if part.has_value() {
             let born = self.born(token.slot, token.pass);
             return Ok(SubRunEnd::Token(born));
         }
-        // The token is gone. It was out, so `found.out` is 1 at least.
+        // The call has no value, so the token is gone. It was out, so `found.out`, how many of its group were, is 1 at least.
         set_out(&mut self.posts, found.group, found.out - 1);
         Ok(SubRunEnd::Nobody(token.pass))
     }

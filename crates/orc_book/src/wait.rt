@@ -22,6 +22,8 @@ use std::alloc::AllocError;
 impl<P: Run + Naming> Book<P> {
     /// Hands a token that waits to the book, which marks it as kept, and keeps it and its pass until `wake` is called for one of its cells. Refused
     /// as Gone if the token isn't out, as Wrong if it does something else next, else as Memory; the token isn't marked then.
+    ///
+    /// In the contract `IsMarked` says that the slot's mark is the token's serial now, `HasStayed` that nothing has changed but room for passes.
     pub fn wait(&mut self, inputs: &Inputs<'_, P>, token: Token<P>) -> Result<(), Refused<Token<P>>>
         ensures done { OnOk result ((t : Its) × IsUnkept self.old token.slot token.serial token.pass t × (is_wait (what_of (code P.listing) (definitions P.listing) self.old.ledger t) ≡ true) × Changes self.old.posts (group_at self.old.ledger.steps t.step) self.new.posts KeepsOne) }
         ensures ledger { self.new.ledger ≡ self.old.ledger }
@@ -38,6 +40,7 @@ impl<P: Run + Naming> Book<P> {
             let why = BookFault::Wrong;
             return Err(Refused { why, back: token });
         };
+        // How many tokens of the group the book keeps already.
         let kept = kept_in(&self.posts, found.group);
         // For the prover alone: the number of all tokens, this one too, is a `usize`, and those that are kept are fewer. So `kept + 1` doesn't
         // overflow.
@@ -54,7 +57,7 @@ impl<P: Run + Naming> Book<P> {
             let why = fault_of(fault);
             return Err(Refused { why, back: token });
         }
-        // Room for the token's pass in the post of its group.
+        // Room for the token's pass in the *post* of its group, which is what the book has of the group.
         let Ok(()) = reserve_at(&mut self.posts, found.group) else {
             let why = BookFault::Memory;
             return Err(Refused { why, back: token });
@@ -75,8 +78,9 @@ impl<P: Run + Naming> Book<P> {
         Ok(())
     }
 
-    // Lets a kept token go out. None if it isn't kept, or if a bind has dropped its record and left its mark. For any other token the counts and the
-    // pass below are there, but no contract says so.
+    // Lets the kept token with this slot and serial go out. None if it isn't kept, or if a bind has dropped its record and left its mark. For any
+    // other token the counts and the pass below are there, but no contract says so. In the contract `HaveStayed` says that the records and the words
+    // are as they were.
     fn wake_one(&mut self, handle: Handle) -> Option<Token<P>>
         ensures same { HaveStayed self.old self.new }
         ensures born { IfSome result (IsOut self.new) }
@@ -89,6 +93,7 @@ impl<P: Run + Naming> Book<P> {
         }
         let its = self.ledger.token(handle.slot, handle.serial)?;
         let group = self.ledger.group_of_token(&its);
+        // How many of the group's tokens are kept and how many are out, once this one goes out.
         let kept = kept_in(&self.posts, group).checked_sub(1)?;
         let out = out_in(&self.posts, group).checked_add(1)?;
         // Takes a pass out of the group's post, which notes that one token more is out and one fewer is kept.
@@ -98,19 +103,22 @@ impl<P: Run + Naming> Book<P> {
 
     /// To be called when a cell is bound or lost: the tokens that were kept for it go out, each once, and are added to `born`. The error is refused
     /// memory; another call lets out those that are then still kept.
+    ///
+    /// In the contract `HaveStayed` says that the records and the words are as they were.
     pub fn wake(&mut self, cell: u64, born: &mut Vec<Token<P>>) -> Result<(), AllocError>
         ensures same { HaveStayed self.old self.new }
         ensures born { AreBorn born.old.items born.new.items self.new }
         ensures once { HaveWoken self.old.marks self.new.marks born.old.items born.new.items }
         ensures passes { (f : View → ℕ) → in_tokens f born.new.items + in_book f self.new ≡ in_tokens f born.old.items + in_book f self.old }
     {
-        // No chain is longer than there are links, so each is popped.
+        // The cell's chain lists tokens that may wait for it. No chain is longer than there are links, so each is popped.
         for _link in 0..self.keeping.len() {
             // Room for the token is made before it leaves the chain, so that a refusal loses none.
             born.try_reserve(1)?;
             let Some(handle) = self.keeping.pop(cell) else {
                 break;
             };
+            // None if the token is gone or is kept no more.
             if let Some(token) = self.wake_one(handle) {
                 born.push_reserved(token);
             }

@@ -9,11 +9,13 @@ use slab::Slab;
 use std::alloc::{AllocError, Global};
 use std::marker::Model;
 
-/// The pass of a killed group to the one that enclosed it, whose word has the number `parent`. None where that had no pass to spare.
+/// What a word holds for a killed group: the group's pass to the one that enclosed it, whose word has the number `parent`. `pass` is None if that
+/// group had no pass to spare.
 #[derive(Drop)]
 pub(crate) struct Owed<P: Naming> {
     parent: u32,
     pass: Option<Pass<P>>,
+    // A pass that is there names the word `parent`.
     ghost own: { owed_to parent pass ≡ Some parent },
 }
 
@@ -51,10 +53,12 @@ impl<P: Naming> Model for WordTable<P> {
     ghost use Rattle.std.specs.Prelude.{◌≡◌, ◌≤◌, count_by, map};
     ghost use Rattle.orc_book.specs.Words.{Shown, is_dying, stood_of};
 
+    // Contracts see what each word stands for, by its number (`stands`), and the number of the word that is opened next (`next`).
     ghost Value = { Shown };
 
     ghost view = { λ t. record { stands = map stood_of t.stands.slots; next = t.stands.vacant_key } };
 
+    // There is room for an entry of each word, and `dying` counts those of killed groups.
     ghost invariant = { λ t. (t.count ≡ P.table.words) × (t.count ≤ t.stands.capacity) × (t.dying ≡ count_by is_dying (map stood_of t.stands.slots)) };
 }
 
@@ -100,7 +104,7 @@ impl<P: Naming> WordTable<P> {
         }
     }
 
-    /// Lets the word that `next` gives stand for the open group with this number.
+    /// Lets the word that `next` gives, which `requires` says there is, stand for the open group with this number.
     pub(crate) fn open(&mut self, number: u32)
         requires { self.old.next < P.table.words }
         ensures { IsOpened self.old.stands self.old.next number self.new.stands }
@@ -111,7 +115,7 @@ impl<P: Naming> WordTable<P> {
         let _word = self.stands.insert_reserved(Stand::Open(number));
     }
 
-    /// What a word stands for.
+    /// What the word with the number `word` stands for.
     pub(crate) fn kind(&self, word: u32) -> Kind
         ensures kind { result ≡ kind_at self.now.stands word }
         ensures bare { (number : ℕ) → result ≡ Kind.Open number → owed_at self.now.stands word ≡ None }
@@ -154,7 +158,9 @@ impl<P: Naming> WordTable<P> {
                 let Owed { parent: _, pass } = owed;
                 pass
             }
+            // The word of an open group holds no pass.
             Some(Stand::Open(_number)) => None,
+            // The word was free already.
             None => None,
         }
     }

@@ -65,8 +65,8 @@ pub fn run_alone(
     }
 }
 
-// Runs a program whose graph is built, with a limit in range. None if the run keeps no journal, but only a journal can show how it ended. The fault is
-// Memory if memory was refused before the run began, or for its result. No other fault comes if the scope check accepts the program.
+// Runs a program whose graph is built, with a limit in range. None if the run keeps no journal, but only a journal can show how it ended. The fault
+// is Memory if memory was refused before the run began, or for its result. No other fault comes if the scope check accepts the program.
 fn run_graph<P: Run>(
     alloc: Global,
     program: &Program,
@@ -99,10 +99,12 @@ fn run_graph<P: Run>(
     scheduler.finish(program, &inputs, stop)
 }
 
-// Gives the run one turn after another until it stops, and says why it stops. Each turn brings the run nearer its end (`IsNearer`), so the loop ends.
+// Gives the run one turn after another until it stops, and says why it stops. Each turn brings the run nearer its end: it makes an entry, closes a
+// group, or takes a token out of the run queue. So the loop ends.
 fn play<P: Run>(scheduler: &mut Scheduler<P>, inputs: &Inputs<'_, P>) -> Stop
     ensures stops { Stops P.listing scheduler.new.ledger result }
 {
+    // Puts the first token into the run queue.
     if let Err(stop) = scheduler.begin() {
         return stop;
     }

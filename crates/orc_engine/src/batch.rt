@@ -33,8 +33,8 @@ pub(crate) fn deal<'j, P: Run>(
     Ok(worker_queues)
 }
 
-/// The place of a job that has won a race. If several win at the same time it may be the place of any of them: it only saves work, and no result
-/// depends on it.
+/// The place of a job that has won a race: the call yields a value, or may, so that the jobs behind it are in vain. If several win at the same time
+/// it may be the place of any of them: it only saves work, and no result depends on it.
 #[derive(Drop)]
 pub(crate) struct Won {
     // The place of a job that has won; `usize::MAX` for none.
@@ -42,7 +42,7 @@ pub(crate) struct Won {
 }
 
 impl Won {
-    /// None has won: the greatest number stands for no place.
+    /// No job has won: the greatest number stands for no place.
     pub fn new() -> Won {
         Won {
             place: AtomicUsize::new(usize::MAX),
@@ -54,7 +54,8 @@ impl Won {
         self.place.load(Ordering::Relaxed) < place
     }
 
-    /// Notes that the job at this place has won. Of two that are noted at the same time the later place may stay; then threads do more jobs in vain.
+    /// Notes that the job at this place has won, unless an earlier one has. Of two that are noted at the same time the later place may stay; then
+    /// threads do more jobs in vain.
     pub fn note(&self, place: usize) {
         if !self.is_before(place) {
             self.place.store(place, Ordering::Relaxed);
@@ -62,7 +63,7 @@ impl Won {
     }
 }
 
-/// Drops the results of the jobs behind the first winner, since it depends on the threads which of these jobs were done.
+/// Drops the results of the jobs behind the first one that has won a race, since it depends on the threads which of these jobs were done.
 pub(crate) fn forget_losers<P: Run>(jobs: &mut [SubRunJob<P>]) {
     let mut is_won = false;
     for job in jobs {

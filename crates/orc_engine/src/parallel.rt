@@ -37,7 +37,8 @@ const PATIENCE: usize = 5_000;
 /// How many runnable tokens an attempt needs. The calls at which they stand are run side by side.
 const READY_TOKENS: usize = 128;
 
-/// How many it needs after samples that were too long: then tokens stand at calls deeper in the tree of calls, which have shorter runs.
+/// How many runnable tokens an attempt needs after samples that were too long: then tokens stand at calls deeper in the tree of calls, which have
+/// shorter runs.
 const READY_TOKENS_IF_LONG: usize = 1_000;
 
 /// How many calls run first as samples, to show how long the sub-runs of the others will be.
@@ -76,7 +77,7 @@ pub(crate) struct WorkerThreads<'c, R> {
 /// How an attempt to run calls of definitions side by side has gone.
 #[derive(Clone, Copy)]
 enum Trial {
-    /// Too few tokens were runnable, or one of the calls has won a race.
+    /// Too few tokens were runnable, or one of the calls has won a race: it has yielded a value, or may have, so that the others are in vain.
     Few,
     /// More sub-runs stopped at their limit than gave a result.
     Long,
@@ -106,7 +107,7 @@ struct Tally {
     long: usize,
     // The entries of all sub-runs that gave a result.
     entries: usize,
-    // Whether a job has won a race.
+    // Whether a job has won a race: its call yields a value, or may, so that the jobs behind it are in vain.
     is_won: bool,
 }
 
@@ -225,8 +226,8 @@ where
     scheduler.finish(program, &inputs, stop)
 }
 
-// The threads that run one program, and the inputs of the run. `rt` starts the threads, which take memory from `alloc`; `workers` of them run calls of
-// definitions, at least 1.
+// The threads that run one program, and the inputs of the run. `rt` starts the threads, which take memory from `alloc`; `workers` of them run calls
+// of definitions, at least 1.
 #[derive(Drop)]
 struct ParallelRun<'c, P: Run, R> {
     rt: &'c R,
@@ -244,8 +245,8 @@ where
     P: Run + Send + Sync,
     R: Threads + Sync,
 {
-    // Gives the run one turn after another until it stops, and says why it stops. Each turn brings the run nearer its end (`IsNearer`), so the loop
-    // ends.
+    // Gives the run one turn after another until it stops, and says why it stops. Each turn brings the run nearer its end: it makes an entry, closes
+    // a group, or takes a token out of the run queue. So the loop ends.
     fn play(&self, scheduler: &mut Scheduler<P>) -> Stop
         ensures stops { Stops P.listing scheduler.new.ledger result }
     {
@@ -282,12 +283,14 @@ where
     }
 
     // Makes an attempt if one is planned for now: it spreads tokens and runs the calls at which they stand side by side. If their runs turn out too
-    // long it spreads more tokens and tries once more, with samples. Gives the plan of the next attempt; the error is why the run stops.
+    // long it spreads more tokens and tries once more, with samples. Gives the plan of the next attempt; the error is why the run stops. Afterwards
+    // the run is further, by entries or by groups that are closed, or it is unchanged and its run queue isn't longer (`HasSpread`).
     #[inline(never)]
     fn share(&self, scheduler: &mut Scheduler<P>, plan: Plan) -> Result<Plan, Stop>
         ensures spread { IfOk result (λ _. HasSpread scheduler.old.ledger (deque_len scheduler.old.ready.handles) scheduler.new.ledger (deque_len scheduler.new.ready.handles)) }
         ensures stops { IfErr result (λ stop. Stops P.listing scheduler.new.ledger stop) }
     {
+        // The next attempt is not due yet, so the plan stays.
         if scheduler.entries() < plan.entries {
             return Ok(plan);
         }
@@ -306,8 +309,9 @@ where
         Ok(Plan { entries, mean })
     }
 
-    // Spreads tokens until `wanted` of them are runnable, and runs the calls at which they stand side by side. `mean` is how many entries the
-    // sub-runs of the last attempt had on average; if it is 0, samples show it first. Few if fewer become runnable.
+    // Spreads tokens, that is, moves them on to their next calls of definitions, until `wanted` of them are runnable, and runs the calls at which
+    // they stand side by side. `mean` is how many entries the sub-runs of the last attempt had on average; if it is 0, samples show it first. Few if
+    // fewer become runnable. The error is why the run stops.
     fn attempt(
         &self,
         scheduler: &mut Scheduler<P>,
@@ -326,8 +330,8 @@ where
     }
 
     // Runs the calls at which tokens stand side by side, and merges their results. If `mean` is 0, samples first show how many entries the sub-runs
-    // have on average, and whether the others are worth it. It considers calls that race only if there are too few others, and these always begin
-    // with samples.
+    // have on average, and whether the others are worth it. It considers calls that race, whose token's side has other members, only if there are too
+    // few others, and these always begin with samples. The error is why the run stops.
     fn run_side_by_side(&self, scheduler: &mut Scheduler<P>, mean: usize) -> Result<Trial, Stop>
         ensures spread { IfOk result (λ _. HasSpread scheduler.old.ledger (deque_len scheduler.old.ready.handles) scheduler.new.ledger (deque_len scheduler.new.ready.handles)) }
         ensures stops { IfErr result (λ stop. Stops P.listing scheduler.new.ledger stop) }
@@ -350,8 +354,9 @@ where
         Ok(Trial::Vain)
     }
 
-    // Does the jobs, and merges their results. If `mean` is 0 samples come first, and the `first` of these before the other samples. If a sample wins
-    // a race, which makes the jobs behind it vain, its result is merged, and the run makes the other calls itself.
+    // Does the jobs, each of which runs one call, and merges their results. If `mean`, the average of entries so far, is 0, samples come first, and
+    // the `first` of these before the other samples. If a sample wins a race, which makes the jobs behind it vain, its result is merged, and the run
+    // makes the other calls itself. The error is why the run stops.
     fn run_jobs(
         &self,
         scheduler: &mut Scheduler<P>,
@@ -362,6 +367,7 @@ where
         ensures spread { IfOk result (λ _. HasSpread scheduler.old.ledger (deque_len scheduler.old.ready.handles) scheduler.new.ledger (deque_len scheduler.new.ready.handles)) }
         ensures stops { IfErr result (λ stop. Stops P.listing scheduler.new.ledger stop) }
     {
+        // How many more entries the run may have.
         let room = scheduler.room();
         // The limit has room for no entry of a sub-run.
         if room == 0 {
@@ -372,6 +378,7 @@ where
             return self.run_batches(scheduler, mean, 0, jobs);
         }
         let tally = self.run_samples(MOST_SAMPLE_ENTRIES.min(room), first, jobs);
+        // A sample has won a race.
         if tally.is_won {
             take_all(self.inputs, scheduler, jobs)?;
             return Ok(Trial::Few);
@@ -399,7 +406,7 @@ where
         tally_of(samples)
     }
 
-    // Whether more such sub-runs are worth a thread, judged by the results of some.
+    // Whether more such sub-runs are worth a thread, judged by the counts of the results of some: Long, Vain, or Good with their mean of entries.
     fn trial_of(&self, tally: Tally) -> Trial {
         let mean = tally.mean();
         if tally.long > tally.over {
@@ -417,7 +424,8 @@ where
 
     // Does the jobs in batches, without the first `done` ones, the samples. While threads do a batch, this one merges the results of the jobs before
     // it. `mean` is how many entries the sub-runs so far have had on average, and each batch gives the next one its own. The function goes on as long
-    // as batches are worth it (`trial_of`), no job has won a race, and the limit has room for the next batch. Gives how the last batch has gone.
+    // as batches are worth it (`trial_of`), no job has won a race, and the limit has room for the next batch. Gives how the last batch has gone; the
+    // error is why the run stops.
     fn run_batches(
         &self,
         scheduler: &mut Scheduler<P>,
@@ -433,7 +441,7 @@ where
         for from in (done..jobs.len()).step_by(BATCH) {
             // How many more entries the run may have.
             let room = scheduler.room();
-            // `from` is under the length already; the prover isn't told so by `step_by`.
+            // `from` is the place of the batch's first job. It is under the length already; the prover isn't told so by `step_by`.
             let from = from.min(jobs.len());
             // Jobs whose result was merged have none any more, so `before` may have them too.
             let (before, behind) = jobs.split_at_mut(from);
@@ -450,10 +458,12 @@ where
             let batch = &mut behind[..count];
             self.run_beside(scheduler, limit, before, batch)?;
             let tally = tally_of(batch);
+            // A job has won a race: those behind it are in vain.
             if tally.is_won {
                 break;
             }
             trial = self.trial_of(tally);
+            // Further batches aren't worth their threads.
             let Trial::Good(next) = trial else {
                 break;
             };
@@ -465,7 +475,7 @@ where
     }
 
     // Merges the results of the jobs `before`, while `workers` other threads do those of the batch, each with `limit` entries at most. With one
-    // worker, or if `before` has no more jobs than the samples, it merges first.
+    // worker, or if `before` has no more jobs than the samples, it merges first. The error is why the run stops.
     fn run_beside(
         &self,
         scheduler: &mut Scheduler<P>,
@@ -494,8 +504,8 @@ where
         taken
     }
 
-    // Has the threads do the jobs, each job once and with `limit` entries at most, but none behind a job that is known to have won. If memory for the
-    // queues is refused it does none.
+    // Has the threads do the jobs, each job once and with `limit` entries at most, but none behind a job that is known to have won a race, and so
+    // made it vain. If memory for the queues is refused it does none.
     fn run_all(&self, limit: usize, jobs: &mut [SubRunJob<P>])
         requires limit { (1 ≤ limit) × (limit ≤ MOST_ENTRIES) }
     {
@@ -519,7 +529,8 @@ where
         forget_losers(jobs);
     }
 
-    // One thread's part: it does jobs until its queue and those of the others are empty. `count` jobs were dealt out in all.
+    // One thread's part: it does jobs, each with `limit` entries at most, until its queue and those of the others are empty. `count` jobs were dealt
+    // out in all; `won` has the place of a job that has won a race.
     fn work(&self, limit: usize, count: usize, won: &Won, worker_queue: &mut WorkerQueue<Dealt<P>>)
         requires limit { (1 ≤ limit) × (limit ≤ MOST_ENTRIES) }
     {
@@ -541,7 +552,7 @@ where
     }
 }
 
-// Counts the results of the jobs.
+// Counts the results of the jobs: how many sub-runs gave one, how many stopped at their limit, and whether a job has won a race.
 fn tally_of<P: Run>(jobs: &[SubRunJob<P>]) -> Tally {
     let mut tally = Tally {
         count: jobs.len(),
@@ -565,7 +576,8 @@ fn tally_of<P: Run>(jobs: &[SubRunJob<P>]) -> Tally {
     tally
 }
 
-// Merges the results of the jobs that still have one, in the order of the jobs, and takes them out. The error is why the run stops.
+// Merges the results of the jobs that still have one into the run, in the order of the jobs, and takes them out. The error is why the run stops.
+// Afterwards the run is further, by entries or by groups that are closed, or it is unchanged and its run queue isn't longer (`HasSpread`).
 fn take_all<P: Run>(
     inputs: &Inputs<'_, P>,
     scheduler: &mut Scheduler<P>,
@@ -580,7 +592,8 @@ fn take_all<P: Run>(
     Ok(())
 }
 
-// Merges the result of a job, if the job still has one, and takes it out. The error is why the run stops.
+// Merges the result of a job into the run, if the job still has one, and takes it out. The error is why the run stops. Afterwards the run is further,
+// by entries or by groups that are closed, or it is unchanged and its run queue isn't longer (`HasSpread`).
 fn take_one<P: Run>(
     inputs: &Inputs<'_, P>,
     scheduler: &mut Scheduler<P>,
@@ -589,7 +602,7 @@ fn take_one<P: Run>(
     ensures spread { IfOk result (λ _. HasSpread scheduler.old.ledger (deque_len scheduler.old.ready.handles) scheduler.new.ledger (deque_len scheduler.new.ready.handles)) }
     ensures stops { IfErr result (λ stop. Stops P.listing scheduler.new.ledger stop) }
 {
-    // A job without a result changes nothing: the run makes its call itself.
+    // A job whose sub-run is not over (Nothing, or Long) changes nothing: the run makes its call itself.
     let SubRunResult::Over(part) = job.take() else {
         return Ok(());
     };

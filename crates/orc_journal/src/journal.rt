@@ -60,7 +60,7 @@ impl Journal {
         }
     }
 
-    /// The version.
+    /// The version of the journal's text.
     pub fn version(&self) -> Version
         ensures { result ≡ self.now.version }
     {
@@ -83,8 +83,8 @@ impl Journal {
         rows.len() as u64 + 1
     }
 
-    /// Makes room for the rows of that many entries more, so that adding them asks for memory less often. The error is refused memory; the
-    /// entries stay as they are.
+    /// Makes room for the rows of that many entries more (each entry has a row), so that adding them asks for memory less often. The error is refused
+    /// memory; the entries stay as they are.
     pub fn reserve(&mut self, entries: usize) -> Result<(), AllocError>
         ensures { self.new ≡ self.old }
     {
@@ -120,8 +120,8 @@ impl Journal {
         }
     }
 
-    // Adds an entry of numbers alone at the end, in the order of its line (`Parts`). Where memory is refused nothing changes.
-    // Neither it nor `push_given` is inlined, so that `push` stays small.
+    // Adds an entry of numbers alone at the end, with neither a value nor arguments. The numbers are in the order of its line (`Parts`), 0 for those
+    // that it hasn't. Where memory is refused nothing changes. Neither it nor `push_given` is inlined, so that `push` stays small.
     #[inline(never)]
     fn push_plain(
         &mut self,
@@ -135,13 +135,15 @@ impl Journal {
         ensures added { OnOk result (self.new ≡ journal_with self.old (plain kind first second third fourth ∷ [])) }
         ensures refused { OnErr result (self.new ≡ self.old) }
     {
+        // The room for the row comes first, since nothing may be refused once the tables have what the row names.
         make_room(&mut self.rows)?;
         let row = self.tables.add_plain(kind, first, second, third, fourth)?;
         self.rows.push_reserved(row);
         Ok(())
     }
 
-    // Adds an entry with a value at the end. Where memory is refused nothing changes.
+    // Adds an entry with a value at the end. `first` and `second` are its numbers in the order of its line, and `second` is 0 if it has one alone.
+    // Where memory is refused nothing changes.
     #[inline(never)]
     fn push_given(
         &mut self,
@@ -154,6 +156,7 @@ impl Journal {
         ensures added { OnOk result (self.new ≡ journal_with self.old (given kind first second value ∷ [])) }
         ensures refused { OnErr result (self.new ≡ self.old) }
     {
+        // The room for the row comes first, since nothing may be refused once the tables have what the row names.
         make_room(&mut self.rows)?;
         let row = self.tables.add_given(kind, first, second, value)?;
         self.rows.push_reserved(row);
@@ -200,6 +203,7 @@ impl Journal {
         ensures added { OnOk result (self.new ≡ journal_with self.old (Call token call site args.now ∷ [])) }
         ensures refused { OnErr result (self.new ≡ self.old) }
     {
+        // The room for the row comes first, since nothing may be refused once the tables have what the row names.
         make_room(&mut self.rows)?;
         let row = self.tables.add_call(token, call, site, args)?;
         self.rows.push_reserved(row);
@@ -213,7 +217,7 @@ impl Journal {
         self.rows.truncate(len);
     }
 
-    // Adds the cancels of these calls. The error is refused memory; some of them may be added by then.
+    // Adds the cancels of the calls with these numbers. The error is refused memory; some of the cancels may be added by then.
     fn push_cancels(&mut self, calls: &[u64]) -> Result<(), AllocError>
         ensures added { OnOk result (self.new ≡ journal_with self.old (map Cancel calls.now)) }
         ensures begun { (es : List EntryOf) × (self.new ≡ journal_with self.old es) }
@@ -224,8 +228,8 @@ impl Journal {
         Ok(())
     }
 
-    /// Adds a `bind` of this cell by the token with the mark `token` and, behind it, the cancels of these calls in their order. The error is refused
-    /// memory, and then nothing changes.
+    /// Adds a `bind` of this cell by the token with the mark `token` and, behind it, the cancels of the calls with the numbers `cancelled`, in their
+    /// order. The error is refused memory, and then nothing changes.
     pub fn push_bind(
         &mut self,
         token: u64,
@@ -239,6 +243,7 @@ impl Journal {
         let len = self.rows.len();
         self.push_given(Kind::Bind, token, cell, value)?;
         let pushed = self.push_cancels(cancelled);
+        // If one is refused, the bind and the cancels before it are dropped again.
         if pushed.is_err() {
             self.truncate(len);
         }
@@ -272,7 +277,7 @@ impl Journal {
         }
     }
 
-    /// The values that its entries publish, in order. The error is refused memory.
+    /// The values that the journal's entries publish, in order. The error is refused memory.
     pub fn published(&self, alloc: Global) -> Result<Vec<Value>, AllocError>
         ensures { IfOk result (λ values. values.items ≡ published self.now.entries) }
     {

@@ -4,7 +4,7 @@ ghost use Rattle.std.specs.Prelude.{◌≡◌, ◌<◌, ◌++◌, ◌∷◌, [],
 
 use std::alloc::AllocError;
 
-// Not inlined, since a vector seldom grows.
+// Makes room for one more item where there is none. Not inlined, since a vector seldom grows. The error is refused memory.
 #[cold]
 #[inline(never)]
 fn grow<T: Drop>(items: &mut Vec<T>) -> Result<(), AllocError>

@@ -29,7 +29,7 @@ pub struct Parts {
     pub fourth: u64,
 }
 
-/// A row, which stands for an entry.
+/// A row, which stands for an entry: it has the entry's parts, that is, its kind and numbers, or names their place.
 #[derive(Clone, Copy)]
 pub enum Row {
     /// The first three of its parts, if they fit 32 bits; the kind and the third one tell the fourth (`last_of`).
@@ -69,7 +69,7 @@ impl Model for Tables {
     ghost view = { λ t. record { values = t.values.items; calls = t.calls.items; wides = t.wides.items } };
 }
 
-// The parts with these numbers.
+// The kind and the numbers of an entry as its parts.
 #[inline(always)]
 fn numbered(kind: Kind, first: u64, second: u64, third: u64, fourth: u64) -> Parts
     ensures { result ≡ record { kind = kind; first = first; second = second; third = third; fourth = fourth } }
@@ -121,7 +121,7 @@ fn narrow(parts: Parts) -> Option<Row>
     }
 }
 
-// These values as arguments of a call.
+// These values, as many as a call may have, as the arguments of one.
 fn args_of(values: &[Value]) -> Args
     requires { length values.now ≤ MOST_ARGUMENTS }
     ensures { result ≡ values.now }
@@ -155,7 +155,7 @@ impl Tables {
         }
     }
 
-    // Adds these parts to `wides`, and gives a wide row that names their place. The error is refused memory.
+    // Adds these parts to `wides`, and gives a wide row that names their place. The error is refused memory. By `Names` the row has these parts.
     #[cold]
     #[inline(never)]
     fn add_wide(&mut self, parts: Parts) -> Result<Row, AllocError>
@@ -168,7 +168,7 @@ impl Tables {
         Ok(Row::Wide(at))
     }
 
-    // A row of these parts: a narrow one if they have one. The error is refused memory.
+    // A row of these parts: a narrow one if they have one, else a wide one. The error is refused memory. By `Names` the row has these parts.
     #[inline(always)]
     fn add_parts(&mut self, parts: Parts) -> Result<Row, AllocError>
         ensures names { IfOk result (λ r. Names self.new.wides r parts) }
@@ -182,7 +182,7 @@ impl Tables {
     }
 
     /// Makes the row of an entry that has only numbers, neither a value nor arguments, from the numbers as `Parts` has them. The error is refused
-    /// memory.
+    /// memory. Each row so far stands for what it did (`Keeps`).
     pub(crate) fn add_plain(
         &mut self,
         kind: Kind,
@@ -198,8 +198,9 @@ impl Tables {
         self.add_parts(numbered(kind, first, second, third, fourth))
     }
 
-    // The place of a value. A value that equals the one stored last isn't stored again: most often a `send` follows a `return` with its value, and
-    // then a call has that value as its argument. The error is refused memory.
+    // The place of a value among the values, from 0. A value that equals the one stored last isn't stored again: most often a `send` follows a
+    // `return` with its value, and then a call has that value as its argument. The error is refused memory. Each row so far stands for what it did
+    // (`Keeps`).
     #[inline(always)]
     fn place(&mut self, value: Value) -> Result<usize, AllocError>
         ensures kept { Keeps self.old self.new }
@@ -214,7 +215,8 @@ impl Tables {
         Ok(end)
     }
 
-    // The place of the first of a call's arguments, which follow one another. The error is refused memory.
+    // The place, among the values, of the first of a call's arguments, which follow one another. The error is refused memory. Each row so far stands
+    // for what it did (`Keeps`).
     fn place_all(&mut self, values: &[Value]) -> Result<usize, AllocError>
         ensures kept { Keeps self.old self.new }
         ensures same { (self.new.calls ≡ self.old.calls) × (self.new.wides ≡ self.old.wides) }
@@ -232,7 +234,7 @@ impl Tables {
     }
 
     /// Makes the row of an entry with a value, from its two numbers as `Parts` has them: the second one of a `publish` is 0. The error is refused
-    /// memory.
+    /// memory. Each row so far stands for what it did (`Keeps`).
     pub(crate) fn add_given(
         &mut self,
         kind: Kind,
@@ -244,11 +246,13 @@ impl Tables {
         ensures kept { Keeps self.old self.new }
         ensures row { IfOk result (λ r. StandsFor self.new r (given kind first second value)) }
     {
+        // The value's place is the third number of the parts.
         let at = self.place(value)?;
         self.add_parts(numbered(kind, first, second, at as u64, 0))
     }
 
-    /// Makes the row of a call, by the mark of the token that makes it, the call's number, and its site's number. The error is refused memory.
+    /// Makes the row of a call, by the mark of the token that makes it, the call's number, and its site's number. The error is refused memory. Each
+    /// row so far stands for what it did (`Keeps`).
     #[inline(always)]
     pub(crate) fn add_call(
         &mut self,
@@ -274,7 +278,7 @@ impl Tables {
         Ok(row)
     }
 
-    /// The parts of a row.
+    /// The kind and the numbers of a row's entry. By `requires` the place that a wide row names is there.
     #[inline(always)]
     pub(crate) fn parts_at(&self, row: Row) -> Parts
         requires { IsThere self.now.wides row }
@@ -288,7 +292,7 @@ impl Tables {
         }
     }
 
-    /// What the call at a place among the calls has: its site and where its arguments are.
+    /// What the call at a place among the calls has: its site and where its arguments are. By `requires` the call and its arguments are there.
     #[inline(always)]
     pub(crate) fn called(&self, at: u64) -> Called
         requires { HasCall self.now at }
@@ -318,7 +322,7 @@ impl Tables {
         value_at(&self.values, at)
     }
 
-    // Overwrites `entry` with a `call`: the token's mark `s`, the number `k`, and the site and arguments of place `at` among the calls.
+    // Overwrites `entry` with a `call`: the token's mark `s`, the call's number `k`, and the site and arguments of place `at` among the calls.
     fn read_call(&self, s: u64, k: u64, at: u64, entry: &mut Entry)
         requires { HasCall self.now at }
         ensures { entry.new ≡ call_by self.now.values s k (slice_index_or self.now.calls at no_call) }

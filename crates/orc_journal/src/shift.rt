@@ -51,6 +51,7 @@ impl Shift {
         ensures movable { OnSome result (IsMovable row.old) }
     {
         let Row::Narrow(kind, a, b, c) = row else {
+            // A wide row isn't rewritten.
             return None;
         };
         match *kind {
@@ -119,7 +120,8 @@ impl Shift {
     }
 }
 
-// Rewrites a part's rows, each by `move_row`. None if one of them can't be rewritten; the rows before it have been by then.
+// Rewrites a part's rows for the enclosing run's numbers, each by `move_row`. None if one of them can't be rewritten; the rows before it have been by
+// then.
 fn move_rows(rows: &mut [Row], shift: Shift) -> Option<()>
     ensures len { length rows.new ≡ length rows.old }
     ensures moved { OnSome result (rows.new ≡ map (row_by shift) rows.old) }
@@ -131,7 +133,8 @@ fn move_rows(rows: &mut [Row], shift: Shift) -> Option<()>
     Some(())
 }
 
-// Adds a part's rows and moves them in their new place. Gives whether each could be moved; if not, or if memory is refused, nothing changes.
+// Adds a part's rows at the end, rewritten for the enclosing run's numbers. Gives whether each could be rewritten; if not, or if memory is refused,
+// nothing changes.
 fn push_rows(rows: &mut Vec<Row>, part: &[Row], shift: Shift) -> Result<bool, AllocError>
     ensures added { IfOk result (λ fit. fit ≡ true → rows.new.items ≡ rows.old.items ++ map (row_by shift) part.now) }
     ensures movable { IfOk result (λ fit. fit ≡ true → All IsMovable part.now) }
@@ -148,7 +151,8 @@ fn push_rows(rows: &mut Vec<Row>, part: &[Row], shift: Shift) -> Result<bool, Al
     Ok(true)
 }
 
-// Adds a part's calls, moved, for which there must be room. Gives whether the places of all their arguments fit 32 bits; if not, nothing changes.
+// Adds what a part's calls have, for which there must be room, with the places of their arguments moved. Gives whether all of these places fit 32
+// bits; if not, nothing changes.
 fn push_calls(calls: &mut Vec<Called>, part: &[Called], shift: Shift) -> bool
     requires room { vec_len calls.old + length part.now ≤ vec_capacity calls.old }
     ensures added { result ≡ true → calls.new.items ≡ calls.old.items ++ map (called_by shift) part.now }
@@ -166,7 +170,8 @@ fn push_calls(calls: &mut Vec<Called>, part: &[Called], shift: Shift) -> bool
 }
 
 impl Tables {
-    // The shift of a part's journal to the end of these tables. None if a summand doesn't fit 32 bits, or the part has a wide row.
+    // What is added to the numbers of a part's journal when it goes to the end of these tables. None if one of these numbers doesn't fit 32 bits, or
+    // the part has a wide row.
     fn shift(&self, part: &Tables, numbering: Numbering) -> Option<Shift>
         ensures { IfSome result (λ s. Shifts self.now part.now numbering s) }
     {
@@ -214,9 +219,11 @@ impl Journal {
         ensures refused { OnErr result (self.new ≡ self.old) }
     {
         let Some(shift) = self.tables.shift(&part.tables, numbering) else {
+            // The part has a wide row, or a number that is added doesn't fit 32 bits.
             return Ok(false);
         };
         if !self.tables.append(&part.tables, shift)? {
+            // The place of some call's arguments doesn't fit 32 bits.
             return Ok(false);
         }
         push_rows(&mut self.rows, &part.rows, shift)

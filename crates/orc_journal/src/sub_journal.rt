@@ -14,7 +14,8 @@ use orc_rules::kind::Kind;
 use orc_subrun::Numbering;
 use std::alloc::AllocError;
 
-// The mark in the enclosing run for the part's mark `own`. The error is that it doesn't fit 64 bits, which counts as refused memory.
+// The mark in the enclosing run for the mark `own` of a *part*, a call of a definition that was run by itself. The error is that the mark doesn't fit
+// 64 bits, which counts as refused memory.
 #[inline(always)]
 fn mark_of(numbering: Numbering, own: u64) -> Result<u64, AllocError>
     ensures { IfOk result (λ mark. mark ≡ mark_in numbering own) }
@@ -22,7 +23,8 @@ fn mark_of(numbering: Numbering, own: u64) -> Result<u64, AllocError>
     numbering.mark_of(own).ok_or(AllocError)
 }
 
-// The number in the enclosing run for the part's call `own`. The error is that it doesn't fit 64 bits, which counts as refused memory.
+// The number in the enclosing run for the call `own` of a *part*, a call of a definition that was run by itself. The error is that the number doesn't
+// fit 64 bits, which counts as refused memory.
 #[inline(always)]
 fn call_of(numbering: Numbering, own: u64) -> Result<u64, AllocError>
     ensures { IfOk result (λ call. call ≡ numbering.calls + own) }
@@ -30,7 +32,8 @@ fn call_of(numbering: Numbering, own: u64) -> Result<u64, AllocError>
     numbering.call_of(own).ok_or(AllocError)
 }
 
-// The number in the enclosing run for the part's cell `own`. The error is that it doesn't fit 64 bits, which counts as refused memory.
+// The number in the enclosing run for the cell `own` of a *part*, a call of a definition that was run by itself. The error is that the number doesn't
+// fit 64 bits, which counts as refused memory.
 #[inline(always)]
 fn cell_of(numbering: Numbering, own: u64) -> Result<u64, AllocError>
     ensures { IfOk result (λ cell. cell ≡ cell_in numbering own) }
@@ -82,6 +85,7 @@ impl Tables {
         ensures kept { Keeps self.old self.new }
         ensures row { IfOk result (λ r. StandsFor self.new r (moved numbering (entry_of part.now row))) }
     {
+        // `p` is the entry's kind and numbers in the part; `n` says which numbers these become.
         let n = numbering;
         let p = part.parts_at(row);
         match p.kind {
@@ -198,8 +202,8 @@ impl Journal {
         Ok(())
     }
 
-    /// Adds the entries of a part's own run at the end, under these numbers. The error is refused memory, or a number that doesn't fit 64 bits, and
-    /// then nothing changes.
+    /// Adds the entries of a part's own run at the end, under the enclosing run's numbers, which `numbering` gives; a *part* is a call of a
+    /// definition that was run by itself. The error is refused memory, or a number that doesn't fit 64 bits, and then nothing changes.
     pub fn append(&mut self, part: &Journal, numbering: Numbering) -> Result<(), AllocError>
         ensures added { OnOk result (self.new ≡ journal_with self.old (map (moved numbering) part.now.entries)) }
         ensures refused { OnErr result (self.new ≡ self.old) }

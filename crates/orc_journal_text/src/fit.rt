@@ -9,14 +9,14 @@ use orc_rules::value::Value;
 
 // The three functions below do nothing when they run: `has_line` calls them to show the prover that each field fits 64 bits, as `Fits` asks.
 
-// A u64 is below 2^64: the prover knows that once a function looks at the number.
+// For the prover alone: a u64 is below 2^64, which the prover knows once a function looks at the number.
 fn number_fits(number: u64)
     ensures { number < 2 ^ 64 }
 {
     let _number = number;
 }
 
-// A value's number has 64 signed bits.
+// For the prover alone: a value that is a number has 64 signed bits. Any other value fits anyway.
 fn value_fits(value: Value)
     ensures { IsValue value }
 {
@@ -27,7 +27,8 @@ fn value_fits(value: Value)
     }
 }
 
-// The numbers of these values have 64 signed bits. It recurses over the arguments of one call, `MOST_ARGUMENTS` at most.
+// For the prover alone: each of these values fits, as `value_fits` shows. The function recurses over the arguments of one call, `MOST_ARGUMENTS` at
+// most.
 fn values_fit(list: &[Value])
     ensures { AreValues list.now }
 {
@@ -79,6 +80,7 @@ pub fn has_line(entry: &Entry, answers: &Answers) -> bool
             number_fits(*s);
             number_fits(*k);
             values_fit(args.as_slice());
+            // The table has the site if it has a name for the site's number.
             return answers.name(*site).is_some();
         }
     }

@@ -58,6 +58,7 @@ impl<R: Read + Drop> Model for Lines<R> {
 
     ghost Value = { Left };
 
+    // `coming` is what has come of the text and isn't used, with what the reader still has.
     ghost view = { λ l. record { version = l.version; coming = l.pieces; read = l.read; counted = l.counted } };
 
     ghost invariant = { λ l. (l.read + length l.pieces.rest ≤ l.pieces.came) × (l.pieces.came < LONGEST_JOURNAL + 2 ^ 63) × (l.counted ≤ MOST_ENTRIES) };
@@ -81,7 +82,7 @@ pub(crate) fn is_known(version: Version, entry: &Entry) -> bool
     !matches!((version, entry), (Version::One, Entry::Cancel(_)))
 }
 
-// How many entries count for `MOST_ENTRIES`, with this one.
+// How many entries count for `MOST_ENTRIES`, with this one, where `counted` did before it: a cancel doesn't count.
 fn count_with(counted: u64, entry: &Entry) -> u64
     requires { counted < 2 ^ 63 }
     ensures { result ≡ (if counts entry.now then counted + 1 else counted) }
@@ -164,7 +165,7 @@ impl<R: Read + Drop> Lines<R> {
         self.version
     }
 
-    /// How many entries were read.
+    /// How many entries were read, cancels too.
     pub fn read(&self) -> usize
         ensures count { result ≡ self.now.read }
         ensures fits { result < 2 ^ 64 - 1 }
@@ -187,6 +188,7 @@ impl<R: Read + Drop> Lines<R> {
         ensures fault { IfErr result (λ f. (f ≡ Text Long) × ((text : List ℕ) (es : List EntryOf) → HasRead answers.now.names text self.old es → HasTooMany answers.now.names text self.old.version)) }
     {
         let Some(behind) = next_entry(self.version, self.pieces.rest(), answers, entry) else {
+            // No whole line of an entry is at the front.
             return Ok(false);
         };
         let left = behind.len();
@@ -222,6 +224,7 @@ impl<R: Read + Drop> Lines<R> {
             }
             if !self.pieces.fill()? {
                 if self.pieces.rest().is_empty() {
+                    // The text has ended, and all of it was used.
                     return Ok(false);
                 }
                 // What is left is no line, or only the beginning of one.

@@ -52,6 +52,7 @@ fn read_some<R: Read>(source: &mut R, room: &mut [u8]) -> Option<usize>
     for _ in 0..MOST_TRIES {
         match source.read(room) {
             Ok(count) => return Some(count),
+            // A signal interrupted the read: another try follows.
             Err(error) if error.kind() == ErrorKind::Interrupted => {}
             Err(_) => return None,
         }
@@ -112,7 +113,7 @@ impl<R: Read + Drop> Pieces<R> {
         &self.room[self.start..self.end]
     }
 
-    /// Drops all but the last `count` bytes of what has come: the others are used.
+    /// Keeps the last `count` bytes of what has come, and drops the others, which are used.
     pub(crate) fn keep_last(&mut self, count: usize)
         requires { count ≤ length self.old.rest }
         ensures { self.new ≡ with_rest self.old (drop (length self.old.rest - count) self.old.rest) }
@@ -130,6 +131,7 @@ impl<R: Read + Drop> Pieces<R> {
         ensures fault { IfErr result (IsUnfilled self.old.came) }
         ensures same { OnErr result ((self.new.rest ≡ self.old.rest) × (self.new.came ≡ self.old.came)) }
     {
+        // More has come already than the longest text has.
         if self.came > LONGEST_JOURNAL {
             return Err(LinesFault::Text(JournalFault::Long));
         }
@@ -146,7 +148,7 @@ impl<R: Read + Drop> Pieces<R> {
         self.came += count;
         Ok(count > 0)
     }
-    // Drops all but the first of the bytes that aren't used.
+    // Keeps the first of the bytes that aren't used, and drops the others.
     fn keep_first(&mut self)
         requires { 0 < length self.old.rest }
         ensures { self.new ≡ with_rest self.old (take 1 self.old.rest) }

@@ -21,7 +21,7 @@ use orc_rules::value::{Args, Value};
 /// A number of so many digits fits 64 bits, since a digit takes 4 bits at most.
 const FEW: usize = 16;
 
-// The bytes after a text that is at the front.
+// The bytes after a text that is at the front of `bytes`. None if it isn't there. By `Gives` the result is the one that `specs/Reading` defines.
 #[inline(always)]
 pub(crate) fn after<'a>(text: &[u8], bytes: &'a [u8]) -> Option<&'a [u8]>
     ensures { Gives (λ r. r.now) result (after text.now bytes.now) }
@@ -54,7 +54,8 @@ fn is_plain(bytes: &[u8]) -> bool
 }
 
 // The number that the digits at the front spell, as `digits_at` gives it. It is quicker for a number of fewer than `FEW` digits with at least `FEW`
-// bytes from its first digit on: no sum can be too great and no index out of range, so neither is tested.
+// bytes from its first digit on: no sum can be too great and no index out of range, so neither is tested. By `Gives` the result is the one that
+// `specs/Reading` defines.
 #[inline(always)]
 fn few_digits_at(bytes: &[u8]) -> Option<(u64, &[u8])>
     ensures { Gives (λ x. (x.0, x.1.now)) result (digits_at bytes.now) }
@@ -75,7 +76,8 @@ fn few_digits_at(bytes: &[u8]) -> Option<(u64, &[u8])>
     Some((number, &bytes[at..]))
 }
 
-// The decimal number at the front. None if no digit is there, or the number has leading zeros or over 64 bits.
+// The decimal number at the front, and the bytes behind it. None if no digit is there, or the number has leading zeros or over 64 bits. By `Gives`
+// the result is the one that `specs/Reading` defines.
 #[inline(always)]
 #[tactic(auto, unfolding(crate::specs::Reading::number_at))]
 fn number_at(bytes: &[u8]) -> Option<(u64, &[u8])>
@@ -98,7 +100,8 @@ fn negated(number: u64) -> i64
     -1 - below
 }
 
-// `true`, `false`, `signal`, or a number of 64 signed bits; `-0` is none.
+// The value at the front, and the bytes behind it: `true`, `false`, `signal`, or a number of 64 signed bits; `-0` is none. By `Gives` the result is
+// the one that `specs/Reading` defines.
 #[inline(always)]
 #[tactic(auto, unfolding(crate::specs::Reading::value_at))]
 fn value_at(bytes: &[u8]) -> Option<(Value, &[u8])>
@@ -127,7 +130,8 @@ fn value_at(bytes: &[u8]) -> Option<(Value, &[u8])>
     None
 }
 
-// A number field. Each field of a line is a space and what it holds.
+// The number in the field at the front, and the bytes behind it. Each field of a line is a space and what it holds. By `Gives` the result is the one
+// that `specs/Reading` defines.
 #[inline(always)]
 #[tactic(auto, unfolding(crate::specs::Reading::number_field))]
 fn number_field(bytes: &[u8]) -> Option<(u64, &[u8])>
@@ -136,7 +140,8 @@ fn number_field(bytes: &[u8]) -> Option<(u64, &[u8])>
     number_at(after(b" ", bytes)?)
 }
 
-// A field with a value.
+// The value in the field at the front, and the bytes behind it. Each field of a line is a space and what it holds. By `Gives` the result is the one
+// that `specs/Reading` defines.
 #[inline(always)]
 #[tactic(auto, unfolding(crate::specs::Reading::value_field))]
 fn value_field(bytes: &[u8]) -> Option<(Value, &[u8])>
@@ -145,7 +150,7 @@ fn value_field(bytes: &[u8]) -> Option<(Value, &[u8])>
     value_at(after(b" ", bytes)?)
 }
 
-// Two fields with numbers.
+// The numbers in the two fields at the front, and the bytes behind them. By `Gives` the result is the one that `specs/Reading` defines.
 #[inline(always)]
 #[tactic(auto, unfolding(crate::specs::Reading::pair_field))]
 fn pair_field(bytes: &[u8]) -> Option<((u64, u64), &[u8])>
@@ -156,7 +161,8 @@ fn pair_field(bytes: &[u8]) -> Option<((u64, u64), &[u8])>
     Some(((first, second), rest))
 }
 
-// A field with a number, a mark or a cell, and one with a value.
+// The number, that of a mark or a cell, and the value in the two fields at the front, and the bytes behind them. By `Gives` the result is the one
+// that `specs/Reading` defines.
 #[inline(always)]
 #[tactic(auto, unfolding(crate::specs::Reading::sent_field))]
 fn sent_field(bytes: &[u8]) -> Option<((u64, Value), &[u8])>
@@ -167,7 +173,8 @@ fn sent_field(bytes: &[u8]) -> Option<((u64, Value), &[u8])>
     Some(((mark, value), rest))
 }
 
-// What a `return` has behind its call: ` halt` (None), or the fields of a mark and a value.
+// What a `return` has behind its call, and the bytes behind that: None for ` halt`, or what the fields of a mark and a value hold. By `Gives` the
+// result is the one that `specs/Reading` defines.
 #[inline(always)]
 #[tactic(auto, unfolding(crate::specs::Reading::outcome_field))]
 fn outcome_field(bytes: &[u8]) -> Option<(Option<(u64, Value)>, &[u8])>
@@ -210,6 +217,7 @@ fn is_name_of(name: &[u8], site: u32, answers: &Answers) -> bool
     ensures { result ≡ true → slice_get answers.now.names site ≡ Some name.now }
 {
     match answers.name(site) {
+        // The names are equal if nothing of `name` follows.
         Some(known) => match after(known, name) {
             Some([]) => true,
             _ => false,
@@ -233,7 +241,8 @@ fn site_of(name: &[u8], answers: &Answers) -> Option<u32>
     answers.site_named(name)
 }
 
-// A site's name, as far as the first `(`: its number. None if the table has no such site.
+// The number of the site whose name is at the front, as far as the first `(`, and the bytes from that on. None if the table has no such site. By
+// `Gives` the result is the one that `specs/Reading` defines.
 #[tactic(auto, unfolding(crate::specs::Reading::name_at))]
 fn name_at<'a>(bytes: &'a [u8], answers: &Answers) -> Option<(u32, &'a [u8])>
     ensures { Gives (λ x. (x.0, x.1.now)) result (name_at answers.now.names bytes.now) }
@@ -243,7 +252,8 @@ fn name_at<'a>(bytes: &'a [u8], answers: &Answers) -> Option<(u32, &'a [u8])>
     Some((site, rest))
 }
 
-// Puts the arguments of a call, in brackets, into `args`.
+// Puts the arguments of a call, in brackets, into `args`, and gives the bytes behind them. By `Gives` the result is the one that `specs/Reading`
+// defines.
 #[tactic(auto, unfolding(crate::specs::Reading::arguments_at))]
 fn arguments_at<'a>(bytes: &'a [u8], args: &mut Args) -> Option<&'a [u8]>
     ensures { Gives (λ r. (args.new, r.now)) result (arguments_at bytes.now) }
@@ -256,7 +266,8 @@ fn arguments_at<'a>(bytes: &'a [u8], args: &mut Args) -> Option<&'a [u8]>
     values_at(rest, args)
 }
 
-// Puts one to `MOST_ARGUMENTS` values with commas between them, and the closing bracket behind them, into `args`.
+// Puts one to `MOST_ARGUMENTS` values with commas between them, and a closing bracket, into `args`, and gives the bytes behind the bracket. By
+// `Gives` the result is the one that `specs/Reading` defines.
 fn values_at<'a>(bytes: &'a [u8], args: &mut Args) -> Option<&'a [u8]>
     ensures { Gives (λ r. (args.new, r.now)) result (values_at MOST_ARGUMENTS bytes.now) }
 {
@@ -274,7 +285,7 @@ fn values_at<'a>(bytes: &'a [u8], args: &mut Args) -> Option<&'a [u8]>
     None
 }
 
-// This kind, if its word is at the front.
+// This kind, if its word is at the front, and the bytes behind the word; else None. By `Gives` the result is the one that `specs/Reading` defines.
 #[inline(always)]
 fn word_at(kind: Kind, bytes: &[u8]) -> Option<(Kind, &[u8])>
     ensures { Gives (λ x. (x.0, x.1.now)) result (kind_from (kind ∷ []) bytes.now) }
@@ -285,7 +296,8 @@ fn word_at(kind: Kind, bytes: &[u8]) -> Option<(Kind, &[u8])>
     }
 }
 
-// The one of two kinds whose word is at the front.
+// The one of two kinds whose word is at the front, and the bytes behind the word; None if neither is. By `Gives` the result is the one that
+// `specs/Reading` defines.
 #[inline(always)]
 fn either_at(kind: Kind, other: Kind, bytes: &[u8]) -> Option<(Kind, &[u8])>
     ensures { Gives (λ x. (x.0, x.1.now)) result (kind_from (kind ∷ other ∷ []) bytes.now) }
@@ -296,7 +308,8 @@ fn either_at(kind: Kind, other: Kind, bytes: &[u8]) -> Option<(Kind, &[u8])>
     }
 }
 
-// The kind whose word is at the front. The first letter leaves two kinds at most. The word `return` gives Return, even if ` halt` comes later.
+// The kind whose word is at the front, and the bytes behind the word. The first letter leaves two kinds at most. The word `return` gives Return, even
+// if ` halt` comes later. By `Gives` the result is the one that `specs/Reading` defines.
 #[inline(always)]
 fn kind_at(bytes: &[u8]) -> Option<(Kind, &[u8])>
     ensures { Gives (λ x. (x.0, x.1.now)) result (kind_from all_kinds bytes.now) }
@@ -325,7 +338,8 @@ fn kind_at(bytes: &[u8]) -> Option<(Kind, &[u8])>
 // in its place: it has room for the arguments of a call, and to copy it takes longer than to read a line. One function for all kinds would clear the
 // room of all their fields at each line. Only a call's line has the name of a site: the other contracts hold for any `names`.
 
-// The fields of a `call`: the token's mark, the call's number, and the site's name with the arguments.
+// Reads the fields of a `call` into `entry`: the token's mark, the call's number, and the site's name with the arguments. Gives the bytes behind
+// them. By `Gives` the result is the one that `specs/Reading` defines.
 #[inline(never)]
 #[tactic(auto, unfolding(crate::specs::Reading::fields_at, crate::specs::Reading::call_field))]
 fn call_at<'a>(bytes: &'a [u8], answers: &Answers, entry: &mut Entry) -> Option<&'a [u8]>
@@ -343,7 +357,8 @@ fn call_at<'a>(bytes: &'a [u8], answers: &Answers, entry: &mut Entry) -> Option<
     }
 }
 
-// The field of an `end`: the token's mark.
+// Reads the field of an `end` into `entry`: the token's mark. Gives the bytes behind it. By `Gives` the result is the one that `specs/Reading`
+// defines.
 #[inline(never)]
 #[tactic(auto, unfolding(crate::specs::Reading::fields_at))]
 fn end_at<'a>(bytes: &'a [u8], entry: &mut Entry) -> Option<&'a [u8]>
@@ -354,7 +369,8 @@ fn end_at<'a>(bytes: &'a [u8], entry: &mut Entry) -> Option<&'a [u8]>
     Some(rest)
 }
 
-// The fields of a `fork`: the token's mark, and the marks of the two new tokens.
+// Reads the fields of a `fork` into `entry`: the token's mark, and the marks of the two new tokens. Gives the bytes behind them. By `Gives` the
+// result is the one that `specs/Reading` defines.
 #[inline(never)]
 #[tactic(auto, unfolding(crate::specs::Reading::fields_at))]
 fn fork_at<'a>(bytes: &'a [u8], entry: &mut Entry) -> Option<&'a [u8]>
@@ -366,7 +382,8 @@ fn fork_at<'a>(bytes: &'a [u8], entry: &mut Entry) -> Option<&'a [u8]>
     Some(rest)
 }
 
-// The fields of a `seq`: the token's mark, and that of the new token.
+// Reads the fields of a `seq` into `entry`: the token's mark, and that of the new token. Gives the bytes behind them. By `Gives` the result is the
+// one that `specs/Reading` defines.
 #[inline(never)]
 #[tactic(auto, unfolding(crate::specs::Reading::fields_at))]
 fn seq_at<'a>(bytes: &'a [u8], entry: &mut Entry) -> Option<&'a [u8]>
@@ -377,7 +394,8 @@ fn seq_at<'a>(bytes: &'a [u8], entry: &mut Entry) -> Option<&'a [u8]>
     Some(rest)
 }
 
-// The fields of an `other`: the token's mark, and that of the new token.
+// Reads the fields of an `other` into `entry`: the token's mark, and that of the new token. Gives the bytes behind them. By `Gives` the result is the
+// one that `specs/Reading` defines.
 #[inline(never)]
 #[tactic(auto, unfolding(crate::specs::Reading::fields_at))]
 fn other_at<'a>(bytes: &'a [u8], entry: &mut Entry) -> Option<&'a [u8]>
@@ -388,7 +406,8 @@ fn other_at<'a>(bytes: &'a [u8], entry: &mut Entry) -> Option<&'a [u8]>
     Some(rest)
 }
 
-// The fields of a `def`: the token's mark, and that of the new token.
+// Reads the fields of a `def` into `entry`: the token's mark, and that of the new token. Gives the bytes behind them. By `Gives` the result is the
+// one that `specs/Reading` defines.
 #[inline(never)]
 #[tactic(auto, unfolding(crate::specs::Reading::fields_at))]
 fn def_at<'a>(bytes: &'a [u8], entry: &mut Entry) -> Option<&'a [u8]>
@@ -399,7 +418,8 @@ fn def_at<'a>(bytes: &'a [u8], entry: &mut Entry) -> Option<&'a [u8]>
     Some(rest)
 }
 
-// The field of a `void`: the token's mark.
+// Reads the field of a `void` into `entry`: the token's mark. Gives the bytes behind it. By `Gives` the result is the one that `specs/Reading`
+// defines.
 #[inline(never)]
 #[tactic(auto, unfolding(crate::specs::Reading::fields_at))]
 fn void_at<'a>(bytes: &'a [u8], entry: &mut Entry) -> Option<&'a [u8]>
@@ -410,7 +430,8 @@ fn void_at<'a>(bytes: &'a [u8], entry: &mut Entry) -> Option<&'a [u8]>
     Some(rest)
 }
 
-// The fields of an `open`: the token's mark, the cell's number, and the marks of the two new tokens.
+// Reads the fields of an `open` into `entry`: the token's mark, the cell's number, and the marks of the two new tokens. Gives the bytes behind them.
+// By `Gives` the result is the one that `specs/Reading` defines.
 #[inline(never)]
 #[tactic(auto, unfolding(crate::specs::Reading::fields_at))]
 fn open_at<'a>(bytes: &'a [u8], entry: &mut Entry) -> Option<&'a [u8]>
@@ -423,7 +444,8 @@ fn open_at<'a>(bytes: &'a [u8], entry: &mut Entry) -> Option<&'a [u8]>
     Some(rest)
 }
 
-// The fields of a `send`: the token's mark, that of the new token, and the value.
+// Reads the fields of a `send` into `entry`: the token's mark, that of the new token, and the value. Gives the bytes behind them. By `Gives` the
+// result is the one that `specs/Reading` defines.
 #[inline(never)]
 #[tactic(auto, unfolding(crate::specs::Reading::fields_at))]
 fn send_at<'a>(bytes: &'a [u8], entry: &mut Entry) -> Option<&'a [u8]>
@@ -435,7 +457,8 @@ fn send_at<'a>(bytes: &'a [u8], entry: &mut Entry) -> Option<&'a [u8]>
     Some(rest)
 }
 
-// The fields of either kind of `return`: the call's number, and `halt` or the new token's mark and the value. Only they tell whether it halts.
+// Reads the fields of either kind of `return` into `entry`: the call's number, and `halt` or the new token's mark and the value. Only they tell
+// whether it halts. Gives the bytes behind them. By `Gives` the result is the one that `specs/Reading` defines.
 #[inline(never)]
 #[tactic(auto, unfolding(crate::specs::Reading::fields_at))]
 fn return_at<'a>(bytes: &'a [u8], entry: &mut Entry) -> Option<&'a [u8]>
@@ -455,7 +478,8 @@ fn return_at<'a>(bytes: &'a [u8], entry: &mut Entry) -> Option<&'a [u8]>
     Some(rest)
 }
 
-// The fields of a `bind`: the token's mark, the cell's number, and the value.
+// Reads the fields of a `bind` into `entry`: the token's mark, the cell's number, and the value. Gives the bytes behind them. By `Gives` the result
+// is the one that `specs/Reading` defines.
 #[inline(never)]
 #[tactic(auto, unfolding(crate::specs::Reading::fields_at))]
 fn bind_at<'a>(bytes: &'a [u8], entry: &mut Entry) -> Option<&'a [u8]>
@@ -467,7 +491,8 @@ fn bind_at<'a>(bytes: &'a [u8], entry: &mut Entry) -> Option<&'a [u8]>
     Some(rest)
 }
 
-// The field of a `lost`: the cell's number.
+// Reads the field of a `lost` into `entry`: the cell's number. Gives the bytes behind it. By `Gives` the result is the one that `specs/Reading`
+// defines.
 #[inline(never)]
 #[tactic(auto, unfolding(crate::specs::Reading::fields_at))]
 fn lost_at<'a>(bytes: &'a [u8], entry: &mut Entry) -> Option<&'a [u8]>
@@ -478,7 +503,8 @@ fn lost_at<'a>(bytes: &'a [u8], entry: &mut Entry) -> Option<&'a [u8]>
     Some(rest)
 }
 
-// The fields of a `right`: the otherwise's mark, and that of the new token.
+// Reads the fields of a `right` into `entry`: the otherwise's mark, and that of the new token. Gives the bytes behind them. By `Gives` the result is
+// the one that `specs/Reading` defines.
 #[inline(never)]
 #[tactic(auto, unfolding(crate::specs::Reading::fields_at))]
 fn right_at<'a>(bytes: &'a [u8], entry: &mut Entry) -> Option<&'a [u8]>
@@ -489,7 +515,8 @@ fn right_at<'a>(bytes: &'a [u8], entry: &mut Entry) -> Option<&'a [u8]>
     Some(rest)
 }
 
-// The fields of a `publish`: the token's mark, and the value.
+// Reads the fields of a `publish` into `entry`: the token's mark, and the value. Gives the bytes behind them. By `Gives` the result is the one that
+// `specs/Reading` defines.
 #[inline(never)]
 #[tactic(auto, unfolding(crate::specs::Reading::fields_at))]
 fn publish_at<'a>(bytes: &'a [u8], entry: &mut Entry) -> Option<&'a [u8]>
@@ -500,7 +527,7 @@ fn publish_at<'a>(bytes: &'a [u8], entry: &mut Entry) -> Option<&'a [u8]>
     Some(rest)
 }
 
-// The field of a `tick`: the new time.
+// Reads the field of a `tick` into `entry`: the new time. Gives the bytes behind it. By `Gives` the result is the one that `specs/Reading` defines.
 #[inline(never)]
 #[tactic(auto, unfolding(crate::specs::Reading::fields_at))]
 fn tick_at<'a>(bytes: &'a [u8], entry: &mut Entry) -> Option<&'a [u8]>
@@ -511,7 +538,8 @@ fn tick_at<'a>(bytes: &'a [u8], entry: &mut Entry) -> Option<&'a [u8]>
     Some(rest)
 }
 
-// The field of a `cancel`: the call's number.
+// Reads the field of a `cancel` into `entry`: the call's number. Gives the bytes behind it. By `Gives` the result is the one that `specs/Reading`
+// defines.
 #[inline(never)]
 #[tactic(auto, unfolding(crate::specs::Reading::fields_at))]
 fn cancel_at<'a>(bytes: &'a [u8], entry: &mut Entry) -> Option<&'a [u8]>
@@ -522,7 +550,8 @@ fn cancel_at<'a>(bytes: &'a [u8], entry: &mut Entry) -> Option<&'a [u8]>
     Some(rest)
 }
 
-// Puts the entry of this kind whose fields are at the front into `entry`.
+// Puts the entry of this kind whose fields are at the front into `entry`, and gives the bytes behind the fields. By `Gives` the result is the one
+// that `specs/Reading` defines.
 #[inline(always)]
 fn fields_at<'a>(
     kind: Kind,
@@ -553,7 +582,8 @@ fn fields_at<'a>(
     }
 }
 
-// Puts the entry whose line is at the front into `entry`: its word, its fields and LF.
+// Puts the entry whose line is at the front, with its word, its fields and LF, into `entry`, and gives the bytes behind the line. By `Gives` the
+// result is the one that `specs/Reading` defines.
 #[inline(always)]
 #[tactic(auto, unfolding(crate::specs::Reading::entry_at))]
 fn entry_at<'a>(bytes: &'a [u8], answers: &Answers, entry: &mut Entry) -> Option<&'a [u8]>

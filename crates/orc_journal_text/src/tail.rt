@@ -70,6 +70,7 @@ impl Tail {
         ensures text { self.new ≡ decimal n ++ self.old }
         ensures few { length self.new ≤ 20 + length self.old }
     {
+        // The digits end before `start`, and `write_digits` gives where they begin.
         self.start = itoa::write_digits(n, &mut self.room, self.start);
     }
 

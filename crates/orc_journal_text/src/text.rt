@@ -140,7 +140,7 @@ pub fn write_journal(
     // A placeholder, which `read` overwrites.
     let mut entry = Entry::Tick(0);
     for at in 0..journal.len() {
-        // There is an entry at each place below the length.
+        // There is an entry at each place below the length, so `read` is always true.
         if journal.read(at, &mut entry) {
             if !is_written(journal.version(), &entry, answers) {
                 return Ok(false);

@@ -17,8 +17,9 @@ use std::io::Write;
 /// A piece is written as soon as it has so many bytes: the output is asked seldom, and a piece takes little memory.
 const PIECE: usize = 65_536;
 
-/// Writes the text of a journal of the second version; no more than a piece of it is in memory at one time. The fault is that the output failed or
-/// took nothing, that memory for a piece was refused, or that a call's site has no name in the table; then a prefix of the text was written.
+/// Writes the text of a journal; no more than a piece of it is in memory at one time. The contract promises the whole text for the second version
+/// alone. The fault is that the output failed or took nothing, that memory for a piece was refused, or that a call's site has no name in the table;
+/// then a prefix of the text was written.
 pub fn write_journal<W: Write>(
     alloc: Global,
     journal: &Journal,

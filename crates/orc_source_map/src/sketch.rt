@@ -9,7 +9,7 @@ use orc_syntax::{Ast, Expr, Name, Node, Operator, Part};
 use std::alloc::{AllocError, Global};
 use std::collections::HashMap;
 
-/// What a pruning's value is for.
+/// What the value of a pruning's right side is for.
 #[derive(Clone, Copy)]
 pub enum Purpose<'a> {
     /// The variable of this name.
@@ -20,7 +20,7 @@ pub enum Purpose<'a> {
     Nothing,
 }
 
-/// What stands at a spot, with the spots of its parts.
+/// What stands at a spot, the number of a part of the program, with the spots of its parts.
 #[derive(Clone, Copy)]
 pub enum Shape<'a> {
     /// `stop`, a value or a variable. It has no parts.
@@ -46,7 +46,7 @@ struct Pending {
     is_simple: bool,
 }
 
-/// The span of a spot that there isn't.
+/// The place in the source, its start and its end, of a spot that there isn't: empty.
 const NOWHERE: Span = Span { start: 0, end: 0 };
 
 /// What is taken where nothing is pending. With a parsed program something always is.
@@ -56,10 +56,11 @@ const NO_PART: Pending = Pending {
     is_simple: true,
 };
 
-/// A program's spots, each behind those of its parts.
+/// A program's spots, the numbers of its parts, from 0; each is behind those of its own parts.
 pub struct Sketch<'a> {
+    // By spots: what stands at each.
     shapes: Vec<Shape<'a>>,
-    // Where each of them stands in the source.
+    // By spots: where each stands in the source.
     spans: Vec<Span>,
     // The places of the definitions, from 0, by their names, of which a checked program has none twice.
     definitions: HashMap<&'a [u8], usize>,
@@ -169,8 +170,8 @@ impl<'a> Sketch<'a> {
         }
     }
 
-    // Reads a call of `count` arguments, which are the last pending parts. Each one that is an expression becomes a pruning round the call, that of
-    // the first one innermost. What is left pending in their place is the outermost pruning, or the call.
+    // Reads a call of `count` arguments, which are the last pending parts, those that nothing has taken yet. Each one that is an expression becomes a
+    // pruning round the call, that of the first one innermost. What is left pending in their place is the outermost pruning, or the call.
     fn read_call(&mut self, name: Name<'a>, count: usize, span: Span) -> Result<(), AllocError> {
         // Where the arguments begin among the pending parts.
         let first = self.pending.len().saturating_sub(count);
@@ -188,8 +189,8 @@ impl<'a> Sketch<'a> {
         Ok(())
     }
 
-    // The spot of the pruning of an argument, by its place from 0, round the spot `call`; that spot itself where the argument is simple. `first` is
-    // where the call's arguments begin among the pending parts. `name` and `span` are the call's.
+    // The spot of the pruning of an argument, by its `place` from 0, round the spot `call`; that spot itself where the argument is simple, a value or
+    // a variable. `first` is where the call's arguments begin among the pending parts. `name` and `span` are the call's.
     fn wrap(
         &mut self,
         call: usize,
@@ -208,7 +209,7 @@ impl<'a> Sketch<'a> {
         }
     }
 
-    // Adds a spot, and gives its number.
+    // Adds a spot with what stands there and where it is in the source, and gives its number.
     fn add(&mut self, shape: Shape<'a>, span: Span) -> Result<usize, AllocError> {
         let spot = self.shapes.len();
         self.spans.push(span)?;
@@ -216,7 +217,8 @@ impl<'a> Sketch<'a> {
         Ok(spot)
     }
 
-    // Adds a spot, and puts it on top of the pending parts.
+    // Adds a spot, and puts it on top of the pending parts, those that nothing has taken yet. `is_simple` says that as an argument it needs no
+    // pruning.
     fn put(&mut self, shape: Shape<'a>, span: Span, is_simple: bool) -> Result<(), AllocError> {
         let spot = self.add(shape, span)?;
         self.pending.push(Pending {
@@ -227,7 +229,7 @@ impl<'a> Sketch<'a> {
         Ok(())
     }
 
-    // Takes the last pending part.
+    // Takes the last pending part; `NO_PART` if none is pending, which never happens with a parsed program.
     fn take(&mut self) -> Pending {
         self.pending.pop().unwrap_or(NO_PART)
     }

@@ -27,7 +27,8 @@ pub enum Way {
     Then(u64),
 }
 
-/// A step from the running term into one of its sides. Steps are numbered from 1, as they come up; 0 is the whole term.
+/// A step from the running term into one of its sides: so a token's step says which sides enclose it. Steps are numbered from 1, as they come up; 0
+/// is the whole term.
 #[derive(Clone, Copy)]
 pub struct Step {
     pub way: Way,
@@ -52,16 +53,16 @@ struct Entered {
     outer: usize,
 }
 
-/// Where the tokens of a run stand. A bind drops tokens whose marks its entry doesn't name: these are kept where they stood, so a token of the trail
-/// may be gone from the term.
+/// Where the tokens of a run stand: at which spot, the number of a part of the program. A bind drops tokens whose marks its entry doesn't name: these
+/// are kept where they stood, so a token of the trail may be gone from the term.
 pub struct Trail {
-    // By their marks.
+    // The tokens by their marks, the numbers by which a journal names them.
     tokens: HashMap<u64, Token>,
     // The otherwises whose right sides haven't begun, by their marks.
     others: HashMap<u64, Entered>,
     // The number of the step of each pending call, by the call's number.
     calls: HashMap<u64, usize>,
-    // Step 1 first. None is taken out, so numbers stay what they are.
+    // All steps into sides, step 1 first. None is taken out, so numbers stay what they are.
     steps: Vec<Step>,
 }
 
@@ -111,7 +112,7 @@ impl Trail {
         self.steps.as_slice()
     }
 
-    /// What stands under the token of a mark; a leaf where there is none, or where it stands on a call's answer.
+    /// What stands under the token of a mark; a leaf where there is none, or where the token stands on a call's answer.
     pub fn shape<'a>(&self, sketch: &Sketch<'a>, mark: u64) -> Shape<'a> {
         match self.token(mark) {
             Some(
@@ -136,11 +137,13 @@ impl Trail {
             Entry::Send(s, a, _) => self.send(*s, *a),
             Entry::Call(s, k, _, _) => self.call(*s, *k),
             Entry::Return(k, a, _) => self.answer(*k, *a),
+            // The call pends no more.
             Entry::ReturnHalt(k) | Entry::Cancel(k) => {
                 let _step = self.calls.remove(k);
                 Ok(())
             }
             Entry::Right(s, a) => self.resume(*s, *a),
+            // The token goes, and none comes in its place.
             Entry::End(s) | Entry::Void(s) | Entry::Bind(s, _, _) | Entry::Publish(s, _) => {
                 let _gone = self.tokens.remove(s);
                 Ok(())
@@ -150,7 +153,7 @@ impl Trail {
         }
     }
 
-    // `fork`: the token `mark` becomes the tokens `first` and `second`, on the sides of its `|`. Both stay in its step.
+    // `fork`: the token `mark` becomes the tokens `first` and `second`, on the sides of its `|`. Both stay in its step, since a `|` makes none.
     fn fork(
         &mut self,
         sketch: &Sketch,
@@ -167,7 +170,7 @@ impl Trail {
         Ok(())
     }
 
-    // `seq`: the token `mark` becomes the token `first`, on the left side of its `>x>`, in a new step.
+    // `seq`: the token `mark` becomes the token `first`, on the left side of its `>x>`, in a new step, which says that this side encloses it.
     fn enter_left(&mut self, sketch: &Sketch, mark: u64, first: u64) -> Result<(), AllocError> {
         let shape = self.shape(sketch, mark);
         let step = self.take(mark);
@@ -178,7 +181,8 @@ impl Trail {
         Ok(())
     }
 
-    // `other`: the token `mark` becomes the token `first`, on the left side of an otherwise, in a new step. The otherwise keeps `mark` as its own.
+    // `other`: the token `mark` becomes the token `first`, on the left side of an otherwise, in a new step, which says that this side encloses it.
+    // The otherwise keeps `mark` as its own.
     fn enter_first(&mut self, sketch: &Sketch, mark: u64, first: u64) -> Result<(), AllocError> {
         let shape = self.shape(sketch, mark);
         let outer = self.take(mark);
@@ -191,7 +195,7 @@ impl Trail {
     }
 
     // `open`: the token `mark` becomes the tokens `first` and `second`, on the left and the right side of a pruning. Only the right one is in a new
-    // step.
+    // step: what it publishes goes to the cell, and the left side changes nothing about what takes a publication.
     fn open(
         &mut self,
         sketch: &Sketch,
@@ -210,7 +214,7 @@ impl Trail {
         Ok(())
     }
 
-    // `def`: the token `mark`, at a call of a definition, becomes the token `first` on the definition's body, in the same step.
+    // `def`: the token `mark`, at a call of a definition, becomes the token `first` on the definition's body, in the same step: no side is entered.
     fn define(&mut self, sketch: &Sketch, mark: u64, first: u64) -> Result<(), AllocError> {
         let shape = self.shape(sketch, mark);
         let step = self.take(mark);
@@ -220,7 +224,8 @@ impl Trail {
         Ok(())
     }
 
-    // `send`: a publication of the token `mark` goes to a `>x>`. The token `first` is on a copy of its right side, in the step round the `>x>`.
+    // `send`: a publication of the token `mark` goes to a `>x>`. The token `first` is on a copy of that one's right side, in the step round the
+    // `>x>`.
     fn send(&mut self, mark: u64, first: u64) -> Result<(), AllocError> {
         let step = self.take(mark);
         if let Some((right, outer)) = self.taker(step) {
@@ -229,7 +234,7 @@ impl Trail {
         Ok(())
     }
 
-    // `call`: the token `mark` becomes the pending call with this number, in its step.
+    // `call`: the token `mark` becomes the pending call with this number, which keeps the number of the token's step for its answer.
     fn call(&mut self, mark: u64, number: u64) -> Result<(), AllocError> {
         let step = self.take(mark);
         self.calls.insert(number, step)?;
@@ -249,7 +254,8 @@ impl Trail {
         Ok(())
     }
 
-    // `right`: the left side of the otherwise `mark` has halted, and the token `first` stands on the right one, in a new step.
+    // `right`: the left side of the otherwise `mark` has halted, and the token `first` stands on the right one, in a new step that is inside the one
+    // round the otherwise.
     fn resume(&mut self, mark: u64, first: u64) -> Result<(), AllocError> {
         if let Some(entered) = self.others.remove(&mark) {
             let inner = self.add_step(Way::Then(mark), entered.outer)?;
@@ -258,8 +264,8 @@ impl Trail {
         Ok(())
     }
 
-    // What takes a publication from inside the step of this number: the spot of the right side of the nearest `>x>` round it, and the number of
-    // the step round that `>x>`. None where the right side of a pruning takes it, or nothing in the whole does.
+    // What takes a publication from inside the step with the number `from`: the spot of the right side of the nearest `>x>` round it, and the number
+    // of the step round that `>x>`. None where the right side of a pruning takes it, or nothing in the whole does.
     fn taker(&self, from: usize) -> Option<(usize, usize)> {
         let mut number = from;
         // Each turn goes one step outwards, so there are no more turns than steps.
@@ -275,7 +281,7 @@ impl Trail {
         None
     }
 
-    // The token `mark` comes to stand at a spot, in the step with this number.
+    // The token `mark` comes to stand at a spot, in the step with this number, which says what sides enclose it.
     fn put(&mut self, mark: u64, spot: usize, step: usize) -> Result<(), AllocError> {
         let token = Token {
             spot: Some(spot),
@@ -294,7 +300,7 @@ impl Trail {
         }
     }
 
-    // Adds a step from the step of the number `outer` inwards, and gives its number.
+    // Adds a step that leads into a side from inside the step with the number `outer`, and gives the new step's number.
     fn add_step(&mut self, way: Way, outer: usize) -> Result<usize, AllocError> {
         let number = self.steps.len().saturating_add(1);
         let home = match way {

@@ -35,13 +35,15 @@ impl Model for Allowed {
     ghost use Rattle.std.specs.Prelude.{List};
     ghost use Rattle.orc_rules.specs.declared.entry.Entry.{Entry as EntryOf};
 
+    // Contracts see the entries that are kept.
     ghost Value = { List EntryOf };
 
     ghost view = { λ a. a.first.items };
 }
 
-// Those of `entries` that the rules allow at this place. The caller gives allowed ones only, but its contract rests on this test alone. The error is
-// refused memory.
+// Those of `entries` that the rules allow at the place of `marked`: the running term with the marks of its tokens, its calls and the time. The caller
+// gives allowed ones only, but its contract rests on this test alone. The error is refused memory. By `AreTaken` each that stays meets the conditions
+// of all reasons.
 fn taken(
     alloc: Global,
     marked: &mut Marked,
@@ -55,6 +57,7 @@ fn taken(
     let mut taken = Vec::new(alloc);
     for entry in entries {
         match first_reason(marked, program, answers, &entry) {
+            // No reason refuses the entry.
             None => taken.push(entry)?,
             Some(_) => {}
         }
@@ -62,32 +65,37 @@ fn taken(
     Ok(taken)
 }
 
-/// The entry by which a token can go on, with the next numbers. None where there is no such token, a cancel is due, or it waits.
+/// The entry by which the token with the mark `token` can go on; what the entry makes has the next numbers. None where there is no such token, a
+/// cancel is due, or the token waits.
 pub fn entry_of(marked: &Marked, program: &Program, token: u64) -> Option<Entry>
     ensures fits { IfSome result (λ e. (x : Context) (p : Place) → x.definitions ≡ definitions program.now → Spells x (code program.now) marked.now p → Fits x p e) }
 {
     token_entry(marked, token, marked.next(program, token)?)
 }
 
-// Whether a call of a site with these operands can go on in a scope: all are values, or one is void.
+// Whether a call of a site with these operands can go on in the scope with this number, which says what variables mean: all are values, or one is
+// void, that is, will never have a value.
 fn is_callable(marked: &Marked, operands: &[Operand], scope: usize) -> bool {
     let mut waits = false;
     for operand in operands {
         match marked.param(*operand, scope) {
             Param::Void => return true,
             Param::Is(_) => {}
+            // The call waits for this one's value, unless another operand is void.
             Param::Cell(_) | Param::Name(_) => waits = true,
         }
     }
     !waits
 }
 
-// Whether the token of a node can go on; false where the node has none. What takes its publication isn't looked for: something always does, or the
-// whole publishes it.
+// Whether the token of a node with this `kind` can go on; false where the node has none. What takes the token's publication isn't looked for:
+// something always does, or the whole publishes it.
 fn is_free(marked: &Marked, program: &Program, kind: Kind) -> bool {
     match kind {
+        // A token on a value, which it publishes.
         Kind::Leaf(Tip::Bears(_, _)) => true,
         Kind::Leaf(Tip::Token(_, node, scope)) => match program.node(node as usize) {
+            // A variable without a value lets the token wait, unless the variable is void.
             TermNode::Operand(operand) => {
                 matches!(
                     marked.param(operand, scope as usize),
@@ -100,13 +108,15 @@ fn is_free(marked: &Marked, program: &Program, kind: Kind) -> bool {
             // On any other node the token can go on alone: by `end`, `def`, `fork`, `seq`, `open` or `other`.
             _ => true,
         },
+        // No token: a node with parts, a pending call, or a leaf where a token has ended or that is gone.
         _ => false,
     }
 }
 
 impl Allowed {
-    /// The entries that are allowed at the place to which `marked` was brought, in the order cancel, moves of tokens by their marks, `lost`, `right`,
-    /// returns, tick. Where a cancel is due it is the only one. The error is refused memory. The term stays the same.
+    /// The entries that are allowed at the place to which `marked`, the running term with its numbers, was brought, in the order cancel, moves of
+    /// tokens by their marks, `lost`, `right`, returns, tick. Where a cancel is due it is the only one. The error is refused memory. The term stays
+    /// the same.
     pub fn new(
         alloc: Global,
         marked: &mut Marked,
@@ -129,6 +139,7 @@ impl Allowed {
                 allowed.add_tick(marked)?;
             }
         }
+        // The contract rests on this test of each entry, whatever the calls above have added.
         let Allowed { first, count } = allowed;
         let first = taken(alloc, marked, program, answers, first)?;
         Ok(Allowed { first, count })

@@ -37,22 +37,26 @@ fn reason_or_memory(
     }
 }
 
-// Whether the term after an entry surely nests no deeper than a checked term may. It looks at no node; false doesn't say that
-// it nests deeper.
+// Whether the term after an entry surely nests no deeper than a checked term may, by bounds alone; `heights` are how deep the program's terms nest.
+// The function looks at no node; false doesn't say that the term nests deeper.
 fn stays_shallow(heights: &Heights, marked: &Marked, entry: &Entry) -> bool
     ensures { result ≡ true → StaysShallow heights.now entry.now marked.now }
 {
     let most = heights.most();
+    // A bound for the levels of the term before the entry; None if no bound is known.
     let Some(levels) = most_depth(marked, most) else {
         return false;
     };
+    // None if that bound, with the levels that the entry may add, is over `MOST_LEVELS`.
     match allowed(levels, deepening(most, entry)) {
         Some(_) => true,
         None => false,
     }
 }
 
-// Applies an entry, whatever the depth of the term after it. The error is the first reason, never Deep; nothing has changed then.
+// Applies an entry, whatever the depth of the term after it. The error is the first reason, never Deep; nothing has changed then. By `Shows` the
+// entry has the label and leads on from each place that `marked` describes; by `Stops` the fault is the first reason
+// there, or Memory if there is none.
 fn apply_at_any_depth(
     alloc: Global,
     marked: &mut Marked,
@@ -66,6 +70,7 @@ fn apply_at_any_depth(
 {
     match marked.apply(alloc, program, answers, entry) {
         Ok(label) => Ok(label),
+        // The checker names a reason that isn't always the first one.
         Err(_) => Err(reason_or_memory(marked, program, answers, entry)),
     }
 }

@@ -97,6 +97,7 @@ pub fn depth_of(alloc: Global, heights: &Heights, marked: &Marked) -> Result<usi
             return Ok(deepest);
         };
         let kind = kind_of(nodes, node);
+        // The levels above the node's parts and above the program's term that the node holds.
         let above = sum(above, step_down(kind))?;
         deepest = deepest.max(sum(above, own_levels(heights, kind))?);
         push_parts(&mut left, kind, above)?;
@@ -136,6 +137,7 @@ pub(crate) fn allowed_depth(marked: &mut Marked, most: usize) -> Option<usize>
     if let Some(levels) = most_allowed(marked, most) {
         return Some(levels);
     }
+    // Looks at all nodes to make the first bound as small as it can be.
     marked.renew_levels();
     most_allowed(marked, most)
 }

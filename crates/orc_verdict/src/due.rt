@@ -13,7 +13,7 @@ use orc_checker::Marked;
 use orc_checker::rest::Called;
 use orc_rules::value::{Answer, Found};
 
-/// The call of that number, from 1, whether it pends or not. None if there is no such call.
+/// The call with the number `k`, from 1, whether it pends or not. None if there is no such call.
 fn call_made(marked: &Marked, k: u64) -> Option<Called>
     ensures call { IfSome result (λ c. IsCall marked.now.rest k c) }
     ensures none { IfNone result ((c : CallMade) → IsCall marked.now.rest k c → ⊥) }
@@ -27,17 +27,18 @@ fn call_made(marked: &Marked, k: u64) -> Option<Called>
     }
 }
 
-/// Whether the table's answer to a call is this one.
+/// Whether the table's answer to a call is this one, whenever it is due.
 fn gives(called: Called, answer: Answer) -> bool
     ensures { Decides result ((d : ℕ) × (called.found ≡ After answer d)) }
 {
     match called.found {
         Found::After(given, _) => given == answer,
+        // The table never answers this call.
         Found::Never => false,
     }
 }
 
-/// Whether the table's answer to a call is this one, and due at this time.
+/// Whether the table's answer to a call is this one, and due at this time, in units of logical time.
 fn is_due_at(called: Called, answer: Answer, time: u64) -> bool
     ensures { Decides result (IsDueNow called answer time) }
 {
@@ -46,11 +47,13 @@ fn is_due_at(called: Called, answer: Answer, time: u64) -> bool
             // Not `called.at + delay`, which may overflow: then the call is never due.
             given == answer && time >= called.at && time - called.at == delay
         }
+        // The table never answers this call.
         Found::Never => false,
     }
 }
 
-/// Whether the table's answer to call `k` is this one, whenever it is due; false if there is no such call.
+/// Whether the table's answer to call `k`, from 1, is this one, whenever it is due; false if there is no such call. By `Says` the answer holds at
+/// each place, a term with its calls and the time, that `marked` describes.
 pub(crate) fn is_answer(marked: &Marked, k: u64, answer: Answer) -> bool
     ensures { Says marked.now result (λ x p. IsAnswer x p k answer) }
 {
@@ -60,7 +63,8 @@ pub(crate) fn is_answer(marked: &Marked, k: u64, answer: Answer) -> bool
     }
 }
 
-/// Whether the table's answer to call `k` is this one, and due now; false if there is no such call.
+/// Whether the table's answer to call `k`, from 1, is this one, and due now; false if there is no such call. By `Says` the answer holds at each
+/// place, a term with its calls and the time, that `marked` describes.
 pub(crate) fn is_due(marked: &Marked, k: u64, answer: Answer) -> bool
     ensures { Says marked.now result (λ x p. IsDue x.sites p.calls k answer p.now) }
 {

@@ -7,7 +7,7 @@ use orc_checker::Marked;
 use orc_term::arena::{Double, Kind, Single, Tip};
 use orc_term::slot::Slot;
 
-/// What an entry names: the mark of a token or of an otherwise, a call, or a cell.
+/// What an entry names, by its number: a token or an otherwise by its mark, a call, or a cell.
 #[derive(Clone, Copy, PartialEq, Eq)]
 pub(crate) enum Name {
     Mark(u64),
@@ -22,7 +22,7 @@ pub(crate) struct Part {
     pub kind: Kind,
 }
 
-/// The name by which an entry can name a node. None if it has none.
+/// The name by which an entry can name a node of this kind: a mark `s`, a call `k` or a cell `c`. None if it has none.
 fn name_of(kind: Kind) -> Option<Name>
     ensures { result ≡ name_shown kind }
 {
@@ -57,7 +57,7 @@ pub(crate) fn is_one(kind: Kind) -> bool
     }
 }
 
-/// Whether a node has the name.
+/// Whether a node of this kind has the name.
 fn is_named(kind: Kind, name: Name) -> bool
     ensures yes { result ≡ true → name_shown kind ≡ Some name }
     ensures no { result ≡ false → name_shown kind ≡ Some name → ⊥ }
@@ -68,7 +68,7 @@ fn is_named(kind: Kind, name: Name) -> bool
     }
 }
 
-/// The node of that number, if it has the name.
+/// The node with the number `at`, if it has the name. None if it hasn't, or if there is no such node.
 fn part_at(nodes: &[Slot], name: Name, at: usize) -> Option<Part>
     ensures has { IfSome result (λ f. Has nodes.now name f) }
     ensures lacks { IfNone result (LacksAt nodes.now name at) }
@@ -86,7 +86,7 @@ fn part_at(nodes: &[Slot], name: Name, at: usize) -> Option<Part>
     }
 }
 
-/// The first node that has the name. None if none has it. It looks at each node of the marked term.
+/// The first node of the marked term that has the name. None if none has it. The function looks at each node.
 pub(crate) fn find(marked: &Marked, name: Name) -> Option<Part>
     ensures has { IfSome result (λ f. Has marked.now.nodes name f) }
     ensures none { IfNone result (HasNone marked.now.nodes name) }

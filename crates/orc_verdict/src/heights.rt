@@ -21,10 +21,12 @@ impl Model for Heights {
     ghost use Rattle.std.specs.Prelude.{ℕ, List};
     ghost use Rattle.orc_verdict.specs.Heights.{AreAtMost};
 
+    // Contracts see the levels of each node's term.
     ghost Value = { List ℕ };
 
     ghost view = { λ h. h.levels.items };
 
+    // No node's term has more than `most` levels.
     ghost invariant = { λ h. AreAtMost h.levels.items h.most };
 }
 
@@ -38,7 +40,7 @@ fn level_at(levels: &Vec<usize>, i: usize) -> usize
     }
 }
 
-// One level more than the larger of the two.
+// One level more than the larger of the two, which fits by `requires`.
 fn one_more(a: usize, b: usize) -> usize
     requires left { a + 1 < 2 ^ 64 }
     requires right { b + 1 < 2 ^ 64 }
@@ -47,7 +49,7 @@ fn one_more(a: usize, b: usize) -> usize
     a.max(b) + 1
 }
 
-// The levels of a node's term, by those of its parts.
+// The levels of a node's term, by those of its parts, which `levels` has. By `requires` one more than those fits a `usize`.
 fn level_of(levels: &Vec<usize>, node: TermNode) -> usize
     requires { AreLow levels.now.items node }
     ensures { result ≡ node_height levels.now.items node }
@@ -74,7 +76,7 @@ fn most_of(levels: &Vec<usize>) -> usize
 }
 
 impl Heights {
-    /// The levels of a program's terms. The error is refused memory.
+    /// How deep each term of a program nests, in levels. The error is refused memory.
     pub fn new(alloc: Global, program: &Program) -> Result<Heights, AllocError>
         ensures { IfOk result (λ h. AreHeights (code program.now) h) }
     {

@@ -36,6 +36,7 @@ pub enum TextFault {
 impl From<LinesFault> for TextFault {
     ghost from_gives = { λ fault f. f ≡ text_fault_of fault };
 
+    // A fault of the lines as one of the text.
     fn from(fault: LinesFault) -> TextFault {
         match fault {
             LinesFault::Text(fault) => TextFault::Journal(fault),
@@ -53,7 +54,7 @@ pub struct Checked {
     pub verdict: Verdict,
 }
 
-// The fault of a text whose journal is refused for `fault`. It reads the lines that are left: a fault in them is given instead.
+// The fault of a text whose journal is refused for `fault`. The function reads the lines that are left: a fault in them is given instead.
 fn refused<R: Read + Drop>(lines: &mut Lines<R>, answers: &Answers, fault: CheckFault) -> TextFault
     ensures { (l : Listing) (text : List ℕ) (es : List EntryOf) → HasRead answers.now.names text lines.old es → ((more : List EntryOf) → IsRefusedAt l answers.now lines.old.version (es ++ more) fault) → (piece : List ℕ) × MayCome lines.old.coming.left piece × IsTextFault l answers.now (text ++ piece) result }
 {
@@ -90,8 +91,9 @@ pub fn check_lines<R: Read + Drop>(
     let Ok(marked) = Marked::new(alloc, program, records_cancels(lines.version())) else {
         return Err(refused(&mut lines, answers, none));
     };
+    // No term of the program has more levels than this.
     let most = heights.most();
-    // The marked term is the program's main term at first.
+    // The marked term is the program's main term at first, so these are its levels.
     let levels = heights.at(program.source());
     let mut taken = Taken { marked, levels };
     // Overwritten with each entry that is read.
@@ -106,6 +108,7 @@ pub fn check_lines<R: Read + Drop>(
             }
         }
     }
+    // No entry is left: a cancel that is due now is missing.
     match taken.marked.next_cancel() {
         Some(_) => Err(TextFault::Check(CheckFault {
             // One past the last entry.

@@ -14,7 +14,7 @@ use orc_rules::entry::Entry;
 use orc_rules::value::Answer;
 
 /// The entry in which the token with the mark `token` does what it can do, `next`, with the next numbers for what the entry makes. None where the
-/// token waits.
+/// token waits. By the contract the entry fits what the token stands on (`Fits`) if `next` is what the token can do (`Offers`).
 pub fn token_entry(marked: &Marked, token: u64, next: Next) -> Option<Entry>
     ensures fits { IfSome result (λ e. (x : Context) (p : Place) → Offers x p token next → Fits x p e) }
     ensures waits { IfNone result (next ≡ Wait) }
@@ -38,7 +38,8 @@ pub fn token_entry(marked: &Marked, token: u64, next: Next) -> Option<Entry>
     }
 }
 
-/// The entry that drops a side which has halted: `lost`, or `right` with the next mark. None where there is no such side, or it hasn't halted.
+/// The entry that drops a side which has halted: `lost`, or `right` with the next mark. None where there is no such side, or it hasn't halted. By
+/// `IsOver` the side has halted at each place that `marked` describes.
 pub fn side_entry(marked: &Marked, side: Side) -> Option<Entry>
     ensures over { IfSome result (λ e. (x : Context) (l : Listing) (p : Place) → Spells x (code l) marked.now p → IsOver p e) }
 {

@@ -28,7 +28,8 @@ const NONE: Numbers = Numbers {
     second: None,
 };
 
-/// The new numbers of an entry, whether they are the next ones or not.
+/// The new numbers of an entry, whether they are the next ones or not. By the contract an entry whose new numbers are the next ones (`AreNext`) meets
+/// the condition Number (`IsCounted`).
 pub fn numbers_of(entry: &Entry) -> Numbers
     ensures { (p : Place) → AreNext p result → IsCounted p entry.now }
 {

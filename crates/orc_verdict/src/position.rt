@@ -39,7 +39,8 @@ pub(crate) enum Standing {
     Other,
 }
 
-/// Whether the operands of a call, read in this scope, are the values `args`, as many and in this order.
+/// Whether the operands of a call, read in this scope, are the values `args`, as many and in this order. The scope, by its number, says what
+/// variables mean. The contract asks that each scope extends one of a lower number (`AreOrdered`), as the scopes of a run do.
 fn are_these(marked: &Marked, operands: &[Operand], args: &[Value], scope: usize) -> bool
     ensures { AreOrdered marked.now.scopes → result ≡ these (map (close_param (env_of marked.now.cells marked.now.scopes scope)) (map param_of operands.now)) args.now }
 {
@@ -51,6 +52,7 @@ fn are_these(marked: &Marked, operands: &[Operand], args: &[Value], scope: usize
                 Param::Is(value) => {
                     is_same(value, *arg) && are_these(marked, operands, args, scope)
                 }
+                // The operand isn't a value: a variable without one, or one that will never have one.
                 Param::Name(_) => false,
                 Param::Cell(_) => false,
                 Param::Void => false,
@@ -59,7 +61,8 @@ fn are_these(marked: &Marked, operands: &[Operand], args: &[Value], scope: usize
     }
 }
 
-/// Whether some operand is void in a scope: a variable that will never get a value.
+/// Whether some operand is void in this scope: a variable that will never get a value. The scope, by its number, says what variables mean. The
+/// contract asks that each scope extends one of a lower number (`AreOrdered`), as the scopes of a run do.
 fn some_void(marked: &Marked, operands: &[Operand], scope: usize) -> bool
     ensures { AreOrdered marked.now.scopes → result ≡ has_void (map (close_param (env_of marked.now.cells marked.now.scopes scope)) (map param_of operands.now)) }
 {
@@ -67,6 +70,7 @@ fn some_void(marked: &Marked, operands: &[Operand], scope: usize) -> bool
         [] => false,
         [operand, operands @ ..] => match marked.param(*operand, scope) {
             Param::Void => true,
+            // This operand isn't void, so the others are looked at.
             Param::Name(_) => some_void(marked, operands, scope),
             Param::Cell(_) => some_void(marked, operands, scope),
             Param::Is(_) => some_void(marked, operands, scope),
@@ -81,7 +85,8 @@ fn is_defined(program: &Program, definition: u32) -> bool
     (definition as usize) < program.definitions().len()
 }
 
-/// What a token on this `node` of the program stands on, whose variables are read in this `scope`. `args` are the arguments that the entry names.
+/// What a token on this `node` of the program stands on, whose variables are read in this `scope`. `args` are the arguments that the entry names. The
+/// contract asks that each scope extends one of a lower number (`AreOrdered`), as the scopes of a run do.
 fn on_node(
     marked: &Marked,
     program: &Program,
@@ -110,7 +115,8 @@ fn on_node(
     }
 }
 
-/// What a node of the marked term with this `kind` stands on, if it is a token; else Nothing. `args` are the arguments that the entry names.
+/// What a node of the marked term with this `kind` stands on, if it is a token; else Nothing. `args` are the arguments that the entry names. The
+/// contract asks that each scope extends one of a lower number (`AreOrdered`), as the scopes of a run do.
 pub(crate) fn standing_of(
     marked: &Marked,
     program: &Program,
@@ -124,6 +130,7 @@ pub(crate) fn standing_of(
             on_node(marked, program, args, node as usize, scope as usize)
         }
         Kind::Leaf(Tip::Bears(_, value)) => Standing::On(Param::Is(value)),
+        // All other nodes bear no token.
         Kind::Leaf(Tip::Gone) => Standing::Nothing,
         Kind::Leaf(Tip::Ended) => Standing::Nothing,
         Kind::Leaf(Tip::Waits(_)) => Standing::Nothing,
@@ -132,7 +139,7 @@ pub(crate) fn standing_of(
     }
 }
 
-/// The mark of the token that an entry names. None if it names none, as `right`, whose mark is an otherwise's.
+/// The mark `s` of the token that an entry names. None if it names none, as `right`, whose mark is an otherwise's.
 pub fn mark_named(entry: &Entry) -> Option<u64>
     ensures { result ≡ mark_of entry.now }
 {
@@ -148,6 +155,7 @@ pub fn mark_named(entry: &Entry) -> Option<u64>
         Entry::Call(s, _, _, _) => Some(*s),
         Entry::Bind(s, _, _) => Some(*s),
         Entry::Publish(s, _) => Some(*s),
+        // These entries name no token.
         Entry::Return(_, _, _) => None,
         Entry::ReturnHalt(_) => None,
         Entry::Lost(_) => None,
@@ -167,7 +175,7 @@ pub(crate) fn args_named(entry: &Entry) -> &[Value]
     }
 }
 
-/// Whether a publication goes to a `>x>`, by its `taker`.
+/// Whether a publication goes to a `>x>`. `taker` is what takes it; None if the token's node is no part of the term.
 fn goes_on(taker: Option<Taker>) -> bool
     ensures { result ≡ is_sent taker }
 {
@@ -177,7 +185,7 @@ fn goes_on(taker: Option<Taker>) -> bool
     }
 }
 
-/// Whether a publication goes to this cell, by its `taker`.
+/// Whether a publication goes to this cell. `taker` is what takes it; None if the token's node is no part of the term.
 fn goes_to(cell: u64, taker: Option<Taker>) -> bool
     ensures { result ≡ is_bound cell taker }
 {
@@ -187,7 +195,8 @@ fn goes_to(cell: u64, taker: Option<Taker>) -> bool
     }
 }
 
-/// Whether nothing in the term takes a publication, by its `taker`: the program publishes it.
+/// Whether nothing in the term takes a publication, so that the program publishes it. `taker` is what takes it; None if the token's node is no part
+/// of the term.
 fn goes_out(taker: Option<Taker>) -> bool
     ensures { result ≡ is_whole taker }
 {
@@ -197,7 +206,7 @@ fn goes_out(taker: Option<Taker>) -> bool
     }
 }
 
-/// Whether the token stands on this value.
+/// Whether the token whose `standing` this is stands on this value.
 fn on_value(value: Value, standing: Standing) -> bool
     ensures { result ≡ is_value value standing }
 {
@@ -207,7 +216,7 @@ fn on_value(value: Value, standing: Standing) -> bool
     }
 }
 
-/// Whether the token stands on void, or on a call of a site with a void argument.
+/// Whether the token whose `standing` this is stands on void, a variable that will never have a value, or on a call of a site with a void argument.
 fn on_void(standing: Standing) -> bool
     ensures { result ≡ is_void standing }
 {
@@ -218,7 +227,7 @@ fn on_void(standing: Standing) -> bool
     }
 }
 
-/// Whether the token stands on a call of this site with the arguments that the entry names.
+/// Whether the token whose `standing` this is stands on a call of this site with the arguments that the entry names, which `these` tells.
 fn on_call(site: u32, standing: Standing) -> bool
     ensures { result ≡ is_call site standing }
 {

@@ -64,7 +64,8 @@ fn asks_for(entry: &Entry) -> Asked
     }
 }
 
-/// Whether token `s` is there. A mark is that of a token, whose node has no parts, or the number of an otherwise, whose node has one.
+/// Whether the token with the mark `s` is there. A mark is that of a token, whose node has no parts, or the number of an otherwise, whose node has
+/// one. By `Says` the answer holds at each place, a term with its calls and the time, that `marked` describes.
 fn has_token(marked: &Marked, s: u64) -> bool
     ensures { Says marked.now result (λ x p. HasToken p s) }
 {
@@ -74,7 +75,8 @@ fn has_token(marked: &Marked, s: u64) -> bool
     }
 }
 
-/// Whether otherwise `s` is there; false where a token has the mark.
+/// Whether the otherwise with the mark `s` is there; false where a token has the mark. By `Says` the answer holds at each place, a term with its
+/// calls and the time, that `marked` describes.
 fn has_otherwise(marked: &Marked, s: u64) -> bool
     ensures { Says marked.now result (λ x p. HasOther p s) }
 {
@@ -84,7 +86,7 @@ fn has_otherwise(marked: &Marked, s: u64) -> bool
     }
 }
 
-/// Whether call `k` pends.
+/// Whether call `k`, by its number, pends. By `Says` the answer holds at each place, a term with its calls and the time, that `marked` describes.
 fn has_call(marked: &Marked, k: u64) -> bool
     ensures { Says marked.now result (λ x p. HasCall p k) }
 {
@@ -94,7 +96,7 @@ fn has_call(marked: &Marked, k: u64) -> bool
     }
 }
 
-/// Whether cell `c` is there.
+/// Whether cell `c`, by its number, is there. By `Says` the answer holds at each place, a term with its calls and the time, that `marked` describes.
 fn has_cell(marked: &Marked, c: u64) -> bool
     ensures { Says marked.now result (λ x p. HasCell p c) }
 {
@@ -130,7 +132,8 @@ fn are_same(first: Option<u64>, second: Option<u64>) -> bool
     }
 }
 
-/// Whether the entry is the cancel that is due next or, where no cancel is due, no cancel. `program` and `answers` are for the contract alone.
+/// Whether the entry is the cancel that is due next or, where no cancel is due, no cancel: else the reason Cancel refuses it. `program` and `answers`
+/// are for the contract alone.
 fn is_in_turn(marked: &Marked, program: &Program, answers: &Answers, entry: &Entry) -> bool
     ensures { Tests program.now answers.now entry.now marked.now reason.Cancel result }
 {
@@ -144,7 +147,8 @@ fn are_both(first: bool, second: bool) -> bool
     first && second
 }
 
-/// Whether what the entry names is there: its token, call, cell or otherwise. `program` and `answers` are for the contract alone.
+/// Whether what the entry names is there: its token, call, cell or otherwise. Else the reason Mark refuses it. `program` and `answers` are for the
+/// contract alone.
 fn is_there(marked: &Marked, program: &Program, answers: &Answers, entry: &Entry) -> bool
     ensures { Tests program.now answers.now entry.now marked.now reason.Mark result }
 {
@@ -160,8 +164,8 @@ fn is_there(marked: &Marked, program: &Program, answers: &Answers, entry: &Entry
     }
 }
 
-/// Whether the kind of term on which the entry's token stands, the name, the arguments, the value and the taker are the entry's. True of an entry
-/// that names no token.
+/// Whether the kind of term on which the entry's token stands, the name, the arguments, the value and the taker are the entry's: else the reason Form
+/// refuses it. True of an entry that names no token. `answers` is for the contract alone.
 fn fits(marked: &Marked, program: &Program, answers: &Answers, entry: &Entry) -> bool
     ensures { Tests program.now answers.now entry.now marked.now reason.Form result }
 {
@@ -187,7 +191,8 @@ fn is_after(b: u64, a: u64) -> bool
     b != 0 && b - 1 == a
 }
 
-/// Whether the new numbers of an entry are these: the next mark, call and cell. A second new mark, `b`, has to follow the first one, `a`.
+/// Whether the new numbers of an entry are these: the next mark, call and cell. `a` is a new mark, `k` a call and `c` a cell. A second new mark, `b`,
+/// has to follow the first one.
 fn are_next(entry: &Entry, mark: u64, call: u64, cell: u64) -> bool
     ensures { result ≡ counted_as entry.now mark call cell }
 {
@@ -206,7 +211,8 @@ fn are_next(entry: &Entry, mark: u64, call: u64, cell: u64) -> bool
     }
 }
 
-/// Whether the new numbers of the entry are the next ones. True of an entry without new numbers. `program` and `answers` are for the contract alone.
+/// Whether the new numbers of the entry are the next ones: else the reason Number refuses it. True of an entry without new numbers. `program` and
+/// `answers` are for the contract alone.
 fn is_counted(marked: &Marked, program: &Program, answers: &Answers, entry: &Entry) -> bool
     ensures { Tests program.now answers.now entry.now marked.now reason.Number result }
 {
@@ -229,8 +235,8 @@ fn answer_named(entry: &Entry) -> Option<(u64, Answer)>
     }
 }
 
-/// Whether a return has the table's answer. True of any other entry. `program` and `answers` are for the contract alone: `marked` has the table's
-/// answers to the calls that were made.
+/// Whether a return has the table's answer: else the reason Answer refuses it. True of any other entry. `program` and `answers` are for the contract
+/// alone: `marked` has the table's answers to the calls that were made.
 fn is_answered(marked: &Marked, program: &Program, answers: &Answers, entry: &Entry) -> bool
     ensures { Tests program.now answers.now entry.now marked.now reason.Answer result }
 {
@@ -252,7 +258,8 @@ fn tick_named(entry: &Entry) -> Option<u64>
     }
 }
 
-/// Whether a return stands at its due time, or a tick is allowed. True of any other entry.
+/// Whether a return stands at its due time, or a tick is allowed: else the reason Time refuses it. True of any other entry. `answers` is for the
+/// contract alone.
 fn is_on_time(marked: &mut Marked, program: &Program, answers: &Answers, entry: &Entry) -> bool
     ensures time { Tests program.now answers.now entry.now marked.old reason.Time result }
     ensures same { marked.new ≡ marked.old }
@@ -288,7 +295,8 @@ fn left_has_halted(marked: &Marked, kind: Kind) -> bool
     }
 }
 
-/// Whether the right side of the pruning of cell `c` has halted; false where there is no such pruning.
+/// Whether the right side of the pruning of cell `c` has halted; false where there is no such pruning. By `Says` the answer holds at each place, a
+/// term with its calls and the time, that `marked` describes.
 fn right_is_over(marked: &Marked, c: u64) -> bool
     ensures { Says marked.now result (λ x p. IsRightOver p c) }
 {
@@ -298,7 +306,8 @@ fn right_is_over(marked: &Marked, c: u64) -> bool
     }
 }
 
-/// Whether the left side of otherwise `s` has halted; false where there is no such otherwise.
+/// Whether the left side of otherwise `s` has halted; false where there is no such otherwise. By `Says` the answer holds at each place, a term with
+/// its calls and the time, that `marked` describes.
 fn left_is_over(marked: &Marked, s: u64) -> bool
     ensures { Says marked.now result (λ x p. IsLeftOver p s) }
 {
@@ -308,8 +317,8 @@ fn left_is_over(marked: &Marked, s: u64) -> bool
     }
 }
 
-/// Whether the side that the entry drops, as halted, has halted. True of any entry but `lost` and `right`. `program` and `answers` are for the
-/// contract alone.
+/// Whether the side that the entry drops, as halted, has halted: else the reason Halted refuses the entry. True of any entry but `lost` and `right`.
+/// `program` and `answers` are for the contract alone.
 fn is_over(marked: &Marked, program: &Program, answers: &Answers, entry: &Entry) -> bool
     ensures { Tests program.now answers.now entry.now marked.now reason.Halted result }
 {
@@ -318,6 +327,7 @@ fn is_over(marked: &Marked, program: &Program, answers: &Answers, entry: &Entry)
     match asks_for(entry) {
         Asked::Cell(c) => right_is_over(marked, c),
         Asked::Otherwise(s) => left_is_over(marked, s),
+        // Neither `lost` nor `right`: the entry drops no side.
         Asked::Token(_) => true,
         Asked::Call(_) => true,
         Asked::TokenAndCell(_, _) => true,

@@ -26,7 +26,7 @@ pub(crate) fn can_tick(marked: &mut Marked, program: &Program, t: u64) -> bool
     ensures tick { (x : Context) (p : Place) → x.definitions ≡ definitions program.now → Spells x (code program.now) marked.old p → Decides result (IsTick x (moment p) t) }
     ensures same { marked.new ≡ marked.old }
 {
-    // A law that the prover is shown; nothing runs.
+    // A law that the prover is shown: the tests for halted, quiet and ticks are right. Nothing runs.
     tests_are_right();
     let due = marked.next_due();
     let now = marked.now();

@@ -49,7 +49,7 @@ pub struct CheckFault {
     pub why: RuleFault,
 }
 
-// Its code, the entry and the reason.
+// The code K, the number of the entry and the word of the reason.
 impl fmt::Display for CheckFault {
     ghost output = { λ f. Some (check_line f) };
 
