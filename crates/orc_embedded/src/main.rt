@@ -57,6 +57,7 @@ fn run<R: Threads + Wait + Sync>(
     played
 }
 
+// Runs the workflow beside its clerk, and prints what came of it. The error is that standard output takes nothing more.
 fn main(rt: HostRuntime) -> io::Result<()> {
     let alloc = rt.alloc();
     // The two texts are right, so nothing but memory can be missing. What is sent by `jobs` comes out of the clerk's `inbox`.

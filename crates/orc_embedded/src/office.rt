@@ -20,6 +20,7 @@ pub type Job = Option<Sender<(), Global>>;
 pub fn serve<R: Wait + Clock>(rt: &R, jobs: &Receiver<Job, Global>) -> u64 {
     let mut served = 0u64;
     for job in jobs.iter(rt) {
+        // None says that no more calls come.
         let Some(done) = job else {
             return served;
         };
@@ -34,9 +35,11 @@ pub fn serve<R: Wait + Clock>(rt: &R, jobs: &Receiver<Job, Global>) -> u64 {
 /// Sites that hand each call to the clerk, and answer it as the script says.
 #[derive(Drop)]
 pub struct Office<'a, R: Wait> {
+    /// The runtime, which the channel needs.
     pub rt: &'a R,
+    /// Where the channels of the calls get their memory.
     pub alloc: Global,
-    /// What the script answers.
+    /// What the script answers, and when.
     pub answers: &'a Answers,
     /// By this channel the clerk gets the calls.
     pub jobs: &'a Sender<Job, Global>,
@@ -98,6 +101,7 @@ impl<R: Wait> Future for Errand<'_, R> {
 
     ghost gives = { λ errand. IsReply errand.call };
 
+    // Before the call is due it pends. When it is due the poll waits for the clerk, and gives the script's answer.
     fn poll(&mut self, cx: &mut Context<'_>) -> Poll<Answer> {
         if let Due::At(time) = self.call.due()
             && time <= self.now
@@ -110,7 +114,8 @@ impl<R: Wait> Future for Errand<'_, R> {
     }
 }
 
-// For the prover: which time was handed in last, when the call is due, that any errand may be polled, and that it answers only when it is due.
+// For the prover: which time was handed in last (`moment`), when the call is due (`when`), that any errand may be polled (`always`), and that an
+// errand answers only when it is due (`early`).
 impl<R: Wait> SiteFuture for Errand<'_, R> {
     ghost use Rattle.orc_site.specs.Call.{due_of};
 
@@ -122,6 +127,7 @@ impl<R: Wait> SiteFuture for Errand<'_, R> {
 
     ghost early = { λ errand answer is. is.0 };
 
+    // The engine hands in the logical time by `at`. When the call is due the script says.
     fn at(&mut self, now: u64) {
         self.now = self.now.max(now);
         self.call.at(now);

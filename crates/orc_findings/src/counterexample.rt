@@ -16,7 +16,7 @@ use orc_outcome::End;
 use orc_ways::test::SiteName;
 use std::alloc::{AllocError, Global};
 
-// `    [12]`, and blanks up to the column where the way's lines begin.
+// Appends the number of a failure, as `    [12]`, and blanks up to column 11, from 0, where the lines of the failure's way begin.
 fn write_number(alloc: Global, number: usize, text: &mut Vec<u8>) -> Result<(), AllocError>
     ensures { OnOk result (text.new.items ≡ text.old.items ++ number_text number) }
 {
@@ -29,7 +29,7 @@ fn write_number(alloc: Global, number: usize, text: &mut Vec<u8>) -> Result<(), 
     }
 }
 
-// Appends lines with a head before each but the first, and before that too if `begins` says so.
+// Appends lines, each with its LF. `head` stands before each but the first, and before that one, too, if `begins` is true.
 fn write_headed(
     begins: bool,
     head: &[u8],
@@ -56,8 +56,8 @@ fn write_headed(
     }
 }
 
-// Appends the lines of a failure's way, each but the first behind blanks, since the first stands behind the failure's number; or a sentence if there
-// are none.
+// Appends the lines of a failure's way (how its services behave) that aren't usual. Each but the first gets blanks before it, since the first stands
+// behind the failure's number. If there are none it appends a sentence that says so.
 fn write_or_usual(lines: &[u8], text: &mut Vec<u8>) -> Result<(), AllocError>
     ensures { OnOk result (text.new.items ≡ text.old.items ++ lines_or_usual lines.now) }
 {
@@ -67,8 +67,8 @@ fn write_or_usual(lines: &[u8], text: &mut Vec<u8>) -> Result<(), AllocError>
     write_headed(false, b"           ", lines, text)
 }
 
-/// Appends the number of a failure, from 1, and behind it those lines of its way that aren't usual, or that all services are as usual. `lines` are
-/// whole lines with their LF. The error is refused memory.
+/// Appends the number of a failure, from 1, and behind it those lines of its way (how the services behave) that aren't usual, or, if there are none,
+/// that all services are as usual. `lines` are whole lines with their LF. The error is refused memory.
 pub fn write_way(
     alloc: Global,
     number: usize,
@@ -81,8 +81,8 @@ pub fn write_way(
     write_or_usual(lines, text)
 }
 
-// `time 12`, or `a time over 30` for a `latest` of 31: the latest time that the claim tells apart stands for all times from it on. With the greatest
-// `latest` all times are told apart, and that one is itself.
+// Appends a time: `time 12`, or `a time over 30` if `latest` is 31 and the time isn't below it. `latest` is the latest time that the claim tells
+// apart, and stands for all times from it on. If it is the greatest that there is, all times are told apart.
 fn write_time(alloc: Global, latest: u64, time: u64, text: &mut Vec<u8>) -> Result<(), AllocError>
     ensures { OnOk result (text.new.items ≡ text.old.items ++ time_text latest time) }
 {
@@ -92,7 +92,8 @@ fn write_time(alloc: Global, latest: u64, time: u64, text: &mut Vec<u8>) -> Resu
     write_numbered(alloc, "a time over ", latest.saturating_sub(1), text)
 }
 
-// `time 12: `, or nothing if the claim tells no times apart, which is a `latest` of 0.
+// Appends a time before what happened then: `time 12: `. Nothing if `latest`, the latest time that the claim tells apart, is 0: the claim asks for
+// no time.
 fn write_timed(alloc: Global, latest: u64, time: u64, text: &mut Vec<u8>) -> Result<(), AllocError>
     ensures { OnOk result (text.new.items ≡ text.old.items ++ timed latest time) }
 {
@@ -103,7 +104,7 @@ fn write_timed(alloc: Global, latest: u64, time: u64, text: &mut Vec<u8>) -> Res
     text.extend_from_slice(b": ")
 }
 
-// ` at time 12`, or nothing if the claim tells no times apart.
+// Appends a time behind an end: ` at time 12`. Nothing if `latest`, the latest time that the claim tells apart, is 0: the claim asks for no time.
 fn write_at(alloc: Global, latest: u64, time: u64, text: &mut Vec<u8>) -> Result<(), AllocError>
     ensures { OnOk result (text.new.items ≡ text.old.items ++ at_time latest time) }
 {
@@ -114,7 +115,8 @@ fn write_at(alloc: Global, latest: u64, time: u64, text: &mut Vec<u8>) -> Result
     write_time(alloc, latest, time, text)
 }
 
-// Appends one of the happenings that a claim saw, and the comma behind it: an end always follows.
+// Appends one of the happenings that a claim saw, with its time if `latest`, the latest time that the claim tells apart, isn't 0. A comma stands
+// behind it, since the run's end always follows.
 fn write_one(
     alloc: Global,
     sites: &[SiteName<'_>],
@@ -133,11 +135,11 @@ fn write_one(
 /// A run that ended, as claims see it.
 #[derive(Clone, Copy)]
 pub struct Ended<'s> {
-    /// What happened, or what of it a claim sees, where sites have the numbers that claims have for them.
+    /// What happened in the run, or the part that a claim sees. Sites have the numbers that claims have for them.
     pub happenings: &'s [Happening],
-    /// How it ended.
+    /// How the run ended.
     pub end: End,
-    /// When it ended, in units of logical time.
+    /// When the run ended, in units of logical time.
     pub time: u64,
 }
 
@@ -159,6 +161,7 @@ impl Ended<'_> {
             standing: Standing::Ended(self.end),
             time: self.time,
         };
+        // Nine blanks: the line begins below the claim's text.
         text.extend_from_slice(b"         ")?;
         course.write_place(alloc, sites, verdict, text)?;
         write_numbered(alloc, " (order ", order, text)?;
@@ -166,7 +169,7 @@ impl Ended<'_> {
         Ok(())
     }
 
-    // Appends the happenings, each with its time if the claim tells times apart.
+    // Appends the happenings, each with its time if `latest`, the latest time that the claim tells apart, isn't 0.
     fn write_all(
         &self,
         alloc: Global,
@@ -199,6 +202,7 @@ impl Ended<'_> {
     ) -> Result<(), AllocError>
         ensures { OnOk result (text.new.items ≡ text.old.items ++ seen_text sites.now latest self.now.happenings.now self.now.end self.now.time) }
     {
+        // Nine blanks: the line begins below the claim's text.
         text.extend_from_slice(b"         ")?;
         text.extend_from_slice(b"saw: ")?;
         self.write_all(alloc, sites, latest, text)?;

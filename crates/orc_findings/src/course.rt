@@ -15,7 +15,7 @@ use std::alloc::{AllocError, Global};
 /// How a run stands where its journal ends.
 #[derive(Clone, Copy)]
 pub(crate) enum Standing {
-    /// It ended so.
+    /// The run has ended in this way.
     Ended(End),
     /// The run hasn't ended: at the end of the journal it is neither halted nor quiet.
     Running,
@@ -26,8 +26,9 @@ pub(crate) enum Standing {
 pub(crate) struct Course<'s> {
     /// What happened, where sites have the numbers that claims have for them.
     pub(crate) happenings: &'s [Happening],
+    /// Whether and how the run has ended where its journal ends.
     pub(crate) standing: Standing,
-    /// The time at the end of the journal.
+    /// The time at the end of the journal, in logical units.
     pub(crate) time: u64,
 }
 
@@ -44,7 +45,7 @@ pub(crate) fn word_of(end: End) -> &'static str
     }
 }
 
-// `ended Halted`, or `not ended`
+// Appends how a run stands: `ended Halted`, or `not ended`. The error is refused memory, here and below.
 fn write_standing(standing: Standing, text: &mut Vec<u8>) -> Result<(), AllocError>
     ensures { OnOk result (text.new.items ≡ text.old.items ++ standing_text standing) }
 {
@@ -57,7 +58,7 @@ fn write_standing(standing: Standing, text: &mut Vec<u8>) -> Result<(), AllocErr
     }
 }
 
-/// Appends these words and the number. The error is refused memory, here and below.
+/// Appends these words and the number behind them; a blank between the two has to be in `words`.
 pub(crate) fn write_numbered(
     alloc: Global,
     words: &'static str,
@@ -70,7 +71,7 @@ pub(crate) fn write_numbered(
     text.extend_from_slice(line.as_bytes())
 }
 
-// `time 12: PayB(7) answered 2001`
+// Appends a happening and its logical time: `time 12: PayB(7) answered 2001`. `sites` are those of the test.
 fn write_moment(
     alloc: Global,
     sites: &[SiteName<'_>],
@@ -86,7 +87,7 @@ fn write_moment(
 }
 
 impl Course<'_> {
-    // `ended Quiet at time 40, having published 1 2`
+    // Appends how and when the run has ended, and what it published: `ended Quiet at time 40, having published 1 2`
     fn write_end(&self, alloc: Global, text: &mut Vec<u8>) -> Result<(), AllocError>
         ensures { OnOk result (text.new.items ≡ text.old.items ++ end_text self.now.standing self.now.happenings.now self.now.time) }
     {
@@ -97,7 +98,7 @@ impl Course<'_> {
         Ok(())
     }
 
-    // Appends the happening at this place, from 0, with its time; the run's end if there is none.
+    // Appends the happening at the place `at` among those of the run, from 0, with its time; the run's end if there is no such happening.
     fn write_at(
         &self,
         alloc: Global,

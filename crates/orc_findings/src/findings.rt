@@ -24,22 +24,22 @@ use std::alloc::{AllocError, Global};
 pub struct Seen<'s> {
     /// What happened, where sites have the numbers that claims have for them.
     pub happenings: &'s [Happening],
-    /// The state of the run at the end of the journal.
+    /// The state of the run at the end of the journal: Halted, Quiet or still Running.
     pub state: State,
-    /// The time then, in logical units.
+    /// The time at the end of the journal, in logical units.
     pub time: u64,
 }
 
 /// What the claims say of a run.
 #[derive(Drop)]
 pub struct Findings {
-    /// A line for each claim, below each that fails a line that says where, and a line that says how many fail.
+    /// A line for each claim, below each that fails a line that says where, and last a line that says how many fail.
     pub text: Vec<u8>,
-    /// How many fail.
+    /// How many of these claims fail.
     pub failing: usize,
 }
 
-// Whether the claim of this line stands below `always`.
+// Whether the claim of this line stands below `always`: it has no case then.
 fn is_always(line: &ClaimLine<'_>) -> bool
     ensures { result ≡ is_always line.now }
 {
@@ -59,7 +59,7 @@ fn says_so(verdict: Verdict) -> bool
     }
 }
 
-// How many of the claims below `always` fail. Each has a line and a verdict, in the same order.
+// How many of the claims below `always` fail. Each claim of the test has a line in `lines` and a verdict in `judged`, in the same order.
 fn count_failing(lines: &[ClaimLine<'_>], judged: &[Judged]) -> usize
     ensures { result ≡ unsaid lines.now judged.now }
 {
@@ -70,6 +70,7 @@ fn count_failing(lines: &[ClaimLine<'_>], judged: &[Judged]) -> usize
         match rest {
             [] => return number,
             [line, more @ ..] => match others {
+                // It doesn't come: there are as many verdicts as lines.
                 [] => return number,
                 [one, behind @ ..] => {
                     if is_always(line) && !says_so(one.verdict) {
@@ -102,7 +103,7 @@ fn count_always(lines: &[ClaimLine<'_>]) -> usize
     }
 }
 
-// How a run in this state stands.
+// How a run in this state stands, as texts say it: it has ended, Halted or Quiet, or it hasn't.
 fn standing_of(state: State) -> Standing
     ensures { result ≡ standing_of state }
 {
@@ -113,7 +114,7 @@ fn standing_of(state: State) -> Standing
     }
 }
 
-// The verdict on the first claim; None if there is none.
+// The verdict on the first claim that was judged; None if none was.
 fn first_verdict(judged: &[Judged]) -> Option<Verdict>
     ensures { result ≡ first_verdict judged.now }
 {
@@ -149,7 +150,8 @@ impl Seen<'_> {
         Ok(first_verdict(judged.as_slice()))
     }
 
-    // Appends where a claim with this verdict fails. The error is refused memory, here and below.
+    // Appends where in the run a claim with this verdict fails: at a happening, or at the end. `sites` are those of the test. The error is refused
+    // memory, here and below.
     fn write_place(
         &self,
         alloc: Global,
@@ -209,6 +211,7 @@ impl Seen<'_> {
             match rest {
                 [] => return Ok(()),
                 [line, more @ ..] => match others {
+                    // It doesn't come: there are as many verdicts as lines.
                     [] => return Ok(()),
                     [one, behind @ ..] => {
                         if is_always(line) {
@@ -223,11 +226,13 @@ impl Seen<'_> {
     }
 }
 
-/// Holds the claims of a test that stand below `always` against a run; those of its cases are left out. The error is refused memory.
+/// Holds the claims of a test that stand below `always` against a run, of which `seen` is what claims see; the claims of the test's cases are left
+/// out. The error is refused memory.
 pub fn find(alloc: Global, test: &Test<'_>, seen: &Seen<'_>) -> Result<Findings, AllocError>
     ensures text { IfOk result (λ f. f.text.items ≡ findings_text test.now (sight_of seen.now)) }
     ensures failing { IfOk result (λ f. f.failing ≡ failing test.now (sight_of seen.now)) }
 {
+    // A verdict for each claim of the test, those of cases too, which are skipped below.
     let judged = judge(
         alloc,
         test.claims.as_slice(),

@@ -12,7 +12,7 @@ use orc_rules::value::Value;
 use orc_ways::test::SiteName;
 use std::alloc::AllocError;
 
-// The values after the first one, each behind a comma, and the bracket that closes.
+// Appends the values of a call's arguments after the first one, each behind a comma, and the bracket that closes.
 fn write_closing(values: &[Value], text: &mut Vec<u8>) -> Result<(), AllocError>
     ensures { OnOk result (text.new.items ≡ text.old.items ++ closing values.now) }
 {
@@ -32,7 +32,7 @@ fn write_closing(values: &[Value], text: &mut Vec<u8>) -> Result<(), AllocError>
     }
 }
 
-// `(7, 100)`, or `()`
+// Appends the arguments of a call: `(7, 100)`, or `()` if there are none.
 fn write_arguments(values: &[Value], text: &mut Vec<u8>) -> Result<(), AllocError>
     ensures { OnOk result (text.new.items ≡ text.old.items ++ arguments values.now) }
 {
@@ -47,7 +47,7 @@ fn write_arguments(values: &[Value], text: &mut Vec<u8>) -> Result<(), AllocErro
     Ok(())
 }
 
-// What became of a call, behind a blank: ` answered 2001`
+// Appends what became of a call, behind a blank: ` answered 2001`
 fn write_phase(phase: Phase, text: &mut Vec<u8>) -> Result<(), AllocError>
     ensures { OnOk result (text.new.items ≡ text.old.items ++ phase_text phase) }
 {
@@ -62,7 +62,7 @@ fn write_phase(phase: Phase, text: &mut Vec<u8>) -> Result<(), AllocError>
     }
 }
 
-// The name of a site, by its number among the test's; nothing if there is no such site.
+// Appends the name of the site with this number, which is its place in `sites`, from 0; nothing if there is no such site.
 fn write_name(sites: &[SiteName<'_>], site: u32, text: &mut Vec<u8>) -> Result<(), AllocError>
     ensures { OnOk result (text.new.items ≡ text.old.items ++ name_of (slice_get sites.now site)) }
 {
@@ -105,7 +105,8 @@ pub fn write_happening(
     write_occurrence(sites, &happening.what, text)
 }
 
-/// Appends the values that are published, each behind a blank, or ` nothing` if none is. The error is refused memory.
+/// Appends the values that are published among these happenings, in order, each behind a blank, or ` nothing` if none is. The error is refused
+/// memory.
 pub fn write_published(happenings: &[Happening], text: &mut Vec<u8>) -> Result<(), AllocError>
     ensures { OnOk result (text.new.items ≡ text.old.items ++ published_from true happenings.now) }
 {

@@ -29,39 +29,42 @@ use orc_tables::Steps;
 /// What a token can do next. `Halt`, `Fork`, `Seq` and `Other` are moves of marks: their entries use no rule of Orc.
 #[derive(Clone, Copy)]
 pub enum Action {
-    /// It is on `stop`, and ends.
+    /// The token is on `stop`, and ends.
     Halt,
-    /// It is on `f | g`, and becomes a token on each side.
+    /// The token is on `f | g`, and becomes a token on each side.
     Fork,
-    /// It enters the left side of a `>x>`.
+    /// The token enters the left side of a `>x>`.
     Seq,
-    /// It opens a `<x<`, with a token on each side.
+    /// The token opens a `<x<`, and becomes a token on each side.
     Prune,
-    /// It enters the left side of a `;`.
+    /// The token enters the left side of a `;`.
     Other,
-    /// It calls a definition.
+    /// The token calls a definition.
     Def,
-    /// Its variable, or an argument of its call of a site, is void: it ends.
+    /// The token's variable, or an argument of its call of a site, is void (it will never have a value): the token ends.
     Void,
     /// Nothing around the token takes its value: the program publishes that.
     Publish(Value),
     /// A `>x>` takes the token's value.
     Send(Value),
-    /// This cell is bound to the token's value.
+    /// A `<x<` takes the token's value: the cell with this number, which stands for its x, is bound to the value.
     Bind(u64, Value),
-    /// It calls a site, and all arguments have values.
+    /// The token calls a site, and all arguments have values.
     Call,
-    /// It waits for this cell, the first one if it waits for several. 0 (no cell has this number) if no cell can end the wait: it is at a name that
-    /// isn't bound, or at a call of a definition that isn't there. No checked program has these.
+    /// The token waits for the cell with this number, the first one if it waits for several. 0 (no cell has this number) if no cell can end the wait:
+    /// the token is at a name that isn't bound, or at a call of a definition that isn't there. No checked program has these.
     Wait(u64),
 }
 
 /// What a token on this value does: it depends on what takes the value, from step `from` outwards. Each step enters the left side of a `>x>` or a
-/// `;`, or the right side of a `<x<`. If nothing takes the value, or if there is no step `from`, the program publishes it.
+/// `;`, or the right side of a `<x<`. If nothing takes the value, or if there is no step `from`, the program publishes it. The contract asks that the
+/// step around each step has a lower number (`AreOutwards`), since paths are defined by that; and it promises the answer by the path of steps, in
+/// which the left sides of `;` that have published are left out (`seen`): they never take a value.
 pub fn publish_action(steps: &Steps, from: usize, value: Value) -> Action
     requires { AreOutwards steps.now.items }
     ensures { (code : ℕ → Term) (env : ℕ → Env) (left : ℕ → Bool) → result ≡ taken value (seen left (path code env steps.now.items from)) }
 {
+    // There is no step `from`: steps are numbered from 1 to `len`.
     if from > steps.len() {
         return Action::Publish(value);
     }
@@ -73,7 +76,8 @@ pub fn publish_action(steps: &Steps, from: usize, value: Value) -> Action
 }
 
 /// Whether each operand of a call has a value in the scope with the number `scope`; `cells` says what each cell has become. The contract promises of
-/// `true` alone that `site_call_action`, begun with all these operands, gives `Call`.
+/// `true` alone that `site_call_action`, begun with all these operands, gives `Call`. It asks that each scope extends one of a lower number
+/// (`AreOrdered`): only of such scopes `meaning` promises what a name means.
 pub fn are_values(
     scopes: &[StoredScope],
     cells: &[Bound],
@@ -88,6 +92,7 @@ pub fn are_values(
         [] => true,
         [operand, operands @ ..] => match meaning(scopes, cells, *operand, scope) {
             Some(Bound::Is(_)) => are_values(scopes, cells, operands, scope),
+            // The cell was lost, or isn't bound yet; or the scope doesn't have the operand's name. None of these is a value.
             Some(Bound::Void) => false,
             Some(Bound::Cell(_)) => false,
             None => false,
@@ -97,7 +102,7 @@ pub fn are_values(
 
 /// What a token at a call of a site does, in the scope with the number `scope`: `Call` where all operands have values, `Void` where one is void, else
 /// `Wait`. `operands` are those that are still to be looked at: `waits` says that one before them has no value yet, and `first` is the first unbound
-/// cell before them. A caller begins with all operands, false and None.
+/// cell before them. A caller begins with all operands, false and None. `AreOrdered` asks that each scope extends one of a lower number.
 pub fn site_call_action(
     scopes: &[StoredScope],
     cells: &[Bound],
@@ -110,6 +115,7 @@ pub fn site_call_action(
     ensures { result ≡ scan waits first (closed (env_of cells.now scopes.now scope) operands.now) }
 {
     match operands {
+        // All operands were looked at, and none is void.
         [] => {
             if waits {
                 // 0 if only names that aren't bound have no value.
@@ -119,9 +125,11 @@ pub fn site_call_action(
             }
         }
         [operand, operands @ ..] => match meaning(scopes, cells, *operand, scope) {
+            // A value: it changes nothing for the others.
             Some(Bound::Is(_)) => site_call_action(scopes, cells, operands, scope, waits, first),
             // One void operand is enough, whatever the others wait for.
             Some(Bound::Void) => Action::Void,
+            // A cell without a value yet: the call waits, unless a void operand follows. `first` stays, if there is one already.
             Some(Bound::Cell(cell)) => {
                 site_call_action(scopes, cells, operands, scope, true, first.or(Some(cell)))
             }
@@ -131,8 +139,8 @@ pub fn site_call_action(
     }
 }
 
-// What a token does whose term is a variable or a value, by what stands for it in the scope with the number `scope`. `from` is the token's innermost
-// step, 0 if it has none.
+// What a token does whose term is a variable or a value, `operand`, by what that means in the scope with the number `scope`. `from` is the token's
+// innermost step (the entry into a side of a `>x>`, `<x<` or `;` around the token), 0 if it has none.
 fn variable_action(
     scopes: &[StoredScope],
     cells: &[Bound],
@@ -154,8 +162,9 @@ fn variable_action(
     }
 }
 
-/// What a token does at the node with this number of the program, in the scope with the number `scope`. `from` is the token's innermost step, 0 if it
-/// has none.
+/// What a token does at the node with this number of the program, in the scope with the number `scope`. `from` is the token's innermost step (the
+/// entry into a side of a `>x>`, `<x<` or `;` around the token), 0 if it has none. The contract asks that each scope extends one of a lower number
+/// (`AreOrdered`), and that the step around each step has a lower number (`AreOutwards`).
 pub fn action_at(
     graph: &Graph,
     scopes: &[StoredScope],
@@ -173,7 +182,7 @@ pub fn action_at(
         Node::Stop => Action::Halt,
         Node::Name(name) => variable_action(scopes, cells, steps, Operand::Name(name), scope, from),
         Node::Is(value) => publish_action(steps, from, value),
-        // All operands are still to be looked at, so none is known to wait.
+        // `list` is the number of the call's list of operands. All are still to be looked at, so none is known to wait.
         Node::Site(_, list) => site_call_action(
             scopes,
             cells,

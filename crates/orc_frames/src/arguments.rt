@@ -16,7 +16,8 @@ use orc_rules::param::Operand;
 use orc_rules::value::Args;
 
 /// Writes the values that a call's operands have in the scope with the number `scope` over `args`, in their order, and says whether each has one.
-/// Where one has none (it is unbound or void), `args` has the values before it.
+/// Where one has none (it is unbound or void), `args` has the values before it. The contract asks that each scope extends one of a lower number
+/// (`AreOrdered`).
 #[inline(always)]
 pub fn take_values(
     scopes: &[StoredScope],
@@ -35,6 +36,7 @@ pub fn take_values(
         match meaning(scopes, cells, *operand, scope) {
             // There is room: a call has `MOST_ARGUMENTS` operands at most, as `few` asks.
             Some(Bound::Is(value)) => args.push(value),
+            // The operand has no value yet, will never have one, or is a name that the scope doesn't have.
             Some(Bound::Cell(_)) => return false,
             Some(Bound::Void) => return false,
             None => return false,

@@ -8,7 +8,7 @@ ghost use Rattle.orc_tables.specs.declared.records.Step.{Step as Entering};
 
 use orc_tables::{Frame, Steps};
 
-// Whether what a step enters is the left side of the otherwise with this number.
+// Whether what a step enters is the left side of the otherwise (`f ; g`) with this number, the mark of the token that entered it.
 fn is_number(entered: Frame, number: u64) -> bool
     ensures { result ≡ is_number number entered }
 {
@@ -19,7 +19,8 @@ fn is_number(entered: Frame, number: u64) -> bool
 }
 
 /// Whether the otherwise with this number, which is the mark of the token that entered it, has published: true keeps its right side from ever
-/// running. `step` is a guess: None if it isn't the step into its left side, and then nothing is known.
+/// running. `step`, from 1, is a guess which step enters that left side: None if the guess is wrong, and then nothing is known. The contract asks
+/// that at most one step enters the otherwise with this number, so that no other step says otherwise.
 pub fn left_at(steps: &Steps, step: usize, number: u64) -> Option<bool>
     requires { weight (tries number) steps.now.items ≤ 1 }
     ensures left { IfSome result (λ left. left ≡ has_left steps.now.items number) }
@@ -33,7 +34,8 @@ pub fn left_at(steps: &Steps, step: usize, number: u64) -> Option<bool>
     }
 }
 
-// Whether this step enters the otherwise with this number, and that has published.
+// Whether the step with the number `step`, from 1, enters the left side of the otherwise with this number, and that has published. False if there is
+// no such step.
 fn is_left(steps: &Steps, step: usize, number: u64) -> bool
     ensures { result ≡ is_left number (step_at steps.now.items step) }
 {

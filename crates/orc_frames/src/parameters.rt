@@ -37,6 +37,7 @@ pub fn parameter_scopes(
     let mut left = params.len();
     while left > 0 {
         left -= 1;
+        // None: the operand is a name that the caller's scope doesn't have.
         let Some(bound) = meaning(scopes, cells, operands[left], scope) else {
             return Ok(None);
         };
@@ -49,7 +50,7 @@ pub fn parameter_scopes(
                 outer,
             }),
         );
-        // The number of the scope that was just added.
+        // The number of the scope that was just added, as it will be behind `scopes`: the first of those has the number 1. The error is over 32 bits.
         outer = outer_number(scopes.len() + added.len())?;
     }
     Ok(Some(outer as usize))

@@ -13,18 +13,21 @@ ghost use Rattle.orc_tables.specs.Steps.{AreOutwards};
 
 use orc_tables::{Frame, Steps};
 
-/// What takes a publication.
+/// What takes a publication: a value that a token would publish. Steps (entries into a side around a token) are numbered from 1; 0 is the whole
+/// program.
 #[derive(Clone, Copy)]
 pub enum Taker {
-    /// Nothing: the program publishes it.
+    /// Nothing: the program publishes the value.
     Whole,
     /// A `>x>`: the number of its name, the node of its right side, the scope in which the whole `f >x> g` is, and the step around that.
     SeqLeft(u32, u32, usize, usize),
-    /// A `<x<`, from its right side: its cell, and the step around the whole `f <x< g`.
+    /// A `<x<`, of whose right side the value comes: the number of the cell that gets the value, and the step around the whole `f <x< g`.
     PruneRight(u64, usize),
 }
 
-/// What takes a publication of a token whose innermost step is `from`: the nearest step outwards, itself included, that enters no otherwise.
+/// What takes a publication of a token whose innermost step is `from`. A step is the entry into a side. The nearest one outwards, `from` included,
+/// that enters no otherwise (`f ; g`) says what takes the value: otherwises take nothing. The contract asks that there is a step `from`, unless that
+/// is 0, and that the step around each step has a lower number (`AreOutwards`).
 #[inline(always)]
 pub fn find_taker(steps: &Steps, from: usize) -> Taker
     requires within { from ≤ length steps.now.items }
@@ -33,6 +36,7 @@ pub fn find_taker(steps: &Steps, from: usize) -> Taker
     ensures way { IsOnWay steps.now.items from result }
     ensures entered { IsEntered steps.now.items result }
 {
+    // `taker` gives the number of that step, or 0 if nothing takes the value.
     match steps.at(steps.taker(from)) {
         Some(step) => match step.entered {
             Frame::SeqLeft(name, node, scope) => Taker::SeqLeft(name, node, scope, step.outer),
@@ -45,7 +49,9 @@ pub fn find_taker(steps: &Steps, from: usize) -> Taker
     }
 }
 
-/// Marks as published each otherwise that a publication passes on its way from step `from` to what takes it: their right sides never run then.
+/// Marks as published each otherwise (`f ; g`) whose left side a publication passes on its way from step `from` outwards to what takes the value: the
+/// right sides never run then. A step is the entry into a side. The contract asks that there is a step `from`, unless that is 0, and that the step
+/// around each step has a lower number (`AreOutwards`).
 pub fn leave_others(steps: &mut Steps, from: usize)
     requires within { from ≤ length steps.old.items }
     requires outwards { AreOutwards steps.old.items }

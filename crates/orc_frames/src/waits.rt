@@ -14,8 +14,9 @@ use orc_indexes::{push_within, reserve};
 use orc_rules::param::Operand;
 use std::alloc::AllocError;
 
-/// Writes the unbound cells among these operands, in the scope with the number `scope`, over `listed`, in the operands' order, each as often as it
-/// occurs. The error is refused memory; what is listed isn't known then.
+/// Writes the numbers of the unbound cells that these operands mean in the scope with the number `scope` over `listed`, in the operands' order, each
+/// as often as it occurs. The error is refused memory; what is listed isn't known then. The contract asks that each scope extends one of a lower
+/// number (`AreOrdered`).
 pub fn list_cells(
     scopes: &[StoredScope],
     cells: &[Bound],

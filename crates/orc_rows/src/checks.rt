@@ -8,8 +8,8 @@ use std::thread::Threads;
 /// The fields that such a row may have.
 pub const FIELDS: &str = "source script journal check fronts";
 
-// The number of the line in which a prefix of a journal ends, from 1; a prefix that ends with LF ends in the empty line behind it. None if it ends
-// within the first line, which names the format.
+// The number of the line in which `front`, a prefix of a journal, ends, from 1; a prefix that ends with LF ends in the empty line behind that. None
+// if the prefix ends within the first line, which names the format.
 fn said_of(front: &str) -> Option<u64> {
     if front.contains('\n') {
         Some(front.split('\n').count() as u64)
@@ -24,7 +24,7 @@ impl<R: Threads + Wait + Sync> Trial<'_, R> {
     // for the first line, J2 for another.
     fn try_fronts(&mut self, whole: &str) -> io::Result<()> {
         for at in 0..whole.len() {
-            // None within a character.
+            // None if `at` lies within a character.
             let Some(front) = whole.get(..at) else {
                 continue;
             };
@@ -44,7 +44,8 @@ impl<R: Threads + Wait + Sync> Trial<'_, R> {
         Ok(())
     }
 
-    /// Tries a row that is a journal. If a check refuses it, drawing it has to say the same. The error is refused memory.
+    /// Tries a row that is a journal: a check has to say what the row says. If the check refuses the journal, drawing it has to give the same
+    /// message. The error is refused memory, or a text of the program that isn't UTF-8.
     pub fn try_journal(&mut self) -> io::Result<()> {
         let Some(wanted) = self.row.field("check") else {
             self.note("a row with a journal has to say", "check")?;

@@ -10,18 +10,22 @@ use std::io::{Empty, Read, Write};
 #[derive(Drop)]
 pub struct FailingFiles {
     pub alloc: Global,
+    /// How many more files can be read or opened.
     pub good: usize,
+    /// Why each file after these can't be read.
     pub fault: ReadFault,
 }
 
 impl Files for FailingFiles {
     type Reader = Empty;
 
+    // The next file's bytes, of which there are none, or the fault if no good file is left.
     fn read(&mut self, path: &str) -> Result<Vec<u8>, ReadFault> {
         self.open(path)?;
         Ok(Vec::new(self.alloc))
     }
 
+    // The next file, which is empty, or the fault if no good one is left.
     fn open(&mut self, _path: &str) -> Result<Empty, ReadFault> {
         if self.good == 0 {
             return Err(self.fault);
@@ -31,16 +35,20 @@ impl Files for FailingFiles {
     }
 }
 
-/// A file in memory that gives at most `at_once` bytes at a time, and fails once it has given `good` bytes in all. `bytes` are those still to be
-/// given; once none is left it is at its end, if it hasn't failed before.
+/// A file in memory that gives at most `at_once` bytes at a time, and fails once it has given `good` bytes in all. Once no bytes are left the file is
+/// at its end, if it hasn't failed before.
 #[derive(Drop)]
 pub struct ShortReader<'a> {
+    /// The bytes that are still to be given.
     pub bytes: &'a [u8],
+    /// How many bytes one call gives at most.
     pub at_once: usize,
+    /// How many more bytes the reader gives before it fails.
     pub good: usize,
 }
 
 impl Read for ShortReader<'_> {
+    // Copies the next bytes into the front of `room`, and gives their number; 0 at the file's end.
     fn read(&mut self, room: &mut [u8]) -> io::Result<usize> {
         if self.good == 0 {
             // Which error it is makes no difference.
@@ -66,11 +74,12 @@ pub struct ShortWriter {
     pub taken: Vec<u8>,
     /// How many more bytes it takes.
     pub room: usize,
-    /// How many of them it takes in one call at most.
+    /// How many bytes it takes in one call at most.
     pub at_once: usize,
 }
 
 impl Write for ShortWriter {
+    // Takes the front of `bytes`, as far as there is room, and gives the number of bytes that were taken. The error comes when no room is left.
     fn write(&mut self, bytes: &[u8]) -> io::Result<usize> {
         let n = self.room.min(self.at_once).min(bytes.len());
         // `at_once` is 1 at least: so no room is left, or no bytes are to be written, which isn't tried.
@@ -82,6 +91,7 @@ impl Write for ShortWriter {
         Ok(n)
     }
 
+    // Nothing is held back that could be flushed.
     fn flush(&mut self) -> io::Result<()> {
         Ok(())
     }
@@ -103,10 +113,12 @@ impl ShortWriter {
 pub struct IdleWriter;
 
 impl Write for IdleWriter {
+    // 0: none of the bytes is taken.
     fn write(&mut self, _bytes: &[u8]) -> io::Result<usize> {
         Ok(0)
     }
 
+    // A flush has nothing to do: no byte was taken.
     fn flush(&mut self) -> io::Result<()> {
         Ok(())
     }

@@ -10,7 +10,9 @@ use std::thread::Threads;
 /// A file in memory.
 #[derive(Drop)]
 struct File {
+    // The name by which command lines name the file, such as `a.orc`.
     name: &'static str,
+    // What the file holds.
     bytes: Vec<u8>,
 }
 
@@ -28,7 +30,7 @@ impl Folder {
         }
     }
 
-    /// Puts a file there, in the place of the one that has its name, if there is one.
+    /// Puts a file into the folder, in the place of the one that has the same name, if there is one. The error is refused memory.
     pub fn put(&mut self, name: &'static str, bytes: Vec<u8>) -> Result<(), AllocError> {
         match self.files.iter().position(|file| file.name == name) {
             Some(at) => {
@@ -71,11 +73,13 @@ pub struct Reading<'a> {
 impl<'a> Files for Reading<'a> {
     type Reader = &'a [u8];
 
+    // The bytes of the file with this name. The fault is that there is none, or refused memory.
     fn read(&mut self, path: &str) -> Result<Vec<u8>, ReadFault> {
         let bytes = self.open(path)?;
         Vec::from_slice(self.alloc, bytes).map_err(|_| ReadFault::Memory)
     }
 
+    // A reader of the file with this name. The fault is that there is none.
     fn open(&mut self, path: &str) -> Result<&'a [u8], ReadFault> {
         match self.folder.find(path) {
             Some(bytes) => Ok(bytes),
@@ -87,13 +91,16 @@ impl<'a> Files for Reading<'a> {
 /// What a command line did.
 #[derive(Drop)]
 pub struct Done {
+    /// The status with which it ended; 0 is success.
     pub status: u8,
+    /// What it wrote to standard output.
     pub out: String,
+    /// What it wrote to standard error.
     pub err: String,
 }
 
 impl Done {
-    /// Whether it ended with this status and wrote nothing to standard output but this.
+    /// Whether the command line ended with this status, and `out` is all that it wrote to standard output. Standard error isn't looked at.
     pub fn is_plain(&self, status: u8, out: &str) -> bool {
         self.status == status && self.out.as_str() == out
     }
@@ -107,8 +114,8 @@ fn text_of(bytes: Vec<u8>) -> io::Result<String> {
     }
 }
 
-/// Does one command line over the files of a folder and a standard output: the status, and what standard error has. `words` begin with the program's
-/// name. The error, here and in `orc`, is that a text that the program wrote isn't UTF-8.
+/// Does one command line over the files of a folder, and writes its standard output to `out`. Gives the status, and what it wrote to standard error.
+/// `words` begin with the program's name. The error is that standard error isn't UTF-8.
 pub fn orc_into<R: Threads + Wait + Sync, W: Write>(
     rt: &R,
     alloc: Global,
@@ -122,8 +129,8 @@ pub fn orc_into<R: Threads + Wait + Sync, W: Write>(
     Ok((status, text_of(err)?))
 }
 
-/// Does one command line over the files of a folder. `words` begin with the program's name. The error is that a text that the program wrote isn't
-/// UTF-8.
+/// Does one command line over the files of a folder, and gives its status and what it wrote. `words` begin with the program's name. The error is that
+/// a text that the program wrote isn't UTF-8.
 pub fn orc<R: Threads + Wait + Sync>(
     rt: &R,
     alloc: Global,

@@ -5,17 +5,17 @@ use std::alloc::{AllocError, Global};
 /// What a journal says.
 #[derive(Drop)]
 pub struct Told<'a> {
-    /// How many entries it has.
+    /// How many entries the journal has, cancels too.
     pub entries: u64,
-    /// How many of them aren't cancels.
+    /// How many of the entries aren't cancels.
     pub counted: u64,
-    /// The values that it publishes, a line each.
+    /// The values that the journal publishes, a line each, in order.
     pub published: String,
-    /// The time of its last tick, in digits; 0 if it has none.
+    /// The time of the journal's last tick, in digits: when the run ended. It is 0 if there is none.
     pub time: &'a str,
 }
 
-/// Reads a journal's text. It isn't checked: a line that is none of a journal's counts as an entry.
+/// Reads a journal's text, which isn't checked: each line but the first counts as an entry. The error is refused memory.
 pub fn read_journal<'a>(alloc: Global, text: &'a str) -> Result<Told<'a>, AllocError> {
     let mut told = Told {
         entries: 0,
@@ -30,6 +30,7 @@ pub fn read_journal<'a>(alloc: Global, text: &'a str) -> Result<Told<'a>, AllocE
             told.counted = told.counted.saturating_add(1);
         }
         if line.starts_with("publish ") {
+            // The value is the line's last word.
             if let Some((_, value)) = line.rsplit_once(' ') {
                 told.published.push_str(value)?;
                 told.published.push('\n')?;
@@ -62,7 +63,8 @@ pub fn line_with<'a>(text: &'a str, front: &str) -> Option<&'a str> {
     None
 }
 
-// The number of a call that a line records, and the call itself, as in `call 2 1 Primary(3)`. None if the line records no call.
+// The number of the call that a line of a journal records, and the call itself: `1` and `Primary(3)` of `call 2 1 Primary(3)`, where 2 is the mark of
+// the token that makes the call. None if the line records no call.
 fn call_of(line: &str) -> Option<(&str, &str)> {
     let (_, numbered) = line.strip_prefix("call ")?.split_once(' ')?;
     numbered.split_once(' ')
@@ -82,7 +84,7 @@ fn has_returned(text: &str, number: &str) -> bool {
     false
 }
 
-/// Whether a journal has a call that is written as `wanted`, such as `Primary(3)`, and no return of any such call.
+/// Whether a journal has a call that is written as `wanted`, such as `Primary(3)`, and no return of any such call: each such call is lost.
 pub fn is_lost(text: &str, wanted: &str) -> bool {
     let mut is_called = false;
     for line in text.lines() {

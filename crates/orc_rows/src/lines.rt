@@ -14,12 +14,12 @@ pub const FIELDS: &str = "line source script journal test status text begins err
 /// Signs that need a shell. Only `checks/rows` tries a row whose command line has one of these signs.
 const SHELL: [char; 6] = [';', '|', '<', '>', '$', '"'];
 
-/// Whether a command line can be done without a shell.
+/// Whether a command line can be done without a shell: it has none of the signs that only a shell understands.
 pub fn is_plain(line: &str) -> bool {
     !SHELL.iter().any(|sign| line.contains(*sign))
 }
 
-// The words of a command line. `''` is an empty one.
+// The words of a command line, which blanks separate. `''` is an empty word. The error is refused memory.
 fn words_of<'a>(alloc: Global, line: &'a str) -> Result<Vec<&'a str>, AllocError> {
     let mut words = Vec::new(alloc);
     for word in line.split_whitespace() {
@@ -36,6 +36,7 @@ impl<R: Threads + Wait + Sync> Trial<'_, R> {
         let is_right = if let Some(front) = self.row.field("begins") {
             out.starts_with(front)
         } else if let Some(text) = self.row.field("text") {
+            // The field doesn't give the LF that ends the last line.
             match out.strip_suffix('\n') {
                 Some(whole) => whole == text,
                 None => false,
@@ -59,6 +60,7 @@ impl<R: Threads + Wait + Sync> Trial<'_, R> {
         }
         let words = words_of(self.alloc, line)?;
         let done = self.run(words.as_slice())?;
+        // A row that doesn't name a status wants 0.
         if !self.row.has("status") && done.status != 0 {
             self.note("the status has to be", "0")?;
         }

@@ -30,7 +30,8 @@ use streams::try_streams;
 use table::{Row, read_rows};
 use trial::Trial;
 
-// Tries a row: a command line, a journal or a program, by its fields. A field that such a row may not have is a failure, and the row isn't tried.
+// Tries a row: a command line, a journal or a program, by its fields. A field that such a row may not have is a failure, and the row isn't tried. The
+// error is refused memory, or a text of the program that isn't UTF-8.
 fn try_row<R: Threads + Wait + Sync>(rt: &R, alloc: Global, row: &Row) -> io::Result<Report> {
     let mut trial = Trial::new(rt, alloc, row)?;
     let (line, has_journal) = (row.field("line"), row.has("journal"));
@@ -41,6 +42,7 @@ fn try_row<R: Threads + Wait + Sync>(rt: &R, alloc: Global, row: &Row) -> io::Re
     } else {
         programs::FIELDS
     };
+    // The name of a field that such a row may not have.
     if let Some(name) = row.stranger(fields) {
         trial.note("such a row has no field", name)?;
         trial.count("not tried")?;
@@ -54,7 +56,7 @@ fn try_row<R: Threads + Wait + Sync>(rt: &R, alloc: Global, row: &Row) -> io::Re
     Ok(trial.report)
 }
 
-// Tries all rows of a table, whose text this is.
+// Tries all rows of a table, whose text is `table`, and reports on them. The error is that of a row, or a line that no row can have.
 fn try_table<R: Threads + Wait + Sync>(rt: &R, alloc: Global, table: &str) -> io::Result<Report> {
     let mut report = Report::new(alloc);
     for row in &read_rows(alloc, table)? {
@@ -69,6 +71,7 @@ fn main(rt: HostRuntime) -> io::Result<ExitCode> {
     let words = env::args(&rt)?.collect::<Vec<String>>(alloc)?;
     // 1 if some row or stream does otherwise, or a table has no row.
     let mut status = ExitCode::SUCCESS;
+    // The first word is the program's name, each other one the name of a file with a table.
     for name in words.iter().skip(1) {
         let table = fs::read_to_string(&rt, name.as_str())?;
         let report = try_table(&rt, alloc, table.as_str())?;

@@ -27,7 +27,8 @@ const RACERS: &str = "4";
 /// The longest journal, in entries, of a run whose end is explained here: an explanation replays the journal, which takes long for a long one.
 const MOST_EXPLAINED: u64 = 10_000;
 
-// The words of a command line that runs the row's program on `workers` workers, with more words behind that.
+// The words of a command line that runs the row's program on `workers` workers, a number in digits, with the words of the row, which blanks separate,
+// behind that. The error is refused memory.
 fn words_of<'a>(
     alloc: Global,
     workers: &'a str,
@@ -43,7 +44,7 @@ fn words_of<'a>(
     Ok(line)
 }
 
-// Words with a blank between two of them.
+// Words as one text, with a blank between two of them. The error is refused memory.
 fn joined(alloc: Global, words: &[&str]) -> Result<String, AllocError> {
     let mut text = String::new(alloc);
     for word in words {
@@ -72,12 +73,14 @@ fn is_end(status: u8) -> bool {
 // Where a line of an explanation underlines, such as `  |     ^^^`: the byte of its first `^`, from 0, and how many `^` there are. None if the line
 // isn't a `|`, with nothing but blanks before it, and then blanks and a `^`.
 fn underlined(line: &str) -> Option<(usize, usize)> {
+    // `marks` is what stands behind the `|` and the blanks that follow it.
     let (front, rest) = line.split_once('|')?;
     let marks = rest.trim_start();
     if !front.trim_start().is_empty() || marks.len() == rest.len() || !marks.starts_with('^') {
         return None;
     }
     let behind = marks.trim_start_matches('^');
+    // `marks` ends with the line. `behind` is what follows its first run of `^`.
     Some((
         line.len().saturating_sub(marks.len()),
         marks.len().saturating_sub(behind.len()),
@@ -95,8 +98,8 @@ fn marked(text: &str) -> &str {
 }
 
 impl<R: Threads + Wait + Sync> Trial<'_, R> {
-    // Notes in what the explanation of a fault differs from the row: what it underlines, and parts of its text, a line each. It isn't asked for if
-    // the row says neither.
+    // Notes in what the explanation of a fault differs from the row: `marks` is what it underlines, and `explains` has parts of its text, a line
+    // each. No explanation is asked for if the row has neither field. `words` run the program; they are the same afterwards.
     fn look_at_fault(&mut self, words: &mut Vec<&str>) -> io::Result<()> {
         if !self.row.has("marks") && !self.row.has("explains") {
             return Ok(());
@@ -119,7 +122,8 @@ impl<R: Threads + Wait + Sync> Trial<'_, R> {
         Ok(())
     }
 
-    // Notes in what a run's publications, a line each, differ from the row: `nothing` if there are none, and any will do if the row doesn't say.
+    // Notes in what a run's publications, a line each in `out`, differ from the row. The field `out` has the texts that are right, the values with
+    // blanks between them, or `nothing` if there are none; `each` is what each line has to be. Any will do if the row has neither.
     fn look_at_values(&mut self, out: &str) -> io::Result<()> {
         let words = out.split_whitespace().collect::<Vec<&str>>(self.alloc)?;
         let mut values = joined(self.alloc, words.as_slice())?;
@@ -145,7 +149,8 @@ impl<R: Threads + Wait + Sync> Trial<'_, R> {
         Ok(())
     }
 
-    // Notes in what a journal's lines differ from the row: a line that it has once, what no line begins with, a call that hasn't returned.
+    // Notes in what a journal's lines differ from the row: `has` is a line that the journal has once, `lacks` a front with which no line begins, and
+    // `lost` a call that hasn't returned.
     fn look_at_lines(&mut self, text: &str) -> Result<(), AllocError> {
         if let Some(line) = self.row.field("has") {
             if count_lines(text, line) != 1 {
@@ -169,7 +174,8 @@ impl<R: Threads + Wait + Sync> Trial<'_, R> {
     // what the run's journal says, and `plain` what the run without `--explain` did.
     fn look_at_end(&mut self, words: &mut Vec<&str>, told: &Told, plain: &Done) -> io::Result<()> {
         let is_halted = plain.status == 0;
-        // Of a run that published something and halted, only what looks like a mistake is explained.
+        // `--explain` says of a run that published something and halted only what looks like a mistake, so nothing is compared. A long journal would
+        // take too long.
         if is_halted && !plain.out.is_empty() || told.entries > MOST_EXPLAINED {
             return Ok(());
         }
@@ -290,6 +296,7 @@ impl<R: Threads + Wait + Sync> Trial<'_, R> {
     pub fn try_program(&mut self) -> io::Result<()> {
         // What the run before this one has written. None before the first.
         let mut last: Option<String> = None;
+        // Whether the program is also run with `--unordered`, in which the workers race each other.
         let may_race = !self.row.has("text") && !self.row.has("workers");
         for more in self.row.field("words").unwrap_or("").split('\n') {
             let mut has_ended = false;
@@ -300,6 +307,7 @@ impl<R: Threads + Wait + Sync> Trial<'_, R> {
                 self.look_at_run(&mut words, &done)?;
                 let is_same = match &last {
                     Some(before) => before.as_str() == done.out.as_str(),
+                    // This is the first run: there is none to compare with.
                     None => true,
                 };
                 if self.row.has("each") && !is_same {

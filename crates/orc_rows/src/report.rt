@@ -12,7 +12,9 @@ const MOST_SHOWN: usize = 400;
 /// How many command lines did what their rows say, how many didn't, and the text on these.
 #[derive(Drop)]
 pub struct Report {
+    /// How many command lines did what their rows say.
     pub passed: u64,
+    /// How many didn't.
     pub failed: u64,
     // The first failures, as `print` writes them.
     told: String,
@@ -41,8 +43,8 @@ impl Report {
         self.wrong.push('\n')
     }
 
-    /// Counts a command line of a row, whose sentence this is. It is a failure if something was noted since the last call; nothing is noted after
-    /// this.
+    /// Counts the command line `line` of a row, whose sentence says what the row shows. The line is a failure if something was noted since the last
+    /// call of `count`; the notes of the first `MOST_TOLD` failures go into the report's text, and the next line begins without any.
     pub fn count(&mut self, sentence: &str, line: &str) -> Result<(), AllocError> {
         if self.wrong.is_empty() {
             self.passed = self.passed.saturating_add(1);
@@ -60,7 +62,7 @@ impl Report {
         Ok(())
     }
 
-    /// Adds what another report counts and tells. All command lines of the other one were counted.
+    /// Adds what another report counts and tells. No notes are left in that one, since all its command lines were counted.
     pub fn add(&mut self, other: &Report) -> Result<(), AllocError> {
         self.passed = self.passed.saturating_add(other.passed);
         self.failed = self.failed.saturating_add(other.failed);
@@ -72,7 +74,8 @@ impl Report {
         self.failed == 0 && self.passed > 0
     }
 
-    /// Writes the failures of a table and how many there are; or that no row was tried, or that each does what it says.
+    /// Writes to standard output the failures of the table with this name and how many there are; or that no row was tried, or that each row does
+    /// what it says. The error is that standard output takes nothing more.
     pub fn print<R: Print>(&self, rt: &R, table: &str) -> io::Result<()> {
         if self.failed > 0 {
             let (failed, told) = (self.failed, self.told.as_str());
@@ -85,7 +88,7 @@ impl Report {
     }
 }
 
-// The characters of a text that lie within its first `MOST_SHOWN` bytes.
+// The front of a text: the characters that lie within its first `MOST_SHOWN` bytes.
 fn front_of(text: &str) -> &str {
     if text.len() <= MOST_SHOWN {
         return text;

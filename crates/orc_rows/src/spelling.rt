@@ -8,7 +8,7 @@ const LETTERS: [(char, u8); 3] = [('n', b'\n'), ('r', b'\r'), ('t', b'\t')];
 /// How many hexadecimal digits follow `\x`.
 const DIGITS: usize = 2;
 
-// The byte that the front of a text spells, whose `\` has been taken, and what follows it. None if it is no escape.
+// The byte that an escape spells, and what follows the escape. `text` begins behind the escape's `\`. None if no escape begins there.
 fn escaped(text: &str) -> Option<(u8, &str)> {
     for (letter, byte) in LETTERS.iter() {
         if let Some(rest) = text.strip_prefix(*letter) {
@@ -23,11 +23,12 @@ fn escaped(text: &str) -> Option<(u8, &str)> {
     }
 }
 
-// A text without its escapes. A `\c` ends it. A `\` before anything else stands for itself.
+// The bytes of a text in which each escape stands for its byte. A `\c` ends the text. A `\` before anything else stands for itself. The error, here
+// and below, is refused memory.
 fn unescape(alloc: Global, text: &str) -> Result<Vec<u8>, AllocError> {
     let mut bytes = Vec::new(alloc);
     for (at, part) in text.split('\\').enumerate() {
-        // Before the first `\` there is no escape.
+        // What stands before the first `\` has no escape. Each other part begins behind a `\`.
         if at == 0 {
             bytes.extend_from_slice(part.as_bytes())?;
         } else if part.starts_with('c') {
@@ -47,6 +48,7 @@ fn unescape(alloc: Global, text: &str) -> Result<Vec<u8>, AllocError> {
 // don't begin so.
 fn counted(bytes: &[u8]) -> Option<(u32, &[u8], &[u8])> {
     let end = bytes.iter().position(|byte| *byte == b']')?;
+    // What stands before the `]`, and what stands behind it.
     let (inside, rest) = (
         bytes.get(..end)?,
         bytes.get(end..)?.strip_prefix(b"]".as_slice())?,
@@ -67,7 +69,7 @@ fn counted(bytes: &[u8]) -> Option<(u32, &[u8], &[u8])> {
 fn repeat(alloc: Global, bytes: &[u8]) -> Result<Vec<u8>, AllocError> {
     let mut whole = Vec::new(alloc);
     for (at, part) in bytes.split(|byte| *byte == b'[').enumerate() {
-        // Before the first `[` nothing is repeated.
+        // What stands before the first `[` isn't repeated. Each other part begins behind a `[`.
         if at == 0 {
             whole.extend_from_slice(part)?;
         } else if let Some((times, text, rest)) = counted(part) {

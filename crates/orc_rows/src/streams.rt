@@ -13,6 +13,7 @@ use std::thread::Threads;
 // Two calls: the left one answers 5 at time 2, and the right one halts, so that 6 is published at time 0.
 const SOURCE: &str = "Pair(1, 9) | (Pair(2, 9) ; 6)";
 
+// Its first line answers the left call of `SOURCE`, its second one any other call of `Pair`.
 const SCRIPT: &str = "Pair(1, _) = 5 after 2\nPair(_, _) = halt\n";
 
 // The first entry of a run of this program, after which it is still running.
@@ -33,8 +34,10 @@ const FIRST_ENTRY: &[&str] = &[
     "--journal",
 ];
 
+// It checks `JOURNAL` by the script.
 const CHECK: &[&str] = &["orc", "check", "a.orc", "a.journal", "--script", "a.script"];
 
+// It makes runs in three orders, and tells what came of them.
 const OUTCOMES: &[&str] = &[
     "orc", "outcomes", "a.orc", "--script", "a.script", "--orders", "3",
 ];
@@ -44,10 +47,13 @@ const SEARCH: &[&str] = &[
     "orc", "outcomes", "a.orc", "--script", "a.script", "--orders", "1", "--all",
 ];
 
+// It writes the program in its plain form.
 const PRINT: &[&str] = &["orc", "print", "a.orc"];
 
+// It writes the help of `orc print`.
 const HELP: &[&str] = &["orc", "print", "--help"];
 
+// It writes the program's version.
 const VERSION: &[&str] = &["orc", "--version"];
 
 // Command lines, and what each writes to standard output; the text of `HELP` isn't given here, so it is empty.
@@ -77,7 +83,9 @@ const UNWRITTEN_STATUS: u8 = 6;
 struct Streams<'a, R> {
     rt: &'a R,
     alloc: Global,
+    // The files that the command lines name.
     folder: Folder,
+    // How many command lines did what they have to, and the failures of the others.
     report: Report,
 }
 
@@ -136,12 +144,13 @@ impl<R: Threads + Wait + Sync> Streams<'_, R> {
                 self.expect("another text is written", text, whole.out.as_str())?;
             }
             let bytes = whole.out.as_bytes();
-            // Room for no byte, for one, and so on.
+            // Room for no byte, for one, and so on, up to one less than the text has.
             for room in 0..bytes.len() {
                 let mut out = ShortWriter::new(self.alloc, room, 1);
                 self.is_unwritten(words, &mut out)?;
                 self.expect_bytes(&bytes[..room], out.taken.as_slice())?;
             }
+            // Now there is room for all of the text, so nothing fails.
             let mut out = ShortWriter::new(self.alloc, bytes.len(), 1);
             let (status, err) = orc_into(self.rt, self.alloc, words, &self.folder, &mut out)?;
             self.expect_status(whole.status, status)?;
@@ -152,7 +161,8 @@ impl<R: Threads + Wait + Sync> Streams<'_, R> {
         Ok(())
     }
 
-    // A writer that takes nothing fails each command that has something to write. A program that publishes nothing needs no writer.
+    // A writer that takes nothing fails each command that has something to write. A program that publishes nothing, as that of `stop.orc`, needs no
+    // writer: its status is 0.
     fn fails_at_a_writer_that_takes_nothing(&mut self) -> io::Result<()> {
         for words in [RUN, OUTCOMES, SEARCH, CHECK, PRINT, VERSION].iter() {
             self.is_unwritten(words, &mut IdleWriter)?;
@@ -166,7 +176,8 @@ impl<R: Threads + Wait + Sync> Streams<'_, R> {
         Ok(())
     }
 
-    // A writer that takes 2 bytes and then fails has a prefix of the text, `123`, however many bytes it takes at once.
+    // A writer that takes 2 bytes and then fails has a prefix of the text, however many bytes it takes at once. The program of `sum.orc` publishes
+    // 123.
     fn fails_at_a_short_writer(&mut self) -> io::Result<()> {
         let words: &[&str] = &["orc", "run", "sum.orc"];
         for at_once in [1, 2, 10].iter() {
@@ -219,6 +230,7 @@ impl<R: Threads + Wait + Sync> Streams<'_, R> {
             (PRINT, 0, "orc: read a.orc\n"),
         ];
         for (words, good, line) in rows.iter() {
+            // The first call's file may not be read (status 6), for the second call's there is no memory (status 5).
             self.is_unread(words, *good, ReadFault::Failed(Unread::Forbidden), 6, line)?;
             self.is_unread(words, *good, ReadFault::Memory, 5, "orc: memory\n")?;
         }
@@ -250,6 +262,7 @@ impl<R: Threads + Wait + Sync> Streams<'_, R> {
     // be read to its end, it says that alone.
     fn checks_a_journal_that_comes_in_pieces(&mut self) -> io::Result<()> {
         let bytes = JOURNAL.as_bytes();
+        // `usize::MAX`: the file never fails.
         for at_once in [1, 2, 7, 1_000].iter() {
             self.is_checked(bytes, *at_once, usize::MAX, Ok(()), b"ok 1 Running\n")?;
         }

@@ -10,16 +10,18 @@ const NAME_WIDTH: usize = 10;
 /// A field of a row: its name, and its text, of one line or more.
 #[derive(Drop)]
 pub struct Field<'a> {
+    /// What stands in the first `NAME_WIDTH` columns, without the blanks behind it: `source`, say.
     pub name: &'a str,
+    /// What stands behind these columns; its lines are joined by LF.
     pub text: String,
 }
 
 /// A row.
 #[derive(Drop)]
 pub struct Row<'a> {
-    /// What it shows: the last line `== ..` above it; empty if there is none.
+    /// What the row shows: the last line `== ..` above it, without the `== `; empty if there is none.
     pub sentence: &'a str,
-    /// Its fields, in the order of the table.
+    /// The row's fields, in the order of the table.
     pub fields: Vec<Field<'a>>,
 }
 
@@ -63,7 +65,8 @@ fn odd_line() -> io::Error {
     io::Error::from(ErrorKind::InvalidData)
 }
 
-// Adds a line to a row: a field that begins, or the next line of the last one.
+// Adds a line to a row: a field that begins, or the next line of the last one. A line with blanks in place of a name continues a field. The error is
+// that of `odd_line`, or refused memory.
 fn add_line<'a>(alloc: Global, row: &mut Row<'a>, line: &'a str) -> io::Result<()> {
     let (Some(name), Some(text)) = (line.get(..NAME_WIDTH), line.get(NAME_WIDTH..)) else {
         return Err(odd_line());
@@ -74,6 +77,7 @@ fn add_line<'a>(alloc: Global, row: &mut Row<'a>, line: &'a str) -> io::Result<(
         row.fields.push(Field { name, text })?;
         return Ok(());
     }
+    // None: the line would continue a field, but the row has none yet.
     let Some(field) = row.fields.last_mut() else {
         return Err(odd_line());
     };
@@ -87,7 +91,7 @@ pub fn read_rows<'a>(alloc: Global, table: &'a str) -> io::Result<Vec<Row<'a>>> 
     let mut rows = Vec::new(alloc);
     let mut row = Row::new(alloc, "");
     for line in table.lines() {
-        // A remark.
+        // A line that begins with `# ` is a remark.
         if line.starts_with("# ") {
             continue;
         }

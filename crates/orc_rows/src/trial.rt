@@ -13,10 +13,14 @@ use std::thread::Threads;
 /// A row that is being tried, with its files.
 #[derive(Drop)]
 pub struct Trial<'a, R> {
+    /// The runtime, by which a command may start threads.
     pub rt: &'a R,
     pub alloc: Global,
+    /// The row that is being tried.
     pub row: &'a Row<'a>,
+    /// The row's files, which its command lines read.
     pub folder: Folder,
+    /// How many of the row's command lines did what it says, and the failures of the others.
     pub report: Report,
 }
 
@@ -33,7 +37,7 @@ const FILES: [(&str, &str); 5] = [
 const DRAWN: [(&str, &str); 2] = [("--theme", "dark"), ("--text", "--all")];
 
 // The files of a row, as its fields spell them. A row that gives no script has an empty one, and so it is with the script `instead`. The last line of
-// a journal has a LF in each case, which the field doesn't give.
+// a journal has a LF in each case, which the field doesn't give. The error is refused memory.
 fn folder_of(alloc: Global, row: &Row) -> Result<Folder, AllocError> {
     let mut folder = Folder::new(alloc);
     folder.put("a.script", Vec::new(alloc))?;
@@ -62,17 +66,17 @@ impl<'a, R: Threads + Wait + Sync> Trial<'a, R> {
         })
     }
 
-    /// Does a command line over the row's files. `words` begin with the program's name.
+    /// Does a command line over the row's files, and gives its status and what it wrote. `words` begin with the program's name.
     pub fn run(&self, words: &[&str]) -> io::Result<Done> {
         orc(self.rt, self.alloc, words, &self.folder)
     }
 
-    /// Notes a difference, as `Report::note` does.
+    /// Notes one thing that the command line that is being tried did otherwise than the row says: `label` are words that introduce `text`.
     pub fn note(&mut self, label: &str, text: &str) -> Result<(), AllocError> {
         self.report.note(label, text)
     }
 
-    /// Notes a number that isn't what a field of the row says. Nothing is noted if the row hasn't this field.
+    /// Notes the number `got` if it isn't what this field of the row says. Nothing is noted if the row hasn't the field.
     pub fn look_at_number(&mut self, field: &str, got: u64) -> Result<(), AllocError> {
         let Some(wanted) = self.row.field(field) else {
             return Ok(());
@@ -89,7 +93,7 @@ impl<'a, R: Threads + Wait + Sync> Trial<'a, R> {
         self.report.count(self.row.sentence, line)
     }
 
-    /// Notes standard error that isn't what the row says: nothing, where it says nothing.
+    /// Notes standard error that isn't the one line that the row's field `err` says. Without that field it has to be empty.
     pub fn look_at_error(&mut self, done: &Done) -> Result<(), AllocError> {
         let is_right = match self.row.field("err") {
             Some(wanted) => is_line(wanted, done.err.as_str()),

@@ -16,7 +16,7 @@ use orc_rules::answers::Answers;
 use orc_rules::limits::MOST_TOKENS;
 use orc_rules::value::Found;
 
-/// Whether a token stands at a call of a site whose calls a script answers.
+/// Whether a token stands at a call of a site whose calls a script answers. One on a value (`On`) stands at no node of the program.
 pub(crate) fn is_at_script(graph: &Graph, answers: &Answers, token: &Token) -> bool {
     match token.standing {
         Standing::At(node, _) => match graph.node(node as usize) {
@@ -28,7 +28,8 @@ pub(crate) fn is_at_script(graph: &Graph, answers: &Answers, token: &Token) -> b
 }
 
 impl<P: Run> Scheduler<P> {
-    /// The turn that the order draws. It `Rests` if no token is runnable and no due call is left to be drawn. The error is why the run stops.
+    /// The turn that the order (`--order`) draws: a token moves, or a due call is answered, and the run is nearer its end. It `Rests` if no token is
+    /// runnable and no due call is left to be drawn. The error is why the run stops.
     #[cold]
     #[inline(never)]
     pub(crate) fn drawn_turn(&mut self, inputs: &Inputs<'_, P>) -> Result<Turn, Stop>
@@ -55,8 +56,8 @@ impl<P: Run> Scheduler<P> {
         Ok(Turn::Rests)
     }
 
-    // Settles tokens from the newest on, as long as somebody outside sees their next step. The first token whose next step nobody sees, or that is
-    // gone, stays at the end of the queue and goes on without a draw.
+    // *Settles* tokens from the newest on, as long as somebody outside sees their next move: they are put first in the run queue, and the order draws
+    // among them. The first token whose next move nobody sees, or that is gone, stays at the end of the queue and goes on without a draw.
     fn settle(&mut self, inputs: &Inputs<'_, P>)
         ensures same { self.new.ledger ≡ self.old.ledger }
         ensures as_many { deque_len self.new.ready.handles ≡ deque_len self.old.ready.handles }
@@ -67,7 +68,7 @@ impl<P: Run> Scheduler<P> {
             };
             match self.token_of(handle) {
                 Some(token) if self.is_seen(inputs, &token) => self.ready.settle_newest(),
-                // Nobody sees the token's next step, or it is gone.
+                // Nobody sees the token's next move, or the token is gone.
                 _ => return,
             }
         }
@@ -90,6 +91,7 @@ impl<P: Run> Scheduler<P> {
         ensures none { IfOk result (λ answered. answered ≡ false → (self.new.ledger ≡ self.old.ledger) × (self.new.ready ≡ self.old.ready)) }
         ensures stops { IfErr result (λ stop. Stops P.listing self.new.ledger stop) }
     {
+        // None: no call with this number pends.
         let Some(call) = self.ledger.pending(number) else {
             return Ok(false);
         };
@@ -97,7 +99,7 @@ impl<P: Run> Scheduler<P> {
         let Found::After(answer, _) = call.found else {
             return Ok(false);
         };
-        // The slot is that of the token on the answer. None comes of a halt: then the call's group ends if nothing is left in it.
+        // `slot` is that of the token on the answer. None comes of an answer that halts: then the call's group ends if nothing is left in it.
         match self.ledger.returned(number, answer) {
             Ok(Some(slot)) => self.join_held(slot)?,
             Ok(None) => {
@@ -112,8 +114,8 @@ impl<P: Run> Scheduler<P> {
         Ok(true)
     }
 
-    /// Makes a call of a site that a script answers, in a run with an order. The token in this slot is at that call. The call's answer has a turn of
-    /// its own, even if it is due at once. The error is why the run stops.
+    /// Makes a call of a site that a script answers, in a run with an order. The token in this slot is at that call, and all arguments have values
+    /// (clause *calls*). The answer has a turn of its own, even if the call is due at once. The error is why the run stops.
     #[cold]
     #[inline(never)]
     pub(crate) fn call_apart(
@@ -174,7 +176,7 @@ impl<P: Run> Scheduler<P> {
         if !self.ready.is_ordered() {
             return Ok(());
         }
-        // Numbers of calls count from 1.
+        // Numbers of calls count from 1. Each time round takes the next due call over `number`.
         let mut number = 0;
         // As many calls pend at most as there may be tokens.
         for _ in 0..MOST_TOKENS {

@@ -18,7 +18,7 @@ use orc_outcome::{End, Played};
 use orc_rules::program::Program;
 
 impl<P: Run> Scheduler<P> {
-    /// The result of a run that stops for this reason. None if only a journal can show how the run ended, and it keeps none.
+    /// The result of a run that stops for this reason. None if only a journal can show how the run ended, and the run keeps none.
     ///
     /// The fault is Memory if memory was refused for the result, Broken if the reason is Broken or the records contradict it, and Site if the reason
     /// is Site. If `go` gave the reason, and the scope check accepted the program, no fault but Memory comes.
@@ -34,6 +34,7 @@ impl<P: Run> Scheduler<P> {
         ensures range { IfErr result (λ fault. fault ≡ EngineFault.Range → ⊥) }
         ensures sound { IfErr result (λ fault. IsOwn fault → Stops P.listing self.ledger stop → IsProgram (definitions P.listing) (source P.listing) → ⊥) }
     {
+        // None: only a journal could show the end.
         let Some(end) = self.end(program, inputs, stop)? else {
             return Ok(None);
         };
@@ -46,7 +47,8 @@ impl<P: Run> Scheduler<P> {
     }
 
     // How a run has ended that stops for this reason. None if only a journal can show it, and the run keeps none. The fault is Broken if the reason
-    // is Broken or the records contradict it, and Site if the reason is Site.
+    // is Broken or the records contradict it, and Site if the reason is Site. By *sound* such a fault means that the reason wasn't true of the run,
+    // or that the scope check doesn't accept the program.
     fn end(
         &mut self,
         program: &Program,
@@ -64,7 +66,7 @@ impl<P: Run> Scheduler<P> {
             Stop::Refused(LedgerFault::Memory) => Ok(Some(End::Memory)),
             Stop::Refused(LedgerFault::Full) => self.crowded(inputs),
             Stop::Refused(LedgerFault::Limit) => self.cut(program, inputs),
-            // A fault of a call whose claim another worker may win first. A scheduler makes no such call.
+            // Only a call that several workers may try to make has this fault: another one was first. A scheduler makes no such call.
             Stop::Refused(LedgerFault::Unclaimed) => Err(EngineFault::Broken),
             Stop::Broken => Err(EngineFault::Broken),
             Stop::Site(number) => Err(EngineFault::Site(number)),
@@ -93,6 +95,7 @@ impl<P: Run> Scheduler<P> {
     {
         match self.ledger.next(inputs) {
             Next::Quiet => Ok(Some(End::Quiet)),
+            // Something can come next: a move or an answer now, or a tick to a later time.
             Next::Work | Next::Ticks(_) => Err(EngineFault::Broken),
         }
     }
@@ -124,7 +127,7 @@ impl<P: Run> Scheduler<P> {
         ensures sound { IfErr result (λ _. Stops P.listing self.old.ledger (Stop.Refused LedgerFault.Limit) → ⊥) }
     {
         let next = self.ledger.next(inputs);
-        // The ledger refuses an entry as Limit only where there is no room, so this doesn't come up.
+        // The journal has room: this doesn't come up, since the ledger refuses an entry as Limit only where there is none.
         if self.ledger.entries() < self.ledger.limit() {
             return Err(EngineFault::Broken);
         }
@@ -132,6 +135,7 @@ impl<P: Run> Scheduler<P> {
         self.ledger.is_whole();
         match next {
             Next::Quiet => return Ok(Some(End::Quiet)),
+            // A tick, which has no room, would come next.
             Next::Ticks(_) => return Ok(Some(End::Limit)),
             // A token can move, a group can end or a call is due. Whether a rule of Orc can be used is still to be found.
             Next::Work => {}

@@ -9,7 +9,7 @@ use std::fmt;
 /// Why a program was not run to an end.
 #[derive(Clone, Copy, PartialEq, Eq, Debug)]
 pub enum EngineFault {
-    /// The limit is 0, or over the most entries that a journal may have; or there is no worker, or over the most that a run may have.
+    /// The limit of entries is 0, or over the most that a journal may have; or there is no worker, or there are more than a run may have.
     Range,
     /// Memory was refused before the run began, or for its result.
     Memory,
@@ -19,7 +19,7 @@ pub enum EngineFault {
     Site(u64),
 }
 
-// Its code, as docs/orc.md (*Faults*) lists them, and the call if it is of one.
+// Writes the fault's code, which docs/orc.md (*Faults*) lists, and for `Site` the number of the call.
 impl fmt::Display for EngineFault {
     ghost output = { λ f. Some (engine_line f) };
 

@@ -5,7 +5,7 @@
 pub(crate) struct Holding {
     // Whether what the run publishes is held back.
     is_on: bool,
-    // The slot of the token that is held back on a value.
+    // The slot of the token that was held back last, on a value; None if none was.
     last: Option<usize>,
     // Whether the sub-run can't replace its call any more.
     is_unusable: bool,
@@ -38,7 +38,7 @@ impl Holding {
         self.last = Some(slot);
     }
 
-    /// The slot of the token that is held back, if there is one.
+    /// The slot of the token that was held back last, if there is one.
     pub(crate) fn last(&self) -> Option<usize> {
         self.last
     }

@@ -15,8 +15,8 @@ use orc_ledger::{Call, Inputs, LedgerFault, Next, ReturnFault, Run, Token};
 use orc_rules::value::Answer;
 
 impl<P: Run> Scheduler<P> {
-    /// Goes on with a run in which no token is runnable: by an answer that is due, by the table, else by a tick, else by a token or an empty group
-    /// that the ledger finds. The run stops if nothing can come next.
+    /// Goes on with a run in which no token is runnable: by an answer that is due, by the table, else by a tick (logical time passes), else by a
+    /// token or an empty group that the ledger finds. The error is why the run stops: nothing can come next, say.
     pub(crate) fn rest(&mut self, inputs: &Inputs<'_, P>) -> Result<(), Stop>
         ensures advances { IfOk result (λ _. Advances self.old.ledger self.new.ledger) }
         ensures stops { IfErr result (λ stop. Stops P.listing self.new.ledger stop) }
@@ -34,8 +34,9 @@ impl<P: Run> Scheduler<P> {
         self.recover(inputs)
     }
 
-    // Finds work in the ledger: something is left, but the run queue is empty. No run is known to come here, but no contract says that each token
-    // that can move is in the queue.
+    // Finds work in the ledger: a token that can move, or an open group (of a side) without members, which is to end. Something is left, but the run
+    // queue is empty. The contract asks that no call is due, and that the ledger says that there is work: so such a token or group is found. No run
+    // is known to come here, but no contract says that each token that can move is in the queue.
     #[inline(never)]
     fn recover(&mut self, inputs: &Inputs<'_, P>) -> Result<(), Stop>
         requires due { NoneIsDue self.old.ledger }
@@ -75,6 +76,7 @@ impl<P: Run> Scheduler<P> {
         ensures fewer { IfOk result (λ answered. answered ≡ false → deque_len self.new.ready.handles ≤ deque_len self.old.ready.handles) }
         ensures stops { IfErr result (λ stop. Stops P.listing self.new.ledger stop) }
     {
+        // The due call with the least number, and its answer by the table; None if no call is due.
         let Some((call, answer)) = self.ledger.due() else {
             return Ok(false);
         };
@@ -82,7 +84,8 @@ impl<P: Run> Scheduler<P> {
         Ok(true)
     }
 
-    // Gives this call its answer, and puts the token on the answer into the run queue. The error is why the run stops.
+    // Records this answer of this pending call, and puts the token on the answer, if it is a value, into the run queue. The error is why the run
+    // stops.
     fn answer_pending(&mut self, call: Call, answer: Answer) -> Result<(), Stop>
         ensures advances { IfOk result (λ _. Advances self.old.ledger self.new.ledger) }
         ensures stops { IfErr result (λ stop. Pends self.old.ledger call.number call → IsDueNow P.listing P.sites self.old.ledger call.number answer → Stops P.listing self.new.ledger stop) }
@@ -93,8 +96,8 @@ impl<P: Run> Scheduler<P> {
         Ok(())
     }
 
-    // Gives this call its answer, and gives the slot of the token on it; None if the call halts, and its group ends if it has no members any more.
-    // The error is why the run stops.
+    // Records this answer of this pending call, and gives the slot of the token on the answer. None if the call halts; then the call's group ends if
+    // it has no members any more. The error is why the run stops.
     fn answer(&mut self, call: Call, answer: Answer) -> Result<Option<usize>, Stop>
         ensures advances { IfOk result (λ _. Advances self.old.ledger self.new.ledger) }
         ensures stops { IfErr result (λ stop. Pends self.old.ledger call.number call → IsDueNow P.listing P.sites self.old.ledger call.number answer → Stops P.listing self.new.ledger stop) }
@@ -114,8 +117,8 @@ impl<P: Run> Scheduler<P> {
         }
     }
 
-    /// Ticks to the time at which the next call is due, if no token can move and no call is due now. False if another entry comes next. The run stops
-    /// if nothing can come next.
+    /// Ticks to the time at which the next call is due, if no token can move and no call is due now. False, with the ledger unchanged, if another
+    /// entry comes next. The error is why the run stops: if nothing can come next it is Halted or Quiet.
     pub(crate) fn pass_time(&mut self, inputs: &Inputs<'_, P>) -> Result<bool, Stop>
         ensures advances { IfOk result (λ passed. passed ≡ true → Advances self.old.ledger self.new.ledger) }
         ensures work { IfOk result (λ passed. passed ≡ false → (self.new.ledger ≡ self.old.ledger) × IsAtWork P.listing self.old.ledger) }
@@ -133,7 +136,9 @@ impl<P: Run> Scheduler<P> {
                 Err(fault) => Err(Stop::Refused(fault)),
             },
             Next::Quiet => Err(Stop::Quiet),
+            // The ledger says Work, too, where nothing is left of the program: the run has halted.
             Next::Work if self.ledger.has_halted() => Err(Stop::Halted),
+            // A token can move, a group can end, or a call is due.
             Next::Work => Ok(false),
         }
     }

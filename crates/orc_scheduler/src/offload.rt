@@ -40,14 +40,14 @@ const STRIDE: usize = 16;
 const ORDER: [usize; STRIDE] = [0, 8, 4, 12, 2, 10, 6, 14, 1, 9, 5, 13, 3, 11, 7, 15];
 
 impl<P: Run> Scheduler<P> {
-    /// How many more entries the limit allows.
+    /// How many more entries the run's limit allows, cancels not counted.
     pub fn room(&self) -> usize {
         self.ledger.limit().saturating_sub(self.ledger.entries())
     }
 
     /// Moves tokens on to their next calls of definitions, until `wanted` tokens are runnable or `EACH` entries were written for each of these.
     /// Tokens with the fewest moves go first: then the calls of a tree at which tokens stand are about equally deep, and have runs of about the same
-    /// length. The error is why the run stops.
+    /// length. The run is further then, or unchanged with a run queue that isn't longer (`HasSpread`). The error is why the run stops.
     pub fn spread(&mut self, inputs: &Inputs<'_, P>, wanted: usize) -> Result<(), Stop>
         ensures spread { IfOk result (λ _. HasSpread self.old.ledger (deque_len self.old.ready.handles) self.new.ledger (deque_len self.new.ready.handles)) }
         ensures stops { IfErr result (λ stop. Stops P.listing self.new.ledger stop) }
@@ -55,6 +55,7 @@ impl<P: Run> Scheduler<P> {
         // The number of entries after which spreading ends.
         let last = self.entries().saturating_add(wanted.saturating_mul(EACH));
         for _round in 0..ROUNDS {
+            // How many tokens are in the run queue.
             let ready = self.ready();
             if ready == 0 || ready >= wanted || self.entries() > last {
                 break;
@@ -89,7 +90,8 @@ impl<P: Run> Scheduler<P> {
         Ok(())
     }
 
-    // Whether the token that has waited longest is to stay: it stands at a call of a definition, and over `moves` moves have led to it.
+    // Whether the token that has waited longest is to stay where it is: it stands at a call of a definition, and over `moves` moves have led to it.
+    // False if the queue is empty or the token is gone.
     fn is_oldest_settled(&self, graph: &Graph, moves: u32) -> bool {
         let Some(handle) = self.ready.oldest() else {
             return false;
@@ -144,26 +146,28 @@ impl<P: Run> Scheduler<P> {
         if jobs.len() >= MOST_JOBS {
             return Ok(());
         }
+        // None doesn't come: the callers' places are in the queue.
         let Some(handle) = self.ready.get(at) else {
             return Ok(());
         };
+        // None: the token is gone, or stands at no call of the wanted kind.
         if let Some(task) = self.task_of(inputs, handle, races) {
             jobs.push(SubRunJob::new(handle, task, races))?;
         }
         Ok(())
     }
 
-    // The call at which a token stands. None if the token is gone, stands elsewhere or at a call without values, or if the call races others and
-    // `races` says no, or the other way round.
+    // The call of a definition at which the token of a handle stands. None if the token is gone, stands elsewhere, or at a call of which an argument
+    // has no value. None also if the call races others and `races` is false, or the other way round.
     fn task_of(&self, inputs: &Inputs<'_, P>, handle: Handle, races: bool) -> Option<SubRunTask> {
         let token = self.token_of(handle)?;
         let task = self.ledger.task(inputs, &token)?;
-        // What an outermost call publishes the run publishes: it ends no other call.
+        // What an outermost call publishes the run publishes, so that its value ends no other call. Any other call races the members of its side.
         let is_racing = !task.is_outermost && !self.is_alone(&token);
         if is_racing == races { Some(task) } else { None }
     }
 
-    // Whether nobody else is in the token's side, or it is in none.
+    // Whether nobody else is in the token's side, or the token is in none. The group of a side counts its members; group 0 is the program's own.
     fn is_alone(&self, token: &Token) -> bool {
         let group = self.ledger.group_of_token(token);
         group == 0 || self.ledger.member_count(group) == 1
@@ -183,13 +187,14 @@ impl<P: Run> Scheduler<P> {
         ensures spread { IfOk result (λ _. HasSpread self.old.ledger (deque_len self.old.ready.handles) self.new.ledger (deque_len self.new.ready.handles)) }
         ensures stops { IfErr result (λ stop. Stops P.listing self.new.ledger stop) }
     {
+        // None: the token is gone; or, below, it doesn't stand at a call whose arguments have values.
         let Some(token) = self.token_of(handle) else {
             return Ok(false);
         };
         let Some(task) = self.ledger.task(inputs, &token) else {
             return Ok(false);
         };
-        // Noted before the token may be gone.
+        // The number of the token's group, noted before the token may be gone.
         let group = self.ledger.group_of_token(&token);
         // The result is that of another call, the limit has no room for its entries, or memory was refused.
         if !part.is_of(&task)

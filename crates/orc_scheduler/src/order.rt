@@ -25,7 +25,7 @@ const UNSEEN: u32 = 64;
 /// Musuvathi and Nagarakatte (2010), who show that few changes of priorities find most bugs that depend on an order.
 #[derive(Drop)]
 pub(crate) struct Order {
-    // The generator, whose seed is the order's number.
+    // The generator of pseudo-random numbers, whose seed is the order's number.
     numbers: SplitMix64,
     // The pseudo-random number that was drawn last, of 64 bits; 0 before the first draw.
     last: u64,
@@ -55,7 +55,7 @@ impl Order {
         }
     }
 
-    /// Draws a place from 0 up to `count`, that one left out; 0 if `count` is 0.
+    /// Draws a place among `count` candidates, from 0 to `count` - 1; 0 if `count` is 0.
     pub(crate) fn draw(&mut self, count: usize) -> usize
         ensures { 0 < count → result < count }
     {
@@ -65,12 +65,13 @@ impl Order {
         (self.last % most) as usize
     }
 
-    /// How many rivals are drawn for this turn: none in an even order. In one turn of sixteen it also changes the ranks.
+    /// How many rivals are drawn for this turn, beside the first candidate: none in an even order. In one turn of sixteen the call also changes all
+    /// ranks.
     pub(crate) fn rivals(&mut self) -> u32 {
         if !self.is_ranked {
             return 0;
         }
-        // High bits choose the one turn in sixteen, since the low ones have chosen the place.
+        // High bits of the last number choose the one turn in sixteen, since its low bits have chosen the place.
         if (self.last >> 32) % 16 == 0 {
             self.ranks = self.last;
         }
@@ -94,13 +95,13 @@ impl Order {
         }
     }
 
-    // A pseudo-random number that depends on the name and on `ranks` alone.
+    // The rank of what has this name, a number for a node, a slot or a call: a pseudo-random number that depends on the name and on `ranks` alone.
     fn rank_of(&self, name: u64) -> u64 {
         SplitMix64::seed_from_u64(self.ranks ^ name).next_u64()
     }
 
-    /// Whether the newest of `count` tokens goes on without a draw: it isn't settled. After `UNSEEN` such turns in a row one is drawn all the same,
-    /// so that a token whose steps nobody ever sees doesn't starve the others.
+    /// Whether the newest of the `count` tokens in the run queue goes on without a draw: it does if nobody outside sees its next move. After `UNSEEN`
+    /// such turns in a row one is drawn all the same, so that a token whose moves nobody ever sees doesn't starve the others.
     pub(crate) fn goes_unseen(&mut self, count: usize) -> bool {
         if self.settled < count && self.unseen < UNSEEN {
             self.unseen += 1;

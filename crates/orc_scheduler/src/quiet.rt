@@ -27,11 +27,13 @@ pub(crate) fn is_quiet_at(
         return None;
     };
     for at in 0..journal.len() {
+        // None doesn't come: `at` is below the journal's length.
         let Some(entry) = journal.get(at) else {
             return None;
         };
         match marked.step(program, answers, &entry) {
             Ok(()) => {}
+            // The marked term refuses the entry, or memory was refused.
             Err(_) => return None,
         }
     }

@@ -31,7 +31,7 @@ pub(crate) const MOVES: u32 = 64;
 pub struct Ready {
     /// The one that has waited longest is first. A handle may be of a token that is gone.
     pub handles: VecDeque<Handle>,
-    // How many turns there were.
+    // How many turns there were; none is counted in a run with an order.
     turns: u64,
     // Says whose turn it is in a run with an order (`--order`); None in others.
     order: Option<Order>,
@@ -46,8 +46,8 @@ pub(crate) enum Drawn {
     Call(u64),
 }
 
-// The rank of the token or call at this place of a draw, by which an odd order compares candidates. Places count from 0, the tokens of the queue
-// first, then the calls that are due.
+// The rank of the token or call at the place `at` of a draw, by which an odd order (`--order`) compares candidates. Places count from 0: first come
+// the tokens of the queue `handles`, then the calls that are due.
 fn rank_at<P: Run>(
     handles: &VecDeque<Handle>,
     ledger: &Ledger<P>,
@@ -75,7 +75,7 @@ impl Ready {
         }
     }
 
-    /// Turns come in that order from now on.
+    /// Turns come in this order from now on. The queue stays as it is.
     pub(crate) fn follow(&mut self, order: Order)
         ensures { self.new.handles ≡ self.old.handles }
     {
@@ -118,12 +118,12 @@ impl Ready {
         let _gone = self.handles.pop_front();
     }
 
-    /// Whether a round has ended, and no turn of the next one has begun. So it is before the first turn, too.
+    /// Whether a round of 64 turns has ended, and no turn of the next one has begun. So it is before the first turn, too.
     pub(crate) fn is_round_over(&self) -> bool {
         self.turns % ROUND == 0
     }
 
-    /// The token in that place, from 0 for the one that has waited longest; None if the queue is shorter.
+    /// The token at the place `at` of the queue, from 0 for the one that has waited longest; None if the queue is shorter.
     pub(crate) fn get(&self, at: usize) -> Option<Handle> {
         self.handles.get(at).copied()
     }
@@ -145,7 +145,7 @@ impl Ready {
     }
 
     /// Takes a token out of the queue: the newest one, but once a round, and always if the tokens spread, the one that has waited longest. None if
-    /// the queue is empty; that counts as a turn, too.
+    /// the queue is empty; that counts as a turn, too. The contract says that the queue is shorter by one if a token was taken.
     #[inline(always)]
     pub(crate) fn take(&mut self, spreads: bool) -> Option<Handle>
         ensures { MatchOption result (deque_len self.new.handles ≤ deque_len self.old.handles) (λ _. deque_len self.new.handles + 1 ≡ deque_len self.old.handles) }
@@ -159,13 +159,13 @@ impl Ready {
         }
     }
 
-    /// Whether an order says whose turn it is.
+    /// Whether an order (`--order`) says whose turn it is.
     #[inline(always)]
     pub(crate) fn is_ordered(&self) -> bool {
         self.order.is_some()
     }
 
-    /// How many calls came due and weren't drawn yet; 0 if there is no order.
+    /// How many calls came due and weren't drawn for a turn yet; 0 if there is no order, since only an order draws calls.
     pub(crate) fn call_count(&self) -> usize {
         match &self.order {
             Some(order) => order.calls.len(),
@@ -183,8 +183,8 @@ impl Ready {
         }
     }
 
-    /// The token that came last, if there is an order and it isn't known yet whether somebody outside sees its next step. None if all are settled,
-    /// too.
+    /// The token that came last, if there is an order and the token isn't *settled*: known to have a next move that somebody outside sees. None if
+    /// all are settled, too.
     pub(crate) fn newest_unsettled(&self) -> Option<Handle> {
         let Some(order) = &self.order else {
             return None;
@@ -196,7 +196,8 @@ impl Ready {
         }
     }
 
-    /// Notes that somebody outside sees the next step of the token that came last: it goes to the settled ones, which are first.
+    /// Notes that somebody outside sees the next move of the token that came last: it goes to the settled ones, which are first in the queue. Nothing
+    /// happens if there is no order, or all are settled.
     pub(crate) fn settle_newest(&mut self)
         ensures { deque_len self.new.handles ≡ deque_len self.old.handles }
     {
@@ -220,7 +221,8 @@ impl Ready {
             return None;
         };
         let tokens = self.handles.len();
-        // A token that isn't settled needs no draw, and the newest one goes.
+        // While a token isn't settled (known to have a next move that somebody outside sees), the newest one goes without a draw, 64 times in a row
+        // at most.
         if order.goes_unseen(tokens) {
             return match self.handles.pop_back() {
                 Some(handle) => Some(Drawn::Token(handle)),

@@ -55,7 +55,7 @@ pub enum Stop {
     Site(u64),
 }
 
-/// Whether a token stands at a call of a definition.
+/// Whether a token stands at a call of a definition. One on a value (`On`) stands at no node of the program.
 #[inline(always)]
 pub(crate) fn is_at_call(graph: &Graph, token: &Token) -> bool {
     match token.standing {
@@ -64,14 +64,14 @@ pub(crate) fn is_at_call(graph: &Graph, token: &Token) -> bool {
     }
 }
 
-/// How a token goes on after a move.
+/// How a token, which a slot of the ledger holds, goes on after a move.
 #[derive(Clone, Copy)]
 pub(crate) enum Step {
-    /// In this slot.
+    /// It moves on, in this slot.
     On(usize),
-    /// It is gone.
+    /// The token is gone.
     Done,
-    /// It stays in its slot until one of the cells for which it waits is bound or lost. It is in no queue then.
+    /// The token stays in its slot until one of the cells for which it waits is bound or lost. It is in no queue then.
     Waits,
 }
 
@@ -88,11 +88,12 @@ pub struct Scheduler<P: Run> {
     waiting: Waiting,
     // Whether one move may take a token into a `>x>` and on through it, by `feed_through`. Not so in a run with an order.
     goes_through: bool,
-    // Whether tokens spread: a turn ends at the next call of a definition, and the token that has waited longest goes first.
+    // Whether tokens *spread*, before calls are shared out to other threads: a turn ends at the next call of a definition, and the token that has
+    // waited longest goes first.
     pub(crate) spreads: bool,
     // How many moves, one after another, have led to the token whose turn it is.
     moves: u32,
-    // What this run holds back of its output if it is a sub-run.
+    // What this run holds back of its output if it is a sub-run: the run of one call of a definition, apart from the run that makes the call.
     pub(crate) holding: Holding,
     // Four lists that the ledger's calls fill: new scopes of a definition's parameters, numbers of cancelled calls, cells for which a token waits,
     // and arguments of a call of a site. What an earlier call left there is never read; they stay here so that their memory is used again.
@@ -199,8 +200,8 @@ impl<P: Run> Scheduler<P> {
         self.join(0, 1)
     }
 
-    // Puts the token with this serial, which is in this slot, into the run queue as the newest. `self.moves` moves have led to it. The error is
-    // refused memory.
+    // Puts the token with this serial (its mark, from 1), which is in this slot, into the run queue as the newest. `self.moves` moves have led to it.
+    // The error is refused memory.
     fn join(&mut self, slot: usize, serial: u64) -> Result<(), Stop>
         ensures same { self.new.ledger ≡ self.old.ledger }
         ensures memory { IfErr result (λ stop. stop ≡ Stop.Refused LedgerFault.Memory) }
@@ -216,7 +217,8 @@ impl<P: Run> Scheduler<P> {
     }
 
     /// Gives a token its turn or, if no token is runnable, does what else comes next. Each time the run is nearer its end: it has more entries, or as
-    /// many and fewer open groups, or as many of both and a shorter run queue. The error is why the run stops.
+    /// many and fewer open groups, or as many of both and a shorter run queue (`IsNearer`). So a loop of these calls ends. The error is why the run
+    /// stops.
     pub fn go(&mut self, inputs: &Inputs<'_, P>) -> Result<(), Stop>
         ensures nearer { IfOk result (λ _. IsNearer self.old.ledger (deque_len self.old.ready.handles) self.new.ledger (deque_len self.new.ready.handles)) }
         ensures within { self.new.ledger.entries ≤ self.new.ledger.limit }
@@ -234,7 +236,8 @@ impl<P: Run> Scheduler<P> {
         went
     }
 
-    /// Gives a token its turn or, between two rounds, answers a call that is due. False if it finds neither; it never lets time pass.
+    /// Gives a token its turn or, between two rounds of 64 turns, answers a call that is due. False if it finds neither; it never lets time pass. If
+    /// true the run is nearer its end (`IsNearer`), so no loop of these calls is endless. The error is why the run stops.
     pub(crate) fn go_now(&mut self, inputs: &Inputs<'_, P>) -> Result<bool, Stop>
         ensures nearer { IfOk result (λ went. went ≡ true → IsNearer self.old.ledger (deque_len self.old.ready.handles) self.new.ledger (deque_len self.new.ready.handles)) }
         ensures within { self.new.ledger.entries ≤ self.new.ledger.limit }
@@ -252,7 +255,8 @@ impl<P: Run> Scheduler<P> {
     }
 
     /// Gives a token its turn: it moves until it is gone, waits, or has made its moves. Between two rounds of 64 turns it answers a call that is due
-    /// instead, which tokens that move on and on would starve otherwise. The error is why the run stops.
+    /// instead, which tokens that move on and on would starve otherwise. `Rests` if no token is runnable: then the ledger hasn't changed, and
+    /// the run queue isn't longer. After `Went` the run is nearer its end. The error is why the run stops.
     pub(crate) fn turn(&mut self, inputs: &Inputs<'_, P>) -> Result<Turn, Stop>
         ensures turned { IfOk result (λ turn. HasTurned self.old.ledger (deque_len self.old.ready.handles) self.new.ledger (deque_len self.new.ready.handles) turn) }
         ensures stops { IfErr result (λ stop. Stops P.listing self.new.ledger stop) }
@@ -267,6 +271,7 @@ impl<P: Run> Scheduler<P> {
                 return Ok(Turn::Went);
             }
         }
+        // None: the run queue is empty.
         let Some(handle) = self.ready.take(self.spreads) else {
             return Ok(Turn::Rests);
         };
@@ -274,13 +279,14 @@ impl<P: Run> Scheduler<P> {
         Ok(Turn::Went)
     }
 
-    /// Moves the token of a handle that was taken from the run queue, until it is gone, waits, is held back, or its turn is over. In the last case it
-    /// goes back into the queue. The error is why the run stops.
+    /// Moves the token of a handle that was taken from the run queue, until it is gone, waits, is held back on a value that a sub-run doesn't publish
+    /// itself, or its turn is over, after `MOVES` moves at the latest. In the last case it goes back into the queue. The contract says that the run
+    /// is nearer its end than before the handle was taken from the queue: hence the 1. The error is why the run stops.
     pub(crate) fn move_on(&mut self, inputs: &Inputs<'_, P>, handle: Handle) -> Result<(), Stop>
         ensures nearer { IfOk result (λ _. IsNearer self.old.ledger (deque_len self.old.ready.handles + 1) self.new.ledger (deque_len self.new.ready.handles)) }
         ensures stops { IfErr result (λ stop. Stops P.listing self.new.ledger stop) }
     {
-        // A bind has dropped the token while its handle was in the queue.
+        // None: a bind has dropped the token while its handle was in the queue.
         let Some(mut token) = self.token_of(handle) else {
             return Ok(());
         };
@@ -293,7 +299,8 @@ impl<P: Run> Scheduler<P> {
                 break;
             }
             if self.is_held_back(inputs, &token) {
-                // The token stays on its value, in no queue. Only one that nothing encloses (step 0 is the whole program) can be merged so.
+                // The token stays on its value, in no queue. If it is inside nothing (step 0 is the whole program), the value is the call's. One
+                // inside the left side of a `;` can't be merged, and the sub-run is of no use.
                 if token.step == 0 {
                     self.holding.keep(slot);
                 } else {
@@ -315,8 +322,8 @@ impl<P: Run> Scheduler<P> {
         self.join(slot, token.serial)
     }
 
-    // Whether the turn of a token that has moved ends here: at a call of a definition if tokens spread, and in an order before a step that somebody
-    // outside sees.
+    // Whether the turn of a token that has moved ends here: at a call of a definition if tokens spread, and in a run with an order (`--order`) before
+    // a move that somebody outside sees: a publication, a bind, or a call that a script answers.
     #[inline(always)]
     fn is_turn_over(&self, inputs: &Inputs<'_, P>, token: &Token) -> bool {
         if self.spreads {
@@ -326,7 +333,7 @@ impl<P: Run> Scheduler<P> {
         }
     }
 
-    // Whether the token would publish a value of the run next, and such values are held back.
+    // Whether the token's next move is a publication, and this run holds these back: a sub-run does whose call something encloses.
     #[inline(always)]
     fn is_held_back(&self, inputs: &Inputs<'_, P>, token: &Token) -> bool {
         self.holding.is_on() && matches!(self.ledger.what(inputs, token), Action::Publish(_))
@@ -386,8 +393,9 @@ impl<P: Run> Scheduler<P> {
         self.join_held(slot)
     }
 
-    /// One move of the token in this slot, and all that follows from it: tokens that it wakes or adds are put into the run queue, groups that it
-    /// leaves without members end. The answer says how the token goes on, the error why the run stops.
+    /// One move of the token in this slot, and all that follows from it: tokens that the move wakes or adds are put into the run queue, groups (what
+    /// runs in one side) that it leaves without members end. The answer says how the token goes on. After `Waits` the records are the same as before;
+    /// after any other answer the run is further (`Advances`): it has more entries, or as many and fewer open groups. The error is why the run stops.
     #[inline(always)]
     pub(crate) fn step(
         &mut self,
@@ -414,8 +422,9 @@ impl<P: Run> Scheduler<P> {
         self.pass_on(inputs, slot, token)
     }
 
-    // One move of the token in this slot, of any kind, and all that follows from it: tokens that it wakes or adds are put into the run queue, groups
-    // that it leaves without members end. The answer says how the token goes on, the error why the run stops.
+    // One move of the token in this slot, of any kind, and all that follows from it: tokens that the move wakes or adds are put into the run queue,
+    // groups (what runs in one side) that it leaves without members end. The answer says how the token goes on. After `Waits` the records are the
+    // same as before; after any other answer the run is further (`Advances`). The error is why the run stops.
     #[inline(always)]
     fn pass_on(&mut self, inputs: &Inputs<'_, P>, slot: usize, token: Token) -> Result<Step, Stop>
         requires held { IsHeld self.old.ledger.slots slot token }
@@ -426,10 +435,11 @@ impl<P: Run> Scheduler<P> {
         // A law, for the clause *waits*: in a program that the scope check accepted each call of a definition has its arguments. Nothing runs.
         calls_fit(&self.ledger);
         match self.pass(inputs, slot, token) {
+            // The token has moved, and is in its slot still.
             Ok(Moved::On) => Ok(Step::On(slot)),
             // The token has become two, and `right` is the slot of the second one.
             Ok(Moved::Forked(right)) => self.part(slot, right),
-            // In this arm and the two below, the group may have no member any more, and ends then.
+            // In this arm and the two below, `group` is the group that the move may have left without a member: it ends then.
             Ok(Moved::Sent(group)) => {
                 self.close(group)?;
                 Ok(Step::On(slot))
@@ -443,6 +453,7 @@ impl<P: Run> Scheduler<P> {
                 self.close(group)?;
                 Ok(Step::Done)
             }
+            // The token is at a call of a site whose arguments have values, and hasn't moved yet.
             Ok(Moved::Calls) => self.call(inputs, slot, token),
             // The token stays in its slot, and is entered for each cell that it needs.
             Ok(Moved::Waits) => {
@@ -561,7 +572,7 @@ impl<P: Run> Scheduler<P> {
                 }
             }
             Node::Stop => {
-                // Noted before the token is gone.
+                // The number of the token's group, noted before the token is gone.
                 let group = self.ledger.group_of(token.step);
                 match self.ledger.end(slot, token) {
                     Ok(()) => {
@@ -574,13 +585,14 @@ impl<P: Run> Scheduler<P> {
                     }
                 }
             }
-            // `pass_on` moves the token.
+            // Any other node: None has the caller move the token by `pass_on`.
             _ => Ok(None),
         }
     }
 
-    // Lets the ledger move a token once. The caller does the rest: it fills the run queue, wakes tokens and closes groups. `self.scopes` and
-    // `self.cancelled` are lent to the ledger, which writes there the scopes of a definition's parameters and the calls that a bind cancels.
+    // Lets the ledger move the token in this slot once; the answer says what the move was. The caller does the rest: it fills the run queue, wakes
+    // tokens and closes groups. `self.scopes` and `self.cancelled` are lent to the ledger, which writes there the scopes of a definition's parameters
+    // and the calls that a bind cancels. The error is why the token can't move; nothing has changed then.
     #[inline(always)]
     fn pass(
         &mut self,
@@ -604,8 +616,8 @@ impl<P: Run> Scheduler<P> {
             .advance(inputs, slot, token, &mut self.scopes, &mut self.cancelled)
     }
 
-    // The tokens of a pruning's two sides stand in these slots. The right one goes on, so that its group may be gone before the left side opens more;
-    // the left one goes into the run queue. The error is refused memory.
+    // A token has become two, in these slots: those of the two sides of a `<x<` or a `|`. The right one goes on, so that the group of a `<x<`'s right
+    // side may be gone before the left side opens more; the left one goes into the run queue. The error is refused memory.
     #[inline(always)]
     fn part(&mut self, left: usize, right: usize) -> Result<Step, Stop>
         ensures same { self.new.ledger ≡ self.old.ledger }
@@ -616,8 +628,9 @@ impl<P: Run> Scheduler<P> {
         Ok(Step::On(right))
     }
 
-    // Makes the call of a site at which the token in this slot is. Where the table answers it at once, the token on its answer goes on; but in an
-    // order a script's answer has a turn of its own. The error is why the run stops.
+    // Makes the call of a site at which the token in this slot is. The contract asks that the token can do that: all arguments have values. Where the
+    // table answers the call at once, the token on the answer goes on; but in an order a script's answer has a turn of its own. The error is why the
+    // run stops.
     #[inline(always)]
     fn call(&mut self, inputs: &Inputs<'_, P>, slot: usize, token: Token) -> Result<Step, Stop>
         requires held { IsHeld self.old.ledger.slots slot token }
@@ -642,13 +655,15 @@ impl<P: Run> Scheduler<P> {
         }
     }
 
-    // How the token in a slot goes on after its call of a site. The error is why the run stops.
+    // How the token in a slot goes on after its call of a site, of which `called` says what came. The run is as far as before then, or further
+    // (`Goes`), as the group of a call that halted may end. The error is why the run stops.
     #[inline(always)]
     fn after_call(&mut self, slot: usize, called: Called) -> Result<Step, Stop>
         ensures goes { IfOk result (λ step. Goes self.old.ledger self.new.ledger × (step ≡ Step.Waits → ⊥)) }
         ensures stops { IfErr result (λ stop. Stops P.listing self.new.ledger stop) }
     {
         match called {
+            // The token is on the answer, in the same slot.
             Called::Answered(_) => Ok(Step::On(slot)),
             // The call halted at once, and the token is gone. Its group ends if nothing is left in it.
             Called::Halted(group) => {
@@ -694,7 +709,7 @@ impl<P: Run> Scheduler<P> {
         Ok(())
     }
 
-    // Puts the tokens that wait for this cell into the run queue. The error is refused memory.
+    // Puts the tokens that wait for the cell with this number, which was bound or lost, into the run queue. The error is refused memory.
     fn wake(&mut self, cell: u64) -> Result<(), Stop>
         ensures same { self.new.ledger ≡ self.old.ledger }
         ensures memory { IfErr result (λ stop. stop ≡ Stop.Refused LedgerFault.Memory) }
@@ -705,8 +720,8 @@ impl<P: Run> Scheduler<P> {
         }
     }
 
-    /// The group with this number ends if it has no members any more, and then so does each that encloses it, if it has none either. The program's
-    /// own, group 0, is left to the run's end. The error is why the run stops.
+    /// The group with this number ends if it has no members (tokens, pending calls and inner groups) any more, and then so does each that encloses
+    /// it, if it has none either. The program's own, group 0, is left to the run's end. The error is why the run stops.
     #[inline(always)]
     pub(crate) fn close(&mut self, group: u32) -> Result<(), Stop>
         ensures goes { IfOk result (λ _. Goes self.old.ledger self.new.ledger) }
@@ -718,8 +733,8 @@ impl<P: Run> Scheduler<P> {
         self.close_from(group)
     }
 
-    /// The group with this number ends if it is open and has no members, and then so does each that encloses it, if it has none either. The error is
-    /// why the run stops.
+    /// The group with this number ends if it is open and has no members (tokens, pending calls and inner groups), and then so does each that encloses
+    /// it, if it has none either. If it ends, the run is further (`Advances`). The error is why the run stops.
     #[inline(never)]
     pub(crate) fn close_from(&mut self, group: u32) -> Result<(), Stop>
         ensures goes { IfOk result (λ _. Goes self.old.ledger self.new.ledger) }
@@ -741,7 +756,7 @@ impl<P: Run> Scheduler<P> {
                 }
                 // The program's own group isn't open.
                 Err(HaltFault::Gone) => return Ok(()),
-                // `is_empty` has said that it has no members.
+                // The fault that the group has members: it doesn't come, since `is_empty` has said above that it has none.
                 Err(HaltFault::Live) => unreachable!(),
             };
             match halted {
@@ -764,7 +779,7 @@ impl<P: Run> Scheduler<P> {
         self.ready.len()
     }
 
-    /// How many entries there are, cancels not counted.
+    /// How many entries the run has written, cancels not counted.
     pub fn entries(&self) -> usize {
         self.ledger.entries()
     }

@@ -16,7 +16,7 @@ struct Sizes {
     fed: usize,
 }
 
-// 1 where the entry brings a token more.
+// 1 where the entry brings a token more: a fork, an opened `<x<`, or a right side of a `;` that starts; else 0.
 fn brings(entry: &Entry) -> usize
     ensures brings { result ≡ brings entry.now }
     ensures one { result ≤ 1 }
@@ -27,7 +27,7 @@ fn brings(entry: &Entry) -> usize
     }
 }
 
-// 1 where the entry opens a side.
+// 1 where the entry opens a side (the right one of a `<x<`, or the left one of a `;`), which makes a group; else 0.
 fn opens(entry: &Entry) -> usize
     ensures opens { result ≡ opens entry.now }
     ensures one { result ≤ 1 }
@@ -38,7 +38,7 @@ fn opens(entry: &Entry) -> usize
     }
 }
 
-// 1 where the entry enters the left side of a `>x>`.
+// 1 where the entry enters the left side of a `>x>`, which makes a frame around the token; else 0.
 fn feeds(entry: &Entry) -> usize
     ensures feeds { result ≡ feeds entry.now }
     ensures one { result ≤ 1 }
@@ -49,7 +49,7 @@ fn feeds(entry: &Entry) -> usize
     }
 }
 
-// Counts a journal's entries.
+// Counts the entries of a journal that bring a token, open a side, and enter the left side of a `>x>`.
 fn sizes_of(journal: &Journal) -> Sizes
     ensures brought { result.brought ≡ total brings journal.now.entries }
     ensures opened { result.opened ≡ total opens journal.now.entries }

@@ -29,7 +29,7 @@ pub enum SubRunResult<P: Run> {
 /// A call at which a token stands, and the result of its sub-run.
 #[derive(Drop)]
 pub struct SubRunJob<P: Run> {
-    // The token that stands at the call.
+    // The handle of the token that stands at the call; the token may be gone by now.
     handle: Handle,
     // The call: the definition's number and the arguments.
     task: SubRunTask,
@@ -41,7 +41,7 @@ pub struct SubRunJob<P: Run> {
 }
 
 impl<P: Run> SubRunJob<P> {
-    /// A job that nobody has done.
+    /// A job that nobody has done: the call `task`, at which the token of `handle` stands. `races` says whether the token's side had other members.
     pub(crate) fn new(handle: Handle, task: SubRunTask, races: bool) -> SubRunJob<P> {
         SubRunJob {
             handle,
@@ -51,7 +51,7 @@ impl<P: Run> SubRunJob<P> {
         }
     }
 
-    /// The token that stands at the call.
+    /// The handle of the token that stands at the call, or stood there, if it is gone by now.
     pub fn handle(&self) -> Handle {
         self.handle
     }
@@ -67,7 +67,9 @@ impl<P: Run> SubRunJob<P> {
         self.races
             && match &self.came {
                 SubRunResult::Over(part) => part.has_value(),
+                // It was cut at its limit of entries, so no value came of it.
                 SubRunResult::Long => false,
+                // Nobody knows, so those behind the call may be in vain.
                 SubRunResult::Nothing => true,
             }
     }
@@ -77,7 +79,8 @@ impl<P: Run> SubRunJob<P> {
         mem::replace(&mut self.came, SubRunResult::Nothing)
     }
 
-    /// Runs it apart, with at most `limit` entries (1 to `MOST_ENTRIES`); `keeps` says whether its journal is kept, as that of the run is.
+    /// Runs the call apart, with at most `limit` entries (1 to `MOST_ENTRIES`), and notes the result for `came`; `keeps` says whether the sub-run's
+    /// journal is kept, as that of the run is.
     pub fn run(&mut self, alloc: Global, inputs: &Inputs<'_, P>, keeps: bool, limit: usize)
         requires keeps { keeps ≡ P.keeps }
         requires limit { (1 ≤ limit) × (limit ≤ MOST_ENTRIES) }
@@ -87,7 +90,7 @@ impl<P: Run> SubRunJob<P> {
 }
 
 // Makes the sub-run of a task: its program is the call alone, with the definitions of the run's program. It has at most `limit` entries, and `keeps`
-// says whether its journal is kept. Nothing if memory is refused, too.
+// says whether its journal is kept. `Nothing` if it can't replace the call in the run, or memory is refused.
 fn came_of<P: Run>(
     alloc: Global,
     inputs: &Inputs<'_, P>,
@@ -109,7 +112,8 @@ fn came_of<P: Run>(
 }
 
 // Makes the sub-run over its graph, and says what came of it, as `SubRunResult` does. The type Q names the sub-run, whose program is `graph`, and P
-// the run to which it belongs.
+// the run to which it belongs. The clauses ask that both have the same sites and definitions, and keep their journals or don't, and that the program
+// of the sub-run is the task's call.
 fn run_apart<Q: Run, P: Run>(
     alloc: Global,
     graph: &Graph,
@@ -151,7 +155,7 @@ fn run_apart<Q: Run, P: Run>(
     }
 }
 
-// Gives turns until no token is runnable, the sub-run stops, or it can't replace its call any more. Says whether its limit has stopped it.
+// Gives turns until no token is runnable, the sub-run stops, or it can't replace its call any more. True if its limit of entries has stopped it.
 fn run_until_cut<Q: Run>(scheduler: &mut Scheduler<Q>, inputs: &Inputs<'_, Q>) -> bool {
     // Memory was refused. The sub-run's first token is left then, so that its ledger gives no result.
     if scheduler.begin().is_err() {

@@ -12,7 +12,7 @@ use orc_outcome::{End, Played, Summary};
 use orc_rules::value::Value;
 use std::alloc::{AllocError, Global};
 
-// What the run has published, in order, and its journal where it `keeps` one. The error is refused memory.
+// What the run of this ledger has published, in order, and the run's journal where it `keeps` one. The error is refused memory.
 fn kept<P: Run>(
     alloc: Global,
     ledger: Ledger<P>,
@@ -31,7 +31,7 @@ fn kept<P: Run>(
     Ok((values, Some(journal)))
 }
 
-/// The result of a run that has ended so, with its journal if it `keeps` one. The error is refused memory.
+/// The result of a run that has ended as `end` says, with its journal if it `keeps` one. The error is refused memory.
 pub(crate) fn played<P: Run>(
     alloc: Global,
     ledger: Ledger<P>,
@@ -44,7 +44,7 @@ pub(crate) fn played<P: Run>(
     ensures played { IfOk result (λ p. IsPlayed P.listing inputs.now.answers.now P.limit p.summary p.published.items p.journal) }
     ensures kept { IfOk result (λ p. P.keeps ≡ true → is_some p.journal ≡ true) }
 {
-    // Read here, since the ledger is used up below.
+    // The logical time of the end, read here, since the ledger is used up below.
     let now = ledger.time();
     // Two laws: they show the prover what the journal is and that its limit is the run's, for the clause *played*. Nothing runs.
     ledger.is_whole();

@@ -3,7 +3,7 @@
 use crate::ready::{Handle, Ready};
 use std::alloc::{AllocError, Global};
 
-// A token that waits for a cell, and the place of the next one that does. Places count from 1 in `links`; 0 is none.
+// A token that waits for a cell, and the place of the next link in the cell's chain. Places count from 1 in `links`; 0 is none.
 #[derive(Clone, Copy)]
 struct Link {
     handle: Handle,
@@ -41,7 +41,7 @@ impl Waiting {
         }
     }
 
-    // The link with this place; None for place 0, or one past the links.
+    // The link at this place, from 1; None for place 0, or one past the links.
     fn link_at(&self, place: u32) -> Option<Link> {
         if place == 0 {
             return None;
@@ -49,9 +49,10 @@ impl Waiting {
         self.links.get((place - 1) as usize).copied()
     }
 
-    // Stores a link in a free place, else behind the others, and gives its place. Refuses if a new place needs more than 32 bits, or memory is
-    // refused.
+    // Stores a link in a free place, else behind the others, and gives its place, from 1. The error is refused memory, or that a new place needs more
+    // than 32 bits.
     fn put(&mut self, link: Link) -> Result<u32, AllocError> {
+        // None if no place is free: `free` is 0 then.
         let place = self.free;
         if let Some(free) = self.link_at(place) {
             self.free = free.next;
@@ -73,6 +74,7 @@ impl Waiting {
     /// bits.
     pub(crate) fn add(&mut self, cell: u64, handle: Handle) -> Result<(), AllocError> {
         let cell = cell as usize;
+        // Cells without a chain so far get an empty one, up to this cell.
         for _ in self.heads.len()..cell.saturating_add(1) {
             self.heads.push(0)?;
         }
@@ -93,6 +95,7 @@ impl Waiting {
         let cell = cell as usize;
         let mut place = match self.heads.get(cell) {
             Some(head) => *head,
+            // Nobody has ever waited for this cell or a later one.
             None => 0,
         };
         // No chain is longer than there are links.

@@ -33,7 +33,8 @@ fn are_plain(name: &[u8]) -> bool
     }
 }
 
-// Writes the inside of a name's quotes. Before an apostrophe the quotes end, and behind it they begin again. The error is refused memory.
+// Writes the inside of a name's quotes. Before an apostrophe, which a `\` precedes then, the quotes end, and behind it they begin again. The error is
+// refused memory.
 fn write_escaped(name: &[u8], text: &mut Vec<u8>) -> Result<(), AllocError>
     ensures { OnOk result (text.new.items ≡ text.old.items ++ escaped name.now) }
 {

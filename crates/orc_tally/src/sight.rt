@@ -14,9 +14,9 @@ use std::alloc::{AllocError, Global};
 /// A site as claims name it. Its place in the list of those that a test names, from 0, is the number that claims have for it.
 #[derive(Clone, Copy, PartialEq, Eq, Debug)]
 pub struct ClaimSite {
-    /// Its number in the program's table.
+    /// The site's number in the program's table of sites.
     pub site: u32,
-    /// How many arguments its calls have.
+    /// How many arguments the calls have that claims mean.
     pub arguments: usize,
 }
 
@@ -43,7 +43,7 @@ pub fn claim_number(sites: &[ClaimSite], site: u32, arguments: usize) -> u32
     }
 }
 
-// An entry whose site has the number that claims have for it.
+// This entry; if it is a call, its site gets the number that claims have for it. Other entries name no site.
 fn renumbered(sites: &[ClaimSite], entry: Entry) -> Entry
     requires { length sites.now < 2 ^ 32 }
     ensures { result ≡ renumbered sites.now entry }
@@ -57,7 +57,7 @@ fn renumbered(sites: &[ClaimSite], entry: Entry) -> Entry
     }
 }
 
-// The entry at a place, from 0.
+// The entry at the place `at`, from 0. The contract asks that the journal has an entry there.
 fn entry_at(journal: &Journal, at: usize) -> Entry
     requires { at < length journal.now.entries }
     ensures { slice_get journal.now.entries at ≡ Some result }
@@ -69,7 +69,8 @@ fn entry_at(journal: &Journal, at: usize) -> Entry
     }
 }
 
-/// The happenings of a journal, whose sites get the numbers that claims have for them. The error is refused memory, also if claims name 2^32 sites.
+/// The happenings of a journal (its publications, and what became of its calls), whose sites get the numbers that claims have for them. `sites` are
+/// those that a test names. The error is refused memory, also if there are 2^32 of these.
 pub fn happenings_of(
     alloc: Global,
     sites: &[ClaimSite],

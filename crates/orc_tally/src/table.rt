@@ -12,32 +12,34 @@ use orc_claims::claim::{Claim, Plain};
 use orc_ways::test::{ClaimLine, Test};
 use std::alloc::{AllocError, Global};
 
-/// What is reported of a case.
+/// What is reported of a case of a test. A *way* is one choice of answers for the services of the case.
 #[derive(Drop)]
 pub struct CaseReport {
-    /// How many ways it has.
+    /// How many ways the case has.
     pub ways: u64,
-    /// How many of them were tried, the first ones.
+    /// How many of the ways were tried, the first ones.
     pub tried: u64,
-    /// How many of its runs didn't end by themselves: the limit of entries cut them, or a limit of the engine.
+    /// How many of the case's runs didn't end by themselves: the limit of entries cut them, or a limit of the engine.
     pub cut: u64,
     /// What is reported of each claim of the test, claims of other cases too, over the ways that were tried: at the claim's place. There may be one
     /// more behind those that have a line in the test: `ends Halted or Quiet`.
     pub told: Vec<Told>,
 }
 
-/// A trial in which a claim fails.
+/// A trial (a run in some way and some order) in which a claim fails.
 #[derive(Clone, Copy)]
 pub struct Shown {
-    /// The place of its case, from 0.
+    /// The place of the trial's case, from 0.
     pub case: usize,
+    /// The trial's way and order in that case, and where in the run the claim fails.
     pub failure: Failure,
 }
 
-/// A way in which a search found a schedule that breaks a claim.
+/// A way (one choice of what the services answer) in which a search found a schedule that breaks a claim: an order of moves after which the claim
+/// fails.
 #[derive(Clone, Copy, PartialEq, Eq, Debug)]
 pub struct Broken {
-    /// The place of its case, from 0.
+    /// The place of the way's case, from 0.
     pub case: usize,
     /// The number of the way in the case, from 0.
     pub way: u64,
@@ -46,11 +48,11 @@ pub struct Broken {
 /// What came of the search through all schedules for a claim.
 #[derive(Clone, Copy, PartialEq, Eq, Debug)]
 pub enum Searched {
-    /// Nothing: it wasn't made, or stopped before it had looked at all states.
+    /// Nothing: the search wasn't made, or stopped before it had looked at all states.
     No,
-    /// Every schedule of every way keeps it: it holds in each run that ends by itself.
+    /// Every schedule of every way keeps the claim: it holds in each run that ends by itself.
     Whole,
-    /// A schedule breaks it.
+    /// A schedule breaks the claim, in this way.
     Breaks(Broken),
 }
 
@@ -64,7 +66,7 @@ pub enum Counterexample {
 }
 
 impl Counterexample {
-    /// The place of its case.
+    /// The place of the counterexample's case in the test, from 0.
     pub fn case(&self) -> usize
         ensures { result ≡ case_of self.now }
     {
@@ -74,7 +76,7 @@ impl Counterexample {
         }
     }
 
-    /// The number of its way in the case, from 0.
+    /// The number of the counterexample's way in the case, from 0.
     pub fn way(&self) -> u64
         ensures { result ≡ way_of self.now }
     {
@@ -95,9 +97,9 @@ pub enum Row {
     /// The claim at this place failed in no run.
     Holds {
         claim: usize,
-        /// Whether it was put to the test in some run.
+        /// Whether the claim was put to the test in some run: something happened that it is about.
         tested: bool,
-        /// Whether every schedule keeps it.
+        /// Whether a search through all schedules has found that every one keeps the claim.
         whole: bool,
     },
     /// The claim at this place failed.
@@ -107,16 +109,18 @@ pub enum Row {
 /// All that the table of a test is made of.
 #[derive(Clone, Copy)]
 pub struct Report<'r, 'a> {
+    /// The test, whose claims, cases and their lines the table shows.
     pub test: &'r Test<'a>,
-    /// One for each case.
+    /// What is reported of each case, in the order of the test.
     pub cases: &'r [CaseReport],
     /// In how many orders each way was run.
     pub orders: u64,
-    /// What a search found for each claim, in their order. For claims behind the last of these none was made.
+    /// What a search found for each claim, at the claim's place. For claims behind the last of these no search was made.
     pub searched: &'r [Searched],
 }
 
-/// Whether a claim of this section is held against the runs of the case at this place: one of the case itself, or of `always`.
+/// Whether a claim of this section (its case, or None for `always`) is held against the runs of the case at the place `case`: one of that case
+/// itself, or of `always`, is.
 pub fn is_held(section: Option<usize>, case: usize) -> bool
     ensures { result ≡ is_held section case }
 {
@@ -126,7 +130,7 @@ pub fn is_held(section: Option<usize>, case: usize) -> bool
     }
 }
 
-// Whether both sections are the same case, or both `always`.
+// Whether both sections are the same case, or both `always`, which is None.
 fn is_same(section: Option<usize>, other: Option<usize>) -> bool
     ensures { result ≡ is_same section other }
 {
@@ -137,8 +141,8 @@ fn is_same(section: Option<usize>, other: Option<usize>) -> bool
     }
 }
 
-// What is reported of a claim over a case; None if it isn't held against the runs of the case, or nothing is reported of it. `section` is the
-// claim's: its case, or None for `always`.
+// What `report` says of a claim over the case at the place `case`; None if the claim isn't held against the runs of that case, or nothing is reported
+// of the claim. `section` is the claim's: its case, or None for `always`.
 pub(crate) fn told_here(
     section: Option<usize>,
     claim: usize,
@@ -154,7 +158,7 @@ pub(crate) fn told_here(
     }
 }
 
-// The first failure, if something is reported and there is one.
+// The first failure of a claim, by what is reported of it; None if nothing is reported, or there is no failure.
 fn failure_of(told: Option<Told>) -> Option<Failure>
     ensures { result ≡ failure_of told }
 {
@@ -164,7 +168,7 @@ fn failure_of(told: Option<Told>) -> Option<Failure>
     }
 }
 
-// Whether something is reported, and the claim was put to the test.
+// Whether a claim was put to the test, by what is reported of it; false if nothing is reported.
 fn is_tested(told: Option<Told>) -> bool
     ensures { result ≡ is_tested told }
 {
@@ -174,7 +178,8 @@ fn is_tested(told: Option<Told>) -> bool
     }
 }
 
-// The first failure of a claim, in the first case that has one; None if no trial shows one. `section` is the claim's: its case, or None for `always`.
+// The first failure of the claim at the place `claim`, in the first of these cases that has one; None if no trial shows one. `section` is the
+// claim's: its case, or None for `always`. In the loop `rest` are the reports on the cases from the place `case` on.
 fn shown_in(section: Option<usize>, claim: usize, cases: &[CaseReport]) -> Option<Shown>
     ensures { result ≡ shown_in section claim 0 cases.now }
 {
@@ -194,7 +199,8 @@ fn shown_in(section: Option<usize>, claim: usize, cases: &[CaseReport]) -> Optio
     }
 }
 
-// Whether a claim was put to the test in some case. `section` is the claim's: its case, or None for `always`.
+// Whether the claim at the place `claim` was put to the test in some case. `section` is the claim's: its case, or None for `always`. In the loop
+// `rest` are the reports on the cases from the place `case` on.
 fn tested_in(section: Option<usize>, claim: usize, cases: &[CaseReport]) -> bool
     ensures { result ≡ tested_in section claim 0 cases.now }
 {
@@ -214,14 +220,15 @@ fn tested_in(section: Option<usize>, claim: usize, cases: &[CaseReport]) -> bool
     }
 }
 
-// Whether all ways of a case were tried, and no run was cut.
+// Whether all ways of a case were tried, and no run was cut by a limit: then a search through all schedules may show that a claim always holds.
 fn is_full(report: &CaseReport) -> bool
     ensures { result ≡ is_full report.now }
 {
     report.tried == report.ways && report.cut == 0
 }
 
-// Whether all ways were tried and no run was cut, in each case against which a claim of this section (a case, or None for `always`) is held.
+// Whether all ways were tried and no run was cut, in each case against which a claim of this section (a case, or None for `always`) is held. In the
+// loop `rest` are the reports on the cases from the place `case` on.
 fn are_full(section: Option<usize>, cases: &[CaseReport]) -> bool
     ensures { result ≡ are_full section 0 cases.now }
 {
@@ -249,7 +256,7 @@ pub fn is_open(cases: &[CaseReport], section: Option<usize>, claim: usize) -> bo
     shown_in(section, claim, cases).is_none() && are_full(section, cases)
 }
 
-// What came of the search for the claim at this place; `No` if none was made.
+// What came of the search through all schedules for the claim at this place; `No` if none was made.
 fn found_of(searched: &[Searched], claim: usize) -> Searched
     ensures { result ≡ found_of (slice_get searched.now claim) }
 {
@@ -259,7 +266,7 @@ fn found_of(searched: &[Searched], claim: usize) -> Searched
     }
 }
 
-// The row of a claim that failed in no trial, by what came of its search.
+// The row of a claim that failed in no trial, by what came of the search through all schedules. `tested` says that the claim was put to the test.
 fn unshown(claim: usize, tested: bool, searched: Searched) -> Row
     ensures { result ≡ unshown claim tested searched }
 {
@@ -278,7 +285,8 @@ fn unshown(claim: usize, tested: bool, searched: Searched) -> Row
     }
 }
 
-// The row of a claim of this section (a case, or None for `always`). A trial in which it fails is shown before a schedule that breaks it.
+// The row of the claim at the place `claim`, which is of this section (a case, or None for `always`). If a trial shows that it fails the row has that
+// trial; a schedule that breaks the claim stands there only if none does.
 fn row_of(cases: &[CaseReport], searched: &[Searched], section: Option<usize>, claim: usize) -> Row
     ensures { result ≡ row_of cases.now searched.now section claim }
 {
@@ -292,7 +300,8 @@ fn row_of(cases: &[CaseReport], searched: &[Searched], section: Option<usize>, c
     }
 }
 
-// Pushes the rows of those of these claims that are in the section: in this case, or below `always` if it is None. The error is refused memory.
+// Pushes the rows of those claims that are in the section: a case, or `always` if it is None. `claims` has the lines of all claims of the test; in
+// the loop `rest` are those from the place `claim` on. The error is refused memory.
 fn add_claims(
     cases: &[CaseReport],
     searched: &[Searched],
@@ -318,7 +327,7 @@ fn add_claims(
     }
 }
 
-// Whether a claim without its conditions says how a run ends.
+// Whether this claim, of which the conditions are left out, says how a run ends, as `ends Halted` does.
 fn is_of_end(plain: &Plain) -> bool
     ensures { result ≡ is_of_end plain.now }
 {
@@ -328,7 +337,7 @@ fn is_of_end(plain: &Plain) -> bool
     }
 }
 
-// Whether a claim says how a run ends, whatever happens in it.
+// Whether a claim says how a run ends, under no condition on what happens in the run.
 fn is_end(claim: &Claim) -> bool
     ensures { result ≡ is_end claim.now }
 {
@@ -346,6 +355,7 @@ fn has_end(case: usize, claims: &[Claim], lines: &[ClaimLine<'_>]) -> bool
         match rest {
             [] => return false,
             [claim, more @ ..] => match behind {
+                // It doesn't come: there are as many lines as claims.
                 [] => return false,
                 [line, others @ ..] => {
                     if is_held(line.case, case) && is_end(claim) {
@@ -359,7 +369,8 @@ fn has_end(case: usize, claims: &[Claim], lines: &[ClaimLine<'_>]) -> bool
     }
 }
 
-// Pushes the row of `ends Halted or Quiet` for a case in which no claim says how runs end, if one of its runs was cut. The error is refused memory.
+// Pushes the row of `ends Halted or Quiet` for the case at this place, if no claim says how its runs end, and one of its runs was cut by a limit.
+// That claim has no line in the test. The error is refused memory.
 fn add_end(
     cases: &[CaseReport],
     claims: &[Claim],
@@ -385,7 +396,7 @@ fn add_end(
 }
 
 impl Report<'_, '_> {
-    // The rows of the cases: of each its own, then those of its claims. The error is refused memory, here and below.
+    // The rows of the cases: of each its own row, then those of its claims. In the loop `case` counts the cases. The error is refused memory.
     fn case_rows(&self, alloc: Global) -> Result<Vec<Row>, AllocError>
         ensures { IfOk result (λ rows. rows.items ≡ case_rows self.now.cases.now self.now.searched.now self.now.test.now.claims.items self.now.test.now.claim_lines.items 0 self.now.cases.now) }
     {
@@ -444,7 +455,7 @@ pub fn failing(rows: &[Row]) -> usize
     }
 }
 
-// How many rows are of a claim.
+// How many rows are of a claim, whether it holds or fails; the others are headings.
 pub(crate) fn claims_told(rows: &[Row]) -> usize
     ensures { result ≡ claims_told rows.now }
 {
@@ -474,6 +485,7 @@ pub fn failure_at(rows: &[Row], number: u64) -> Option<Counterexample>
             [] => return None,
             [row, more @ ..] => {
                 if let Row::Fails(_, found) = row {
+                    // `number` counts down the failures that are still to come.
                     if number == 1 {
                         return Some(*found);
                     }

@@ -67,7 +67,7 @@ impl Report<'_, '_> {
         }
     }
 
-    // Appends the text of the claim at this place; the one without a line is `ends Halted or Quiet`.
+    // Appends the text of the claim at this place in the test. The claim at the place behind the last line is `ends Halted or Quiet`.
     fn write_claim(&self, claim: usize, text: &mut Vec<u8>) -> Result<(), AllocError>
         ensures { OnOk result (text.new.items ≡ text.old.items ++ claim_at (slice_get self.now.test.now.claim_lines.items claim)) }
     {
@@ -77,7 +77,7 @@ impl Report<'_, '_> {
         }
     }
 
-    // Appends how many ways a case has, and how many of them were tried if not all; nothing if nothing is reported of the case.
+    // Appends how many ways the case at this place has, and how many of them were tried if not all; nothing if nothing is reported of the case.
     fn write_ways(&self, alloc: Global, case: usize, text: &mut Vec<u8>) -> Result<(), AllocError>
         ensures { OnOk result (text.new.items ≡ text.old.items ++ case_ways (slice_get self.now.cases.now case)) }
     {
@@ -87,7 +87,7 @@ impl Report<'_, '_> {
         write_ways(alloc, report.ways, report.tried, text)
     }
 
-    // `case slow: 378 ways, 20 orders each`
+    // Appends the line of the case at this place: `case slow: 378 ways, 20 orders each`. A way is one choice of answers of the services.
     fn write_case(&self, alloc: Global, case: usize, text: &mut Vec<u8>) -> Result<(), AllocError>
         ensures { OnOk result (text.new.items ≡ text.old.items ++ case_text self.now case) }
     {
@@ -99,7 +99,7 @@ impl Report<'_, '_> {
         Ok(())
     }
 
-    // `always: 2,107 ways`
+    // Appends the line above the claims of `always`, which has the ways of all cases: `always: 2,107 ways`
     fn write_always(&self, alloc: Global, text: &mut Vec<u8>) -> Result<(), AllocError>
         ensures { OnOk result (text.new.items ≡ text.old.items ++ always_text self.now) }
     {
@@ -113,7 +113,7 @@ impl Report<'_, '_> {
         Ok(())
     }
 
-    // `27 of 378 ways of slow`, where a claim is `failing` in 27 of the 378 ways that were `tried`
+    // Appends `27 of 378 ways of slow`, where a claim fails in `failing` ways, 27, of the 378 that were `tried` in the case at the place `case`.
     fn write_one(
         &self,
         alloc: Global,
@@ -142,6 +142,7 @@ impl Report<'_, '_> {
     ) -> Result<(), AllocError>
         ensures { OnOk result (text.new.items ≡ text.old.items ++ shares self.now.test.now.cases.items section claim true 0 self.now.cases.now) }
     {
+        // No comma stands before the first case that is shown. `rest` are the reports on the cases from the place `case` on.
         let mut is_first = true;
         let mut case = 0;
         let mut rest = self.cases;
@@ -162,7 +163,7 @@ impl Report<'_, '_> {
         }
     }
 
-    // `a way of slow, in a schedule that no order showed`
+    // Appends `a way of slow, in a schedule that no order showed`, for the case at this place: a search through all schedules has found it.
     fn write_schedule(&self, case: usize, text: &mut Vec<u8>) -> Result<(), AllocError>
         ensures { OnOk result (text.new.items ≡ text.old.items ++ schedule_text self.now case) }
     {
@@ -172,7 +173,7 @@ impl Report<'_, '_> {
         Ok(())
     }
 
-    // Appends where a claim fails: in how many ways of which cases, or in a schedule.
+    // Appends where the claim at this place fails, by what shows it: in how many ways of which cases, or in a schedule.
     fn write_share(
         &self,
         alloc: Global,
@@ -190,7 +191,7 @@ impl Report<'_, '_> {
         }
     }
 
-    // The line of a claim that fails: `  FAILS  no A()    27 of 378 ways of slow`
+    // Appends the line of the claim at this place, which fails as `found` shows: `  FAILS  no A()    27 of 378 ways of slow`
     fn write_failure(
         &self,
         alloc: Global,
@@ -208,7 +209,8 @@ impl Report<'_, '_> {
         Ok(())
     }
 
-    // The section of a claim that fails in this case. The one without a line is held against each case by itself.
+    // The section (a case, or None for `always`) of the claim at this place, which fails in the case `case`. The one without a line, `ends Halted or
+    // Quiet`, is held against each case by itself, so its section is that case.
     fn section(&self, claim: usize, case: usize) -> Option<usize>
         ensures { result ≡ section_in case (slice_get self.now.test.now.claim_lines.items claim) }
     {
@@ -218,8 +220,8 @@ impl Report<'_, '_> {
         }
     }
 
-    // The line of a claim that holds: `  ok     no A()    (every schedule)`. `tested` says that it was put to the test, `whole` that every schedule
-    // keeps it.
+    // Appends the line of the claim at this place, which holds: `  ok     no A()    (every schedule)`. `tested` says that it was put to the test,
+    // `whole` that every schedule keeps it.
     fn write_success(
         &self,
         claim: usize,
@@ -255,8 +257,8 @@ impl Report<'_, '_> {
         }
     }
 
-    // Appends the lines of rows, each failure with its details below it. `details` has those of the first failure first; a failure behind its end has
-    // none.
+    // Appends the lines of rows, each failure with its details below it. `details` has whole lines for each failure, in the order of the rows; a
+    // failure past the end of `details` has none.
     fn write_rows(
         &self,
         alloc: Global,
@@ -266,6 +268,7 @@ impl Report<'_, '_> {
     ) -> Result<(), AllocError>
         ensures { OnOk result (text.new.items ≡ text.old.items ++ lines self.now (map (λ d. d.items) details.now) rows.now) }
     {
+        // The details that weren't written yet.
         let mut shown = details;
         let mut rest = rows;
         loop {
@@ -298,6 +301,7 @@ impl Report<'_, '_> {
     {
         let all = self.rows(alloc)?;
         let rows = all.as_slice();
+        // How many rows are of a claim that fails.
         let number = failing(rows);
         let mut text = Vec::new(alloc);
         call.write_title(&mut text)?;
@@ -309,7 +313,7 @@ impl Report<'_, '_> {
 }
 
 impl Call<'_> {
-    // The first line: `charge.test, on charge.orc`
+    // Appends the table's first line, which names the two files: `charge.test, on charge.orc`
     fn write_title(&self, text: &mut Vec<u8>) -> Result<(), AllocError>
         ensures { OnOk result (text.new.items ≡ text.old.items ++ title_text self.now.source.now self.now.test.now) }
     {
@@ -320,7 +324,7 @@ impl Call<'_> {
         Ok(())
     }
 
-    // The command that writes the script of the first failure: `orc test charge.orc charge.test --fail 1`
+    // Appends the command that writes the script of the first failure: `orc test charge.orc charge.test --fail 1`
     fn write_call(&self, text: &mut Vec<u8>) -> Result<(), AllocError>
         ensures { OnOk result (text.new.items ≡ text.old.items ++ call_text self.now.source.now self.now.test.now self.now.options.now) }
     {
@@ -332,7 +336,7 @@ impl Call<'_> {
         text.extend_from_slice(b" --fail 1")
     }
 
-    // The two lines with the commands that show the first failure, the second command below the first.
+    // Appends two lines with the commands that show the first failure: one writes its script into a file, the other, below it, draws its run.
     fn write_commands(&self, text: &mut Vec<u8>) -> Result<(), AllocError>
         ensures { OnOk result (text.new.items ≡ text.old.items ++ commands_text self.now.source.now self.now.test.now self.now.options.now) }
     {
@@ -346,7 +350,7 @@ impl Call<'_> {
         Ok(())
     }
 
-    // The last lines: those commands, or nothing if no claim fails.
+    // Appends the last lines: the commands that show the first failure, or nothing if no claim fails. `failing` is the number of those that do.
     fn write_hint(&self, failing: usize, text: &mut Vec<u8>) -> Result<(), AllocError>
         ensures { OnOk result (text.new.items ≡ text.old.items ++ hint_text self.now.source.now self.now.test.now self.now.options.now failing) }
     {
@@ -375,6 +379,7 @@ fn write_number(alloc: Global, number: u64, text: &mut Vec<u8>) -> Result<(), Al
             [] => return Ok(()),
             [digit, more @ ..] => {
                 text.push(*digit)?;
+                // As many digits are left as `more` has.
                 if is_grouped(more.len()) {
                     text.push(b',')?;
                 }
@@ -384,7 +389,7 @@ fn write_number(alloc: Global, number: u64, text: &mut Vec<u8>) -> Result<(), Al
     }
 }
 
-// `, 20 orders each`
+// Appends in how many orders each way was run, where that isn't 1: `, 20 orders each`
 fn write_many(alloc: Global, orders: u64, text: &mut Vec<u8>) -> Result<(), AllocError>
     ensures { OnOk result (text.new.items ≡ text.old.items ++ (codes ", " ++ (number_text orders ++ codes " orders each"))) }
 {
@@ -404,7 +409,7 @@ fn write_orders(alloc: Global, orders: u64, text: &mut Vec<u8>) -> Result<(), Al
     write_many(alloc, orders, text)
 }
 
-// Appends how many ways there are, and how many were tried if not all: `: 2 of 1,728 ways`
+// Appends how many ways there are, `: 48 ways`, and how many of them were tried if not all: `: 2 of 1,728 ways`
 fn write_ways(alloc: Global, ways: u64, tried: u64, text: &mut Vec<u8>) -> Result<(), AllocError>
     ensures { OnOk result (text.new.items ≡ text.old.items ++ ways_text ways tried) }
 {
@@ -456,7 +461,7 @@ fn all_tried(cases: &[CaseReport]) -> Option<u64>
     }
 }
 
-// In how many ways a claim fails; 0 if nothing is reported of it.
+// In how many ways a claim fails, by what is reported of it over a case; 0 if nothing is reported.
 fn failing_in(told: Option<Told>) -> u64
     ensures { result ≡ failing_in told }
 {
@@ -473,7 +478,7 @@ fn comma(is_first: bool) -> &'static str
     if is_first { "" } else { ", " }
 }
 
-/// The end of the line of a claim that held in each run, with its LF: whether it was put to the test.
+/// The end of the line of a claim that held in each run, with its LF: empty if the claim was put to the test, else a remark that it wasn't.
 pub fn note(tested: bool) -> &'static str
     ensures { result.now ≡ note tested }
 {
@@ -484,7 +489,7 @@ pub fn note(tested: bool) -> &'static str
     }
 }
 
-// The end of the line of a claim that every schedule keeps, with its LF.
+// The end of the line of a claim that every schedule keeps, with its LF. `tested` says that the claim was put to the test in some run.
 fn whole_note(tested: bool) -> &'static str
     ensures { result.now ≡ whole_note tested }
 {

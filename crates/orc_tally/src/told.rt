@@ -7,25 +7,25 @@ use orc_claims::claim::Claim;
 use orc_claims::{Judged, Verdict};
 use std::alloc::{AllocError, Global};
 
-/// A trial in which a claim fails: a run in some way and some order.
+/// A trial in which a claim fails: a run in some way (one choice of what the services answer) and some order of its turns.
 #[derive(Clone, Copy, PartialEq, Eq, Debug)]
 pub struct Failure {
     /// The number of the way in its case, from 0.
     pub way: u64,
-    /// The number of the order, from 0.
+    /// The number of the order in which the run was made, from 0.
     pub order: u64,
-    /// Where in the run it fails. It is never `Holds`.
+    /// Where in the run the claim fails. It is never `Holds`.
     pub verdict: Verdict,
 }
 
 /// What is reported of a claim over the trials of some ways of a case.
 #[derive(Clone, Copy, PartialEq, Eq, Debug)]
 pub struct Told {
-    /// In how many ways it fails in some order: a way counts once.
+    /// In how many ways the claim fails in some order: a way counts once.
     pub failing: u64,
     /// The first failure: the claim fails in no earlier way, and in no earlier order of the same way.
     pub first: Option<Failure>,
-    /// Whether it was put to the test in some trial. A claim that holds and wasn't may be mistyped.
+    /// Whether the claim was put to the test in some trial: something happened that it is about. A claim that holds and wasn't may be mistyped.
     pub tested: bool,
 }
 
@@ -36,7 +36,7 @@ const NOTHING: Told = Told {
     tested: false,
 };
 
-// The first one if there is one, and otherwise the other.
+// The failure `one` if there is one, and otherwise `other`, which may be None, too.
 fn first_of(one: Option<Failure>, other: Option<Failure>) -> Option<Failure>
     ensures { result ≡ first_of one other }
 {
@@ -47,12 +47,14 @@ fn first_of(one: Option<Failure>, other: Option<Failure>) -> Option<Failure>
 }
 
 impl Told {
-    // What is reported of one way with one trial more of it, in this order, where `self` is what the orders before gave.
+    // What is reported of a claim over one way, with one trial more of that way, in this order. `self` is what the orders before gave, and `judged`
+    // what the new run says of the claim.
     fn noted(self, way: u64, order: u64, judged: Judged) -> Told
         ensures { result ≡ noted way order self judged }
     {
         let tested = self.tested || judged.tested;
         match judged.verdict {
+            // The claim holds in this run: only `tested` may change.
             Verdict::Holds => Told {
                 failing: self.failing,
                 first: self.first,
@@ -74,7 +76,7 @@ impl Told {
         }
     }
 
-    // What is reported of some ways and of others behind them together. None if 2^64 ways fail.
+    // What is reported of a claim over some ways (`self`) and over others behind these together. None if 2^64 ways or more fail.
     fn joined(self, others: Told) -> Option<Told>
         ensures { IfSome result (λ t. t ≡ joined self others) }
     {
@@ -127,8 +129,8 @@ pub fn noted(
     }
 }
 
-/// What is reported of each claim over some ways and others behind them together, claim by claim up to the end of the shorter list. The error is
-/// refused memory.
+/// What is reported of each claim over some ways (`told`) and over those behind them (`others`) together, claim by claim up to the end of the shorter
+/// list. The error is refused memory.
 pub fn joined(alloc: Global, told: &[Told], others: &[Told]) -> Result<Vec<Told>, AllocError>
     ensures { IfOk result (λ all. all.items ≡ joined_all told.now others.now) }
 {

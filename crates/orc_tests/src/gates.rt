@@ -23,7 +23,7 @@ pub(crate) struct Turnstile {
     last: u64,
     wanted: u64,
     looks: u64,
-    // How many calls have come to the gate.
+    // How many calls have come to the gate, held or not.
     entered: AtomicU64,
     // How many of the held ones gave up.
     ran_out: AtomicU64,
@@ -60,6 +60,7 @@ impl Gate for Turnstile {
         if number < self.first || number > self.last {
             return;
         }
+        // The call waits until `wanted` calls have come. It gives up after `looks` looks.
         for _ in 0..self.looks {
             if self.entered.load(Ordering::SeqCst) >= self.wanted {
                 return;
@@ -74,19 +75,21 @@ impl Gate for Turnstile {
     }
 }
 
-/// A gate that holds no call, but doesn't say so. So `run_pool` asks it for each call, and runs the program on its workers.
+/// A gate that holds no call, but doesn't say so. So `run_pool` passes it with each call, and its workers hold the run's tokens.
 #[derive(Drop)]
 pub(crate) struct Slow;
 
 impl Gate for Slow {
+    // Each call passes at once.
     fn pass(&self, _number: u64) {}
 
+    // False: then `run_pool` passes the gate with each call.
     fn is_open(&self) -> bool {
         false
     }
 }
 
-/// How these sites differ from sites that go by the table.
+/// How the sites `Twisted` differ from sites that go by the table, which has the script's answers and those of built-in sites.
 #[derive(Clone, Copy)]
 pub(crate) enum Twist<'a> {
     /// They hold each call at this gate while it is made.
@@ -104,13 +107,16 @@ pub(crate) enum Twist<'a> {
 /// Sites that answer each call as if it were another one, or hold it, or are refused memory for one.
 #[derive(Drop)]
 pub(crate) struct Twisted<'a> {
+    /// The sites that answer each call by the table.
     pub(crate) scripted: Scripted<'a>,
+    /// In what they differ here.
     pub(crate) twist: Twist<'a>,
 }
 
 impl<'a> Sites for Twisted<'a> {
     type Call = SiteCall<'a>;
 
+    // Makes a call, which is answered as the twist says. The error is refused memory; with `Refused` the call with that number gets it.
     fn call(&self, request: &Request) -> Result<SiteCall<'a>, AllocError> {
         // The request that the table answers in the place of this one; a twist may change it.
         let mut other = request.copied();
@@ -128,9 +134,10 @@ impl<'a> Sites for Twisted<'a> {
         self.scripted.call(&other)
     }
 
+    // These sites don't care whether a call is cancelled.
     fn cancel(&self, _number: u64) {}
 
-    // With `Refused` no call waits for another thread; sites may say so all the same.
+    // True where a call may wait for what another thread does, as one that is held does. With `Refused` none waits; sites may say so all the same.
     fn may_wait(&self) -> bool {
         matches!(self.twist, Twist::Held(_) | Twist::Refused(_))
     }
@@ -153,7 +160,9 @@ pub(crate) enum Manner {
 /// A call that is due when the table says so, and answers otherwise.
 #[derive(Drop)]
 pub(crate) struct OddCall<'a> {
+    // The call as the table answers it: it knows when the call is due.
     call: SiteCall<'a>,
+    // What is answered in the place of the table's answer.
     manner: Manner,
     // Where a call that stays pending waits, and who polled it. Nothing wakes it.
     source: Source,
@@ -170,6 +179,7 @@ impl Future for OddCall<'_> {
 
     ghost gives = { λ odd _. is_due (due_of odd.call) odd.call.moment ≡ true };
 
+    // Answers 0 when the call is due, or stays pending forever, as the manner says.
     fn poll(&mut self, cx: &mut Context<'_>) -> Poll<Answer> {
         match self.manner {
             // The call stays pending: nothing wakes the waker that is registered here.
@@ -201,6 +211,7 @@ impl SiteFuture for OddCall<'_> {
         self.call.at(now);
     }
 
+    // When the table says that the call is due, whatever it answers then.
     fn due(&self) -> Due {
         self.call.due()
     }
@@ -209,13 +220,16 @@ impl SiteFuture for OddCall<'_> {
 /// Sites that answer all calls in one of these manners.
 #[derive(Drop)]
 pub(crate) struct Odd<'a> {
+    /// The table, which says when a call is due.
     pub(crate) answers: &'a Answers,
+    /// What each call answers then.
     pub(crate) manner: Manner,
 }
 
 impl<'a> Sites for Odd<'a> {
     type Call = OddCall<'a>;
 
+    // Makes a call that is due when the table says so. It never fails.
     fn call(&self, request: &Request) -> Result<OddCall<'a>, AllocError> {
         Ok(OddCall {
             call: SiteCall::new(self.answers, request.copied()),
@@ -225,6 +239,7 @@ impl<'a> Sites for Odd<'a> {
         })
     }
 
+    // These sites don't care whether a call is cancelled.
     fn cancel(&self, _number: u64) {}
 
     // False: then the engine makes each call by these sites, and doesn't go by the table.
@@ -252,9 +267,9 @@ pub(crate) struct Counts {
 /// Notes how often each call passes the gate, is made and is cancelled.
 #[derive(Drop)]
 pub(crate) struct Board {
-    // By the calls' numbers; no call has number 0. The last one is for all greater numbers, too.
+    // The note at place n is that of the call with the number n; no call has number 0. The last one is for all greater numbers, too.
     notes: Vec<Note>,
-    // How many calls were held and gave up before they were cancelled.
+    // How many of the calls that `hold` held gave up before they were cancelled.
     ran_out: AtomicU64,
 }
 
@@ -275,7 +290,7 @@ impl Board {
         })
     }
 
-    // The note on the call with this number. There is one for each number, so None doesn't come.
+    // The note on the call with this number, or the last one for a number past it. There is at least one note, so None doesn't come.
     fn note(&self, number: u64) -> Option<&Note> {
         let last = self.notes.len().saturating_sub(1);
         self.notes.get(last.min(number as usize))
@@ -289,6 +304,7 @@ impl Board {
                 made: note.made.load(Ordering::SeqCst),
                 cancelled: note.cancelled.load(Ordering::SeqCst),
             },
+            // It doesn't come: there is a note for each number.
             None => Counts {
                 passed: 0,
                 made: 0,
@@ -334,8 +350,11 @@ pub(crate) enum Hold {
 /// Sites and a gate that note on a board what the engine does with each call.
 #[derive(Drop)]
 pub(crate) struct Noting<'a> {
+    /// The table, by which calls are answered.
     pub(crate) answers: &'a Answers,
+    /// Where it is noted what the engine does with each call.
     pub(crate) board: &'a Board,
+    /// Where call 1 is held until its cancel is reported.
     pub(crate) hold: Hold,
     /// Whether a cancelled call still answers. Otherwise it stays pending.
     pub(crate) answers_late: bool,
@@ -361,7 +380,7 @@ impl Gate for Noting<'_> {
 impl<'a> Sites for Noting<'a> {
     type Call = NotedCall<'a>;
 
-    // Notes that the call is made. Call 1 waits here for its cancel if the hold is `Call`.
+    // Notes that the call is made. Call 1 waits here for its cancel if the hold is `Call`; if it is `Poll`, its polls are to wait. It never fails.
     fn call(&self, request: &Request) -> Result<NotedCall<'a>, AllocError> {
         if let Some(note) = self.board.note(request.number) {
             note.made.fetch_add(1, Ordering::SeqCst);
@@ -381,6 +400,7 @@ impl<'a> Sites for Noting<'a> {
         })
     }
 
+    // Notes that the engine reports the cancel of the call with this number. A call that is held for its cancel goes on then.
     fn cancel(&self, number: u64) {
         if let Some(note) = self.board.note(number) {
             note.cancelled.fetch_add(1, Ordering::SeqCst);
@@ -396,12 +416,15 @@ impl<'a> Sites for Noting<'a> {
 /// A call that may be held when it is due, and may forget its answer when it is cancelled.
 #[derive(Drop)]
 pub(crate) struct NotedCall<'a> {
+    // The call as the table answers it.
     call: SiteCall<'a>,
+    // The call's number, from 1.
     number: u64,
+    // Where the engine's cancel of the call is noted.
     board: &'a Board,
-    // Whether a poll holds it until it is cancelled, if it is due.
+    // Whether a poll of the call, once it is due, waits until its cancel is reported.
     holds: bool,
-    // Whether it still answers if it was cancelled.
+    // Whether the call still answers if it was cancelled. Otherwise it stays pending.
     answers_late: bool,
     // The latest logical time that was handed in, at first that at which the call was made.
     now: u64,
@@ -428,6 +451,7 @@ impl Future for NotedCall<'_> {
 
     ghost gives = { λ noted. IsReply noted.call };
 
+    // Answers what the table says when the call is due, after it was held, if it is to be. A cancelled call may stay pending in its place.
     fn poll(&mut self, cx: &mut Context<'_>) -> Poll<Answer> {
         // A worker polls it once when it was made, and again when it is due: only a poll that would answer it is held.
         if self.holds && self.is_due() {
@@ -460,6 +484,7 @@ impl SiteFuture for NotedCall<'_> {
         self.call.at(now);
     }
 
+    // When the table says that the call is due.
     fn due(&self) -> Due {
         self.call.due()
     }

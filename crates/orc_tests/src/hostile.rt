@@ -47,7 +47,8 @@ const LIES: [(&[u8], Twist<'static>); 4] = [
     (b"Rwait(1) >> 1", Twist::Never),
 ];
 
-// Each run ends with the fault that call 1 was answered otherwise than the table says.
+// Each run ends with the fault that call 1 was answered otherwise than the table says: `Site(1)`. The gate is open, but sites that don't go by the
+// table are called all the same.
 #[test]
 fn answers_of_other_calls_are_found(rt: HostRuntime) {
     for (source, twist) in LIES.iter() {
@@ -101,7 +102,7 @@ fn calls_that_answer_zero_or_nothing_are_found(rt: HostRuntime) {
                 "{source:?} on {workers}"
             );
         }
-        // A call that is never due need not answer.
+        // A call that is never due need not answer: the run publishes 1 and waits forever, so it is Quiet.
         let run = by_odd(&rt, rt.alloc(), b"Never() | 1", Manner::Nothing, workers);
         assert!(rt;
             matches!(&run, Some(Ok(played)) if played.summary.end == End::Quiet),
@@ -124,8 +125,8 @@ const MADE_AND_CANCELLED: Counts = Counts {
     cancelled: 1,
 };
 
-// Whether each call of a journal passed the gate and was made once, and just those that it cancels were reported as cancelled, once each. If each
-// call that the journal cancels was reported, and as many calls were reported as it cancels, no other call was.
+// Whether each call of a journal passed the gate and was made once, and just those that the journal cancels were reported as cancelled, once each.
+// The first loop finds that each call that the journal cancels was reported, and counts these; the second one finds that no others were.
 fn are_told(board: &Board, journal: &Journal) -> bool {
     let (mut calls, mut cancels) = (0u64, 0u64);
     for at in 0..journal.len() {
@@ -140,7 +141,7 @@ fn are_told(board: &Board, journal: &Journal) -> bool {
             _ => {}
         }
     }
-    // Calls are numbered from 1.
+    // Calls are numbered from 1. `cancels` counts down: each call that was reported as cancelled takes one, so in the end none may be left.
     for number in 1..calls.saturating_add(1) {
         let counts = board.counts(number);
         if counts == MADE_AND_CANCELLED && cancels > 0 {
@@ -175,8 +176,8 @@ fn noted<R: Threads + Wait + Sync>(
     run_pool(rt, alloc, program, answers, &sites, &sites, options).ok()
 }
 
-// Whether a run halts, its journal is accepted, and its sites get each call and cancel. The board has a note for each call: no program of `TOLD`
-// makes 200.
+// Whether a run, in which no call is held, halts, its journal is accepted, and its sites get each call and cancel. The board has a note for each
+// call: no program of `TOLD` makes 200.
 fn is_told<R: Threads + Wait + Sync>(
     rt: &R,
     alloc: Global,
@@ -200,10 +201,11 @@ const TOLD: [&[u8]; 6] = [
     b"x <x< (Rwait(2) >> 20 | Rwait(1) >> 10)",
     b"x <x< (Rwait(5) | Rwait(9) | Rwait(7))",
     b"x <x< (Rwait(5) | Rwait(5) | (Rwait(5) | Rwait(5)))",
-    // Calls of prunings inside the dropped side.
+    // x gets 1 at time 1. The calls of `Never` and `Rwait(3)`, in branches of the side that is dropped then, are cancelled.
     b"x <x< (Rwait(1) >> 1 | (y <y< (Never() | Rwait(3))) | (Never() ; 2))",
-    // Races one after another, nine in the first loop and five in the second. In each of them up to two calls are cancelled.
+    // Races one after another, nine in the first loop and five in the second. In each of them n wins, and up to two calls are cancelled.
     b"def loop(n) = Lt(n, 9) >b> (Iff(b) >> n | Ift(b) >> (x <x< (n | Never() | Rwait(5))) >> Add(n, 1) >m> loop(m))\nloop(0) | loop(4)",
+    // Two races beside each other, whose calls are answered at once. Which of them are cancelled depends on the order.
     b"(x <x< (Add(1, 1) | Add(2, 2) | Add(3, 3))) | (y <y< (Add(4, 4) | Add(5, 5)))",
 ];
 
@@ -248,8 +250,8 @@ fn counts_no_more<R: Threads + Wait + Sync>(
 
 // Programs that publish 4 alone if call 1 is held until it is cancelled: call 1 is in the branch that would publish another value.
 const CANCELLED: [&[u8]; 3] = [
-    // Call 1 is polled at once; in the second program it is polled again when both waits are due. In the third the 4 comes of a race inside the other
-    // one.
+    // While call 1 is held the other branch publishes 4, which ends the race: so call 1 is cancelled. In the second program it is due at time 1, and
+    // polled again then. In the third the 4 comes of a race inside the other one.
     b"x <x< (Add(1, 1) | Add(2, 2))",
     b"x <x< (Rwait(1) >> 1 | Rwait(1) >> 4)",
     b"x <x< (Add(1, 1) | Rwait(0) >> (y <y< (Add(2, 2) | Rwait(1))))",
@@ -286,13 +288,13 @@ fn a_call_that_was_cancelled_counts_no_more(rt: HostRuntime) -> Result<(), Fail>
 // How many races come one after another.
 const RACES: i64 = 3_200;
 
-// How many calls have to come until the gate opens. A race has four to six calls, and two calls come before the races: so it opens after 2,099 races
-// at least, and, since 3,200 races have 12,800 calls at least, before the run ends.
+// How many calls have to come to the gate until it lets the held call go. A race has four to six calls, and two calls come before the races: so the
+// held call goes on after 2,099 races at least, and, since 3,200 races have 12,800 calls at least, before the run ends.
 const OPENS_AT: u64 = 12_600;
 
-// Whether a run halts and publishes `RACES` alone in which call 1 is in a side that is dropped at once. The call is held while more groups are
-// dropped than there are words of groups, 2,048: their words must become free all the same. A race has at most 25 entries, so the limit of 100,000
-// isn't reached.
+// Whether a run halts and publishes `RACES` alone in which call 1 is in a side that is dropped at once. A group is what runs in one side, and a word
+// is the counter of one group. The call is held while more groups are dropped than there are words, 2,048: their words must become free all the
+// same. A race has at most 25 entries, so the limit of 100,000 isn't reached.
 fn takes_no_group<R: Threads + Wait + Sync>(rt: &R, alloc: Global, workers: usize) -> bool {
     let source =
         b"def loop(n) = Lt(n, 3200) >b> (Iff(b) >> n | Ift(b) >> (x <x< (n | Never() | Rwait(5))) >> Add(n, 1) >m> loop(m))
@@ -315,7 +317,7 @@ fn a_held_call_takes_no_group(rt: HostRuntime) {
     }
 }
 
-// Whether a journal cancels the call with this number.
+// Whether a journal has the cancel of the call with the number `wanted`, from 1.
 fn cancels(journal: &Journal, wanted: u64) -> bool {
     for at in 0..journal.len() {
         if matches!(journal.get(at), Some(Entry::Cancel(number)) if number == wanted) {
@@ -340,6 +342,7 @@ fn ends_refused<R: Threads + Wait + Sync>(
     let Some(journal) = &run.journal else {
         return false;
     };
+    // The refusal came too late to end the run: the call was cancelled before.
     let is_late = run.summary.end == End::Halted && cancels(journal, number);
     is_accepted(alloc, source, b"", &run) && (is_late || run.summary.end == End::Memory)
 }

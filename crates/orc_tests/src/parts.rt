@@ -23,8 +23,8 @@ use std::thread::Threads;
 // How many tasks go through the queues.
 const TASKS: u64 = 10_000;
 
-// Whether each of five calls of `take` gave a pass, which is idle or names a group. The first pass is given back before the fourth call. `J` is a
-// name of the table of groups, for the prover; so it is below.
+// Whether each of five calls of `take` gave a pass. A pass is taken out of a supply, and is idle until it names a group. The first one is given back
+// before the fourth call. `J` is a name of the table of groups, for the prover; so it is below.
 fn takes<J: Naming>(made: Unnamed) -> [bool; 5]
     requires { made.table.shared.table_id ≡ J.table }
 {
@@ -41,7 +41,7 @@ fn takes<J: Naming>(made: Unnamed) -> [bool; 5]
     [took[0], took[1], took[2], fourth.is_some(), fifth.is_some()]
 }
 
-// The table has one group and two passes. The third call finds none; the fourth gets the one that came back, and the fifth finds none.
+// The table has one group and a supply of two passes. The third call finds none; the fourth gets the one that came back, and the fifth finds none.
 #[test]
 fn a_supply_of_two_gives_two(rt: HostRuntime) -> Result<(), Fail> {
     let made = Unnamed::new(rt.alloc(), 1, 2)?;
@@ -49,7 +49,8 @@ fn a_supply_of_two_gives_two(rt: HostRuntime) -> Result<(), Fail> {
     Ok(())
 }
 
-// A group's life: two passes name it, both try to mark it, each leaves it, and it is opened again. Says whether each of these holds:
+// A group's life: two passes name the group, both try to mark it as published, each leaves it, and it is opened again. None if a step of this life
+// isn't possible; else whether each of these holds:
 // - a supply of eight passes gives no part of nine;
 // - the first mark is won, and no other; both passes see that mark alone;
 // - the group isn't opened before its end; the pass that leaves first isn't the last one, and the other is the last one of group 1;
@@ -59,6 +60,7 @@ fn live<J: Naming>(made: Unnamed) -> Option<[bool; 8]>
     requires two { 1 < J.table.words }
 {
     let (groups, mut supply) = made.named::<J>();
+    // Nine passes are asked for, one more than the supply has.
     let parted = supply.part(&groups, 9).is_some();
     let mut first = groups.open(supply.take(&groups)?, 1).ok()?;
     let mut second = groups.enter(&first, supply.take(&groups)?);
@@ -68,6 +70,7 @@ fn live<J: Naming>(made: Unnamed) -> Option<[bool; 8]>
         groups.mark(&mut first, Bit::Published),
     ];
     let bits = groups.look(&mut second);
+    // Refused, since two passes name group 1 still.
     let refused = groups.open(supply.take(&groups)?, 1);
     let opened_early = refused.is_ok();
     let left = groups.leave(first);
@@ -76,6 +79,7 @@ fn live<J: Naming>(made: Unnamed) -> Option<[bool; 8]>
     let last = end.last.map(|last| last.group());
     let mut third = groups.open(left.pass, 1).ok()?;
     let fresh = groups.look(&mut third);
+    // The words of the two groups, as numbers: the low bits count the passes.
     let words = groups.close();
     Some([
         !parted,
@@ -89,7 +93,7 @@ fn live<J: Naming>(made: Unnamed) -> Option<[bool; 8]>
     ])
 }
 
-// There are two groups, 0 and 1, each with a word, and eight passes. `live` opens group 1.
+// There are two groups, 0 and 1, each with a word (the count of the passes that name it, and its marks), and eight passes. `live` opens group 1.
 #[test]
 fn a_group_is_opened_anew_once_all_have_left(rt: HostRuntime) -> Result<(), Fail> {
     let made = Unnamed::new(rt.alloc(), 2, 8)?;
@@ -97,7 +101,8 @@ fn a_group_is_opened_anew_once_all_have_left(rt: HostRuntime) -> Result<(), Fail
     Ok(())
 }
 
-// Has a pass try to win the mark *killed* of its group, and leaves it: whether it won the mark, and whether it was the group's last pass.
+// Has a pass try to win the mark *killed* of its group, which the first one to set it wins, and leave the group. Gives whether the pass won the mark,
+// and whether it was the group's last pass.
 fn mark_and_leave<J: Naming>(groups: &Groups<J>, pass: Pass<J>) -> (bool, bool)
     requires { IsSome (group_of pass) }
 {
@@ -120,6 +125,7 @@ where
         move || mark_and_leave(groups, first),
         move || mark_and_leave(groups, second),
     );
+    // By place 0 of the answers one thread has won, by place 1 one was the last.
     one.0 != two.0 && one.1 != two.1
 }
 
@@ -165,6 +171,7 @@ fn what_was_pushed_last_is_popped_and_what_was_first_is_stolen(
     for task in 1..5u32 {
         assert_eq!(rt; own.push(task), Ok(()));
     }
+    // Thefts and pops take turns up to the fourth. At the last two, a pop and a theft, the queue is empty.
     let taken = [
         theft.steal(),
         own.pop(),
@@ -197,10 +204,12 @@ fn steal_all(
     Ok(stolen)
 }
 
-// The owner pushes all tasks, pops one after every third, and in the end pops what is left. Gives what it popped, and what its queue had no room for.
+// The owner pushes all tasks, pops one after every third, in the end pops what is left, and sets `done` to 1. Gives what it popped, and what its
+// queue had no room for. The error is refused memory.
 fn push_all(alloc: Global, mut own: Own<u64>, done: &AtomicU64) -> Result<Vec<u64>, AllocError> {
     let mut kept = Vec::new(alloc);
     for task in 0..TASKS {
+        // A full queue gives the task back.
         if let Err(back) = own.push(task) {
             kept.push(back)?;
         }
@@ -218,7 +227,7 @@ fn push_all(alloc: Global, mut own: Own<u64>, done: &AtomicU64) -> Result<Vec<u6
     Ok(kept)
 }
 
-// What the owner of a queue kept, and what each of two other threads stole. The error is refused memory.
+// What the owner of a queue kept, and what each of two other threads stole while it worked. The error is refused memory.
 fn share_out(
     rt: &(impl Threads + Wait + Sync),
     alloc: Global,
@@ -242,7 +251,7 @@ fn share_out(
     Ok([kept?, one?, two?])
 }
 
-// All tasks together, sorted, are 0, 1, 2 and so on.
+// An owner and two thieves share the tasks. What the three have got, sorted, is 0, 1, 2 and so on: none is lost, and none comes out twice.
 #[test]
 fn each_task_comes_out_once(rt: HostRuntime) -> Result<(), Fail> {
     let mut queues = Queues::<u64>::new(rt.alloc(), 1)?;
@@ -303,7 +312,7 @@ fn a_worker_takes_its_own_tasks_and_then_those_of_the_others(rt: HostRuntime) ->
     Ok(())
 }
 
-// Each task that the worker finds grows by one, until it finds none. There are `TASKS`, so the loop has turns enough.
+// Each task that the worker finds in its own queue or steals grows by one, until it finds none. There are `TASKS`, so the loop has turns enough.
 fn grow_all(worker_queue: &mut WorkerQueue<&mut u64>) {
     for _ in 0..TASKS {
         let Some(task) = worker_queue.next() else {
@@ -313,7 +322,8 @@ fn grow_all(worker_queue: &mut WorkerQueue<&mut u64>) {
     }
 }
 
-// Four workers' queues, the first of which has all the tasks: the other workers have to steal.
+// Four workers' queues, the first of which has all the tasks: the other workers have to steal. A task is a reference to its number. The error is
+// refused memory.
 fn dealt_to_one<'t>(
     alloc: Global,
     tasks: &'t mut [u64],
@@ -344,7 +354,7 @@ fn grow_on_four<R: Threads + Sync>(
     Ok(())
 }
 
-// Before, the tasks are 0, 1, 2 and so on. Each grows by one once, so they are 1, 2, 3 and so on afterwards.
+// Before, the tasks are the numbers 0, 1, 2 and so on. Each grows by one once, so they are 1, 2, 3 and so on afterwards.
 #[test]
 fn each_task_is_done_once_by_four_workers(rt: HostRuntime) -> Result<(), Fail> {
     let mut tasks = Vec::new(rt.alloc());

@@ -28,11 +28,15 @@ enum Published {
 /// A program, and all that its runs may do.
 #[derive(Clone, Copy)]
 struct Worked {
+    /// The program.
     source: &'static [u8],
+    /// What the sites answer that aren't built in.
     script: &'static [u8],
     /// The most entries of its journal, cancels not counted.
     limit: u64,
+    /// How each run ends.
     end: End,
+    /// The numbers that each run publishes; it publishes nothing else.
     published: Published,
     /// How many entries its journal has, cancels counted; None if any number will do.
     entries: Option<u64>,
@@ -70,7 +74,7 @@ fn publishes(alloc: Global, published: Published, played: &Played) -> Result<boo
     })
 }
 
-// The state in which a run that ends so leaves its program.
+// The state in which a run that ends so leaves its program: one that was stopped by a limit, or by refused memory, could still go on.
 fn state_after(end: End) -> State {
     match end {
         End::Halted => State::Halted,
@@ -90,7 +94,7 @@ fn is_confirmed(alloc: Global, source: &[u8], script: &[u8], played: &Played) ->
     }
 }
 
-// Whether the row allows this run.
+// Whether the row allows this run: its publications, end, time and number of entries are those of the row, and a check confirms its journal.
 fn may_be(alloc: Global, row: &Worked, played: &Played) -> Result<bool, AllocError> {
     let summary = played.summary;
     Ok(
@@ -119,7 +123,8 @@ fn runs<R: Threads + Wait + Sync, G: Gate + Sync>(
     }
 }
 
-// The least number of workers on which the row doesn't allow its run, with an open gate or with one that may hold calls. None if there is none.
+// The least number of workers on which the row doesn't allow its run, with the open gate `Open`, or with `Slow`, which doesn't say that it is open.
+// None if the row allows each of its runs. The error is refused memory.
 fn fault_of<R: Threads + Wait + Sync>(
     rt: &R,
     alloc: Global,
@@ -175,6 +180,7 @@ const TERMS: [Worked; 20] = [
         entries: Some(1),
         ..AT_ONCE
     },
+    // Each value on the left of `>x>` starts the right side once, with x for it.
     Worked {
         source: b"1 >x> Add(x, 10)",
         published: Published::Are(&[11]),
@@ -187,11 +193,13 @@ const TERMS: [Worked; 20] = [
         entries: Some(10),
         ..AT_ONCE
     },
+    // Each of two x meets each of two y.
     Worked {
         source: b"(1 | 2) >x> (10 | 20) >y> Add(x, y)",
         published: Published::InAnyOrder(&[11, 12, 21, 22]),
         ..AT_ONCE
     },
+    // x gets the first value of the two, whichever that is.
     Worked {
         source: b"x <x< (1 | 2)",
         published: Published::OneOf(&[1, 2]),
@@ -203,6 +211,7 @@ const TERMS: [Worked; 20] = [
         published: Published::OneOf(&[2, 4]),
         ..AT_ONCE
     },
+    // The right side of `;` runs only if the left one halts and has published nothing: so not here, but in the next two rows.
     Worked {
         source: b"1 ; 2",
         published: Published::Are(&[1]),
@@ -218,6 +227,7 @@ const TERMS: [Worked; 20] = [
         published: Published::Are(&[2]),
         ..AT_ONCE
     },
+    // The left side publishes 1, so x is 1 alone.
     Worked {
         source: b"(1 ; 2) >x> Add(x, 1)",
         published: Published::Are(&[2]),
@@ -259,6 +269,7 @@ const TERMS: [Worked; 20] = [
         entries: Some(8),
         ..AT_ONCE
     },
+    // y is 5, the sum that f publishes.
     Worked {
         source: b"def f(a, b) = Add(a, b)\nf(2, 3) >y> Add(y, y)",
         published: Published::Are(&[10]),
@@ -276,6 +287,7 @@ const TERMS: [Worked; 20] = [
         published: Published::Are(&[0]),
         ..AT_ONCE
     },
+    // The least number that there is, -2^63.
     Worked {
         source: b"-9223372036854775808",
         published: Published::Are(&[i64::MIN]),
@@ -300,7 +312,7 @@ const TIMES: [Worked; 9] = [
         now: Some(1),
         ..AT_ONCE
     },
-    // The limit counts no cancels.
+    // The limit counts no cancels, so 11 is enough for the 12 entries.
     Worked {
         source: b"x <x< (Rwait(2) >> 20 | Rwait(1) >> 10)",
         limit: 11,
@@ -309,6 +321,7 @@ const TIMES: [Worked; 9] = [
         now: Some(1),
         ..AT_ONCE
     },
+    // Logical time passes to 5, at which the wait is over.
     Worked {
         source: b"Rwait(5) >> 1",
         published: Published::Are(&[1]),
@@ -353,7 +366,7 @@ const TIMES: [Worked; 9] = [
         now: Some(1),
         ..AT_ONCE
     },
-    // Several calls are due at one time.
+    // Several calls are due at one time, and each of the four signals starts a sum.
     Worked {
         source: b"(Rwait(2) | Rwait(2) | Rwait(2) | Rwait(1)) >> Add(1, 1)",
         published: Published::Are(&[2, 2, 2, 2]),
@@ -460,7 +473,8 @@ const LIMITS: [Worked; 9] = [
         entries: Some(1),
         ..AT_ONCE
     },
-    // As many frames, or groups, as there may be: 4,096 left sides of a `>x>`, or 1,023 of a `;`, take two entries each, and one more `def` follows.
+    // As many frames (left sides of a `>x>` around a token), or groups (open sides), as there may be: 4,096 left sides of a `>x>`, or 1,023 of a `;`,
+    // take two entries each, and one more `def` follows.
     Worked {
         source: b"def f() = f() >> 1\nf()",
         end: End::Full,
@@ -550,10 +564,10 @@ fn starves_nothing_on_any_number_of_workers(rt: HostRuntime) -> Result<(), Fail>
     Ok(())
 }
 
-// More races one after another, 2,100, than there are words of groups, of which `run_pool` has 2,048: if the words of dropped groups stay taken, the
-// workers look for a free one again and again, and the run doesn't end. Each race drops two calls. A round has at most 25 entries. The races are in
-// three loops, since the term may get deeper by some levels with each round of a loop, and the check takes 10,000 levels. Each loop ends with 700,
-// the first two for the `>>` behind them.
+// A group is what runs in one side, and a word is the counter of one group. More races come one after another, 2,100, than there are words, of which
+// `run_pool` has 2,048: if the words of dropped groups stay taken, the workers look for a free one again and again, and the run doesn't end. Each
+// race drops two calls. A round has at most 25 entries. The races are in three loops, since the term may get deeper by some levels with each round of
+// a loop, and the check takes 10,000 levels. Each loop ends with 700, the first two for the `>>` behind them.
 const KILLS: [Worked; 1] = [Worked {
     source: b"def loop(n) = Lt(n, 700) >b> (Iff(b) >> n | Ift(b) >> (x <x< (n | Never() | Rwait(5))) >> Add(n, 1) >m> loop(m))\nloop(0) >> loop(0) >> loop(0)",
     script: b"Never() = never\n",
@@ -568,8 +582,8 @@ fn works_a_storm_of_kills(rt: HostRuntime) -> Result<(), Fail> {
     Ok(())
 }
 
-// Nearly as many groups as there may be stay open until the end, and others come and go beside them: 1,020 prunings wait for a call without an
-// answer, and one more is opened in each of a hundred rounds. With the program's own group 1,022 of 1,024 are open then.
+// Nearly as many groups (open sides) as there may be stay open until the end, and others come and go beside them: 1,020 prunings wait for a call
+// without an answer, and one more is opened in each of a hundred rounds. With the program's own group 1,022 of 1,024 are open then.
 const STANDING: [Worked; 1] = [Worked {
     source: b"def idle(n) = Lt(0, n) >b> Ift(b) >> ((x <x< Never()) | Sub(n, 1) >m> idle(m))\ndef loop(n) = Lt(n, 100) >b> (Iff(b) >> n | Ift(b) >> (x <x< (Add(n, 0) | Never())) >> Add(n, 1) >m> loop(m))\nidle(1020) | loop(0)",
     script: b"Never() = never\n",
@@ -606,7 +620,7 @@ fn is_cut<R: Threads + Wait + Sync>(rt: &R, alloc: Global, workers: usize) -> bo
         && is_confirmed(alloc, source, b"", &played)
 }
 
-// It is cut on one worker and on several.
+// The endless loop of `is_cut` ends at its limit on one worker and on several.
 #[test]
 fn works_a_metronome(rt: HostRuntime) {
     for workers in [1, 2, 4, 16] {

@@ -63,7 +63,7 @@ fn times(value: &Value, values: &[Value]) -> u64 {
     times
 }
 
-// Whether these are the same values, in any order.
+// Whether both lists have the same values, each as often, in any order.
 fn are_same(some: &[Value], others: &[Value]) -> bool {
     for value in some {
         if times(value, some) != times(value, others) {
@@ -93,13 +93,13 @@ pub(crate) fn state_of(
     }
 }
 
-/// Whether the check accepts a run's journal.
+/// Whether the check accepts a run's journal. False also if the run has none, or the texts are no program and script.
 pub(crate) fn is_accepted(alloc: Global, source: &[u8], script: &[u8], played: &Played) -> bool {
     state_of(alloc, source, script, played).is_some()
 }
 
 // How a run ends, and at what time, in logical units. `row` is a source, its script, and the values that the run has to publish, in any order. None
-// if it doesn't, or the check refuses its journal, or the run fails.
+// if the run publishes others, or the check refuses its journal, or the run fails, or the texts don't load.
 fn end_of<R: Threads + Wait + Sync, G: Gate + Sync>(
     rt: &R,
     alloc: Global,
@@ -121,6 +121,7 @@ fn end_of<R: Threads + Wait + Sync, G: Gate + Sync>(
 
 // Programs with their scripts. In each order that the rules allow a program here publishes the same values, though perhaps one before another.
 const ORDERED: [(&[u8], &[u8]); 8] = [
+    // It publishes 1, 12 and 13.
     (b"1 | (2 | 3) >x> Add(x, 10)", b""),
     // Each call of `tree` but those with 0 makes two more, and each of the 64 with 0 publishes 0.
     (
@@ -142,7 +143,7 @@ const ORDERED: [(&[u8], &[u8]); 8] = [
         b"def clock(n) = Lt(0, n) >b> Ift(b) >> (n | Rwait(3) >> Sub(n, 1) >m> clock(m))\nclock(9)",
         b"",
     ),
-    // x is 3 at time 9, when `A()` halts; y is 2 at time 4.
+    // x is 3 at time 9, when `A()` halts; y is 2 at time 4. So the run publishes 5 at time 9.
     (
         b"(Add(x, y) <x< (A() ; 3)) <y< Rwait(4) >> 2",
         b"A() = halt after 9\n",
@@ -206,19 +207,19 @@ fn publishes_what_the_reference_does_on_any_number_of_workers(rt: HostRuntime) {
 #[derive(Clone, Copy)]
 struct HeldRow {
     source: &'static [u8],
-    // What it publishes, in any order.
+    // What the program publishes, in any order.
     values: &'static [Value],
-    // The logical time at which it halts.
+    // The logical time at which the program halts.
     now: u64,
     // The calls with the numbers from `first` to `last`, from 1, are held until `wanted` calls have come.
     first: u64,
     last: u64,
     wanted: u64,
-    // The numbers of workers on which it is run, each on its own: no fewer than the calls that are held at a time.
+    // On each of these numbers of workers the program is run once. None is less than the number of calls that are held at a time.
     workers: &'static [usize],
 }
 
-// What the rows of `HELD` publish.
+// What the rows of `HELD` publish, here and in the four constants below: lists of numbers.
 const TWO: &[Value] = &[Value::Number(2)];
 
 const TWO_AND_FOUR: &[Value] = &[Value::Number(2), Value::Number(4)];
@@ -399,7 +400,8 @@ fn sites_may_hold_their_calls(rt: HostRuntime) {
     }
 }
 
-// A single worker waits for a second call, which nobody else can make, and goes on when the gate gives up, here after 1,000 looks.
+// A single worker waits at the gate with call 1 for a second call, which nobody else can make. It goes on when the gate gives up, here after 1,000
+// looks: so the run halts all the same, and `held_all` is false.
 #[test]
 fn one_worker_holds_one_call(rt: HostRuntime) {
     let gate = Turnstile::that_looks(1, 2, 2, 1000);
@@ -420,7 +422,8 @@ const OUT_OF_RANGE: [(usize, u64); 5] = [
     (16, 10_000_001),
 ];
 
-// `run_pool`, `survey` (here of three orders) and `run_alone`, which has no workers, refuse them as Range; the ends of the ranges are accepted.
+// `run_pool`, `survey` (which makes runs in many orders, here three) and `run_alone`, which has no workers, refuse them with the fault Range. The
+// last loop shows that `run_pool` accepts the ends of the ranges.
 #[test]
 fn refuses_workers_and_limits_out_of_range(rt: HostRuntime) {
     let alloc = rt.alloc();

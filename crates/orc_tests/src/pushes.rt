@@ -14,6 +14,7 @@ use std::test::Fail;
 fn text_of(alloc: Global, journal: &Journal) -> Result<Vec<u8>, AllocError> {
     let mut text = Vec::new(alloc);
     if let Ok(answers) = read_script(alloc, b"A(_, _) = 1\n") {
+        // The text has the names of the sites, which are in this table of sites.
         write_journal(journal, &answers, &mut text)?;
     }
     Ok(text)

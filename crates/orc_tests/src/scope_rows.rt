@@ -29,7 +29,7 @@ fn add_parallel(text: &mut Vec<u8>, operators: usize) -> Result<(), AllocError> 
     Ok(())
 }
 
-// Eight definitions of 8,001 nodes each.
+// Eight definitions of 8,001 nodes each, the numbers and operators of `1|1|..|1`. The error is refused memory.
 fn eight_definitions(alloc: Global) -> Result<Vec<u8>, AllocError> {
     let mut text = Vec::new(alloc);
     let names = b"abcdefgh";
@@ -81,6 +81,7 @@ fn has_arguments(program: &Program) -> bool {
     program.operands(outer) == sum.as_slice() && program.operands(inner) == parts.as_slice()
 }
 
+// A call as an argument is written out: its value goes to a new name, and the outer call waits for it.
 #[test]
 fn writes_out_arguments(rt: HostRuntime) {
     let program = program(rt.alloc(), b"Add(Add(1, 2), 4)").expect(&rt, "a program");
@@ -109,6 +110,7 @@ fn has_val(program: &Program) -> bool {
     main == x && body == *parameter
 }
 
+// A `val` is written out as a pruning, and a parameter hides the definition of the same name.
 #[test]
 fn writes_out_val(rt: HostRuntime) {
     let program = program(rt.alloc(), b"def f(f) = f\nval x = f(1) x").expect(&rt, "a program");

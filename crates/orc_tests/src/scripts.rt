@@ -25,11 +25,12 @@ const WORDS: [&str; 6] = ["0", "1", "2", "3", "4", "_"];
 // Numbers at random, the same ones each time.
 #[derive(Drop)]
 struct Dice {
+    // The generator's state, from which each next number is computed.
     state: u64,
 }
 
 impl Dice {
-    // A number below `sides`.
+    // A number below `sides`; 0 if `sides` is 0.
     fn roll(&mut self, sides: u64) -> u64 {
         // The usual constants of a generator of 64 bits (Knuth's MMIX). The low bits repeat soon, so the number is taken from the high ones.
         self.state = self
@@ -39,7 +40,7 @@ impl Dice {
         (self.state >> 33).checked_rem(sides).unwrap_or(0)
     }
 
-    // One pattern: a number, or a `_` with a chance of `wildcards` in a hundred.
+    // One pattern: a number from 0 to 4, or a `_` with a chance of `wildcards` in a hundred.
     fn place(&mut self, wildcards: u64) -> u64 {
         if self.roll(100) < wildcards {
             ANYTHING
@@ -78,7 +79,7 @@ fn first_match(lines: &[Places], call: &Places) -> Option<usize> {
     None
 }
 
-// How a script spells a pattern.
+// How a script spells this pattern, which is 0 to 5; `_` for any greater number, which doesn't come.
 fn word(place: u64) -> &'static str {
     match WORDS.get(place as usize) {
         Some(word) => word,
@@ -97,7 +98,7 @@ fn script(alloc: Global, lines: &[Places]) -> Result<String, AllocError> {
     Ok(text)
 }
 
-// An argument as a value. `min` shows the prover that the number fits.
+// An argument, below 5, as a value. `min` shows the prover that the number fits.
 fn number(place: u64) -> Value {
     Value::Number(place.min(5) as i64)
 }
@@ -110,7 +111,9 @@ fn answer(answers: &Answers, call: &Places) -> Option<usize> {
     args.push(number(call[1]));
     args.push(number(call[2]));
     match answers.find(site, &args, 1) {
+        // The line answers with its own number, without a delay.
         Found::After(Answer::Value(Value::Number(place)), 0) if place >= 0 => Some(place as usize),
+        // No line matches, and the call halts.
         _ => None,
     }
 }
@@ -128,6 +131,7 @@ fn trial(alloc: Global, dice: &mut Dice) -> Result<bool, AllocError> {
         return Ok(false);
     };
     for _call in 0..CALLS {
+        // With no chance of a `_` these are three arguments.
         let call = dice.places(0);
         if answer(&answers, &call) != first_match(&lines, &call) {
             return Ok(false);
@@ -136,6 +140,7 @@ fn trial(alloc: Global, dice: &mut Dice) -> Result<bool, AllocError> {
     Ok(true)
 }
 
+// Sixty scripts at random, the same ones each time, each with 200 calls: the table answers each as a look at each line does.
 #[test]
 fn the_first_line_that_matches_answers(rt: HostRuntime) -> Result<(), Fail> {
     let mut dice = Dice { state: 1 };

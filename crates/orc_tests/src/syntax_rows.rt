@@ -58,6 +58,7 @@ fn are_answered(alloc: Global, mut text: Vec<u8>, count: &mut Count) -> bool {
         if !is_answered(alloc, &text[..at], count) {
             return false;
         }
+        // The byte is put back once both changes were tried.
         let byte = text[at];
         for changed in [b'(', 0xff] {
             text[at] = changed;
