@@ -11,19 +11,20 @@ const MOST_ORDERS: i64 = 1_000_000;
 /// In how many orders `outcomes` runs a program where no number is asked for.
 const DEFAULT_ORDERS: u64 = 100;
 
-/// The most states of a search of `outcomes --all`, or of one search of `test`; also the greatest number that `--show` takes.
+/// The most states (places at which a run can be) of a search of `outcomes --all`, or of one search of `test`; also the greatest number that `--show`
+/// takes.
 const MOST_STATES: i64 = 10_000_000;
 
-/// The most states of a search of `outcomes --all` or of `test` where no number is asked for.
+/// The most states (places at which a run can be) of a search of `outcomes --all` or of `test`, where no number is asked for.
 pub const DEFAULT_STATES: u64 = 5_000;
 
-/// How many ways of each case `test` tries at most where no number is asked for.
+/// How many ways of each case (scripts by which its services may answer) `test` tries at most, where no number is asked for.
 pub const DEFAULT_WAYS: u64 = 10_000;
 
-/// In how many orders `test` runs each way where no number is asked for.
+/// In how many orders `test` runs each way, where no number is asked for.
 pub const DEFAULT_TRIALS: u64 = 20;
 
-/// The most ways of a case that `test` tries.
+/// The most ways of a case (scripts by which its services may answer) that `test` tries: the most that `--ways` takes.
 const MOST_WAYS: i64 = 1_000_000;
 
 /// The most failures that a test may report: one of each of 1,024 claims, and one of each of 256 cases, whose runs have to end by themselves.
@@ -31,15 +32,15 @@ const MOST_FAILURES: i64 = 1_280;
 
 /// An argument of one or more commands.
 pub(crate) struct Argument {
-    /// The commands that take it, by their names in `COMMANDS`.
+    /// The commands that take the argument, by their names in `COMMANDS`.
     pub(crate) of: &'static [&'static str],
-    /// Its name. An option is written with `--` before it.
+    /// The argument's name. An option is written with `--` before it.
     pub(crate) name: &'static str,
-    /// What is written for it.
+    /// What is written for the argument on the command line.
     pub(crate) takes: Takes,
-    /// Which other argument it excludes or needs.
+    /// Which other argument this one excludes or needs.
     pub(crate) beside: Beside,
-    /// What the help says of it, without its range and its default.
+    /// What the help says of the argument, without its range and its default.
     pub(crate) help: &'static str,
 }
 
@@ -53,13 +54,13 @@ pub(crate) enum Takes {
     Nothing,
     /// The argument's name, and a text.
     Text(&'static str),
-    /// The argument's name, and one of these words. The first field is the placeholder; the last one is the word where it is left out.
+    /// The argument's name, and one of these words. The first field is the placeholder; the last one is the word where the argument is left out.
     Word(&'static str, &'static [&'static str], &'static str),
     /// The argument's name, and any number from 0 to 2^64 - 1.
     Number,
     /// The argument's name, and a number from 1 to this one, without a default: which of several things is meant.
     Choice(i64),
-    /// The argument's name, and a number from the first to the second one, both allowed; the third one is the number where it is left out.
+    /// The argument's name, and a number from the first to the second one, both allowed; the third one is the number where the argument is left out.
     Setting(i64, i64, u64),
 }
 
@@ -67,9 +68,9 @@ pub(crate) enum Takes {
 pub(crate) enum Beside {
     /// No other.
     Anything,
-    /// It excludes the argument of this name: only one of them may be written.
+    /// The argument excludes the one of this name: only one of them may be written.
     Not(&'static str),
-    /// It needs the argument of this name: it may be written only beside it.
+    /// The argument needs the one of this name: it may be written only beside that one.
     Only(&'static str),
 }
 
@@ -92,7 +93,8 @@ pub(crate) const COMMANDS: [(&str, &str); 6] = [
     ),
 ];
 
-/// All arguments. The help of a command has its own in this order. A name that means different things to different commands has a row for each.
+/// All arguments. The help of a command lists the arguments that the command takes, in this order. A name that means different things to different
+/// commands has a row for each.
 pub(crate) static ARGUMENTS: [Argument; 29] = [
     Argument {
         of: &["run", "outcomes", "check", "draw", "print", "test"],
@@ -132,6 +134,7 @@ pub(crate) static ARGUMENTS: [Argument; 29] = [
     Argument {
         of: &["test"],
         name: "ways",
+        // The least and the greatest number, and the default.
         takes: Takes::Setting(1, MOST_WAYS, DEFAULT_WAYS),
         beside: Beside::Anything,
         help: "How many ways of each case are tried",
@@ -139,6 +142,7 @@ pub(crate) static ARGUMENTS: [Argument; 29] = [
     Argument {
         of: &["test"],
         name: "orders",
+        // The least and the greatest number, and the default.
         takes: Takes::Setting(1, MOST_ORDERS, DEFAULT_TRIALS),
         beside: Beside::Anything,
         help: "In how many orders each way is run",
@@ -146,6 +150,7 @@ pub(crate) static ARGUMENTS: [Argument; 29] = [
     Argument {
         of: &["test"],
         name: "states",
+        // From 0: with 0 nothing is searched.
         takes: Takes::Setting(0, MOST_STATES, DEFAULT_STATES),
         beside: Beside::Anything,
         help: "The greatest number of states of a search for \"every schedule\"",
@@ -153,6 +158,7 @@ pub(crate) static ARGUMENTS: [Argument; 29] = [
     Argument {
         of: &["run", "outcomes", "test"],
         name: "workers",
+        // The least and the greatest number, and the default.
         takes: Takes::Setting(1, MOST_WORKERS as i64, DEFAULT_WORKERS as u64),
         beside: Beside::Anything,
         help: "The number of workers",
@@ -161,6 +167,7 @@ pub(crate) static ARGUMENTS: [Argument; 29] = [
         of: &["run"],
         name: "order",
         takes: Takes::Number,
+        // A numbered order is one worker's, so no number of workers may be given.
         beside: Beside::Not("workers"),
         help: "Take another order where the rules leave it free, on one worker",
     },
@@ -168,6 +175,7 @@ pub(crate) static ARGUMENTS: [Argument; 29] = [
         of: &["draw"],
         name: "order",
         takes: Takes::Number,
+        // Written beside `journal`, the argument is refused.
         beside: Beside::Not("journal"),
         help: "Without JOURNAL: run it in this order, on one worker",
     },
@@ -175,12 +183,14 @@ pub(crate) static ARGUMENTS: [Argument; 29] = [
         of: &["run"],
         name: "unordered",
         takes: Takes::Nothing,
+        // Written beside `--order`, the argument is refused.
         beside: Beside::Not("order"),
         help: "Let the workers race where the rules leave the order free; runs may differ",
     },
     Argument {
         of: &["outcomes"],
         name: "orders",
+        // The least and the greatest number, and the default.
         takes: Takes::Setting(1, MOST_ORDERS, DEFAULT_ORDERS),
         beside: Beside::Anything,
         help: "In how many orders the program is run",
@@ -188,6 +198,7 @@ pub(crate) static ARGUMENTS: [Argument; 29] = [
     Argument {
         of: &["run", "outcomes", "test"],
         name: "limit",
+        // The least and the greatest number, and the default.
         takes: Takes::Setting(1, MOST_ENTRIES as i64, DEFAULT_ENTRIES),
         beside: Beside::Anything,
         help: "The greatest number of journal entries",
@@ -195,7 +206,9 @@ pub(crate) static ARGUMENTS: [Argument; 29] = [
     Argument {
         of: &["draw"],
         name: "limit",
+        // The least and the greatest number, and the default.
         takes: Takes::Setting(1, MOST_ENTRIES as i64, DEFAULT_ENTRIES),
+        // Written beside `journal`, the argument is refused.
         beside: Beside::Not("journal"),
         help: "The greatest number of journal entries",
     },
@@ -203,6 +216,7 @@ pub(crate) static ARGUMENTS: [Argument; 29] = [
         of: &["run"],
         name: "times",
         takes: Takes::Nothing,
+        // Written beside `--journal`, the argument is refused.
         beside: Beside::Not("journal"),
         help: "Write the time of each value behind it",
     },
@@ -223,13 +237,16 @@ pub(crate) static ARGUMENTS: [Argument; 29] = [
     Argument {
         of: &["outcomes"],
         name: "states",
+        // The least and the greatest number, and the default.
         takes: Takes::Setting(1, MOST_STATES, DEFAULT_STATES),
+        // Without `--all` the argument is refused.
         beside: Beside::Only("all"),
         help: "With --all: the greatest number of states",
     },
     Argument {
         of: &["outcomes"],
         name: "show",
+        // A number from 1 to this one, without a default.
         takes: Takes::Choice(MOST_STATES),
         beside: Beside::Anything,
         help: "Write the journal of a run with the outcome on line K instead",
@@ -251,7 +268,9 @@ pub(crate) static ARGUMENTS: [Argument; 29] = [
     Argument {
         of: &["draw"],
         name: "width",
+        // From 60 to 400 columns, and 80 where the option is left out.
         takes: Takes::Setting(60, 400, 80),
+        // Without `--text` the argument is refused.
         beside: Beside::Only("text"),
         help: "With --text: about how many columns wide",
     },
@@ -265,6 +284,7 @@ pub(crate) static ARGUMENTS: [Argument; 29] = [
     Argument {
         of: &["draw"],
         name: "theme",
+        // The placeholder in the help, the words that are taken, and the default.
         takes: Takes::Word("COLOURS", &["auto", "light", "dark"], "auto"),
         beside: Beside::Anything,
         help: "The colours of the SVG",
@@ -272,6 +292,7 @@ pub(crate) static ARGUMENTS: [Argument; 29] = [
     Argument {
         of: &["test"],
         name: "fail",
+        // A number from 1 to this one, without a default.
         takes: Takes::Choice(MOST_FAILURES),
         beside: Beside::Anything,
         help: "Write the script that shows failure K instead",
@@ -280,6 +301,7 @@ pub(crate) static ARGUMENTS: [Argument; 29] = [
         of: &["test"],
         name: "journal",
         takes: Takes::Nothing,
+        // Without `--fail` the argument is refused.
         beside: Beside::Only("fail"),
         help: "With --fail: write the journal of its run",
     },

@@ -26,21 +26,23 @@ Status:
 // The texts of a setting (an option with a range of numbers and a default) that aren't in the table, since they have its numbers.
 #[derive(Drop)]
 struct Told {
-    /// The number where it is left out.
+    /// The number where the setting is left out, as a text.
     default: String,
-    /// What the help says of it, with its range.
+    /// What the help says of the setting, with its range.
     help: String,
 }
 
-// An argument, and if it is a setting its texts; None for any other.
+// An argument of the table, and if it is a setting (an option with a range and a default) its texts; None for any other.
 #[derive(Drop)]
 struct Row {
+    // A row of the table `ARGUMENTS`.
     argument: &'static Argument,
+    // The texts of a setting.
     told: Option<Told>,
 }
 
 impl Row {
-    // An argument with its texts. The error is refused memory.
+    // An argument with its texts, which are made if it is a setting. The error is refused memory.
     fn new(alloc: Global, argument: &'static Argument) -> Result<Row, AllocError> {
         let told = match &argument.takes {
             Takes::Setting(least, most, default) => {
@@ -56,7 +58,7 @@ impl Row {
         Ok(Row { argument, told })
     }
 
-    // Whether the command of this name takes the argument.
+    // Whether the command of this name, such as `run`, takes the argument.
     fn is_of(&self, command: &str) -> bool {
         for one in self.argument.of {
             if *one == command {
@@ -66,7 +68,7 @@ impl Row {
         false
     }
 
-    // Adds to `clap`'s argument what the help says of this row's, and the default of a setting.
+    // Adds to `argument`, which `clap` is to read, what the help says of this row's argument, and the default of a setting.
     fn helping<'a>(&'a self, argument: Arg<'a>) -> Arg<'a> {
         match &self.told {
             Some(told) => argument
@@ -76,7 +78,7 @@ impl Row {
         }
     }
 
-    // Adds to `clap`'s argument which other one this row's excludes or needs. The error is refused memory.
+    // Adds to `argument`, which `clap` is to read, which other argument this row's excludes or needs. The error is refused memory.
     fn beside<'a>(&self, argument: Arg<'a>) -> Result<Arg<'a>, AllocError> {
         match self.argument.beside {
             Beside::Anything => Ok(argument),
@@ -85,9 +87,10 @@ impl Row {
         }
     }
 
-    // The argument as `clap` reads it, with the placeholder for its text, its range or words, and its default. The error is refused memory.
+    // The row's argument as `clap` reads it, with the placeholder for its text, its range or words, and its default. The error is refused memory.
     fn argument<'a>(&'a self, alloc: Global) -> Result<Arg<'a>, AllocError> {
         let name = self.argument.name;
+        // The name, the help, and which other argument is excluded or needed. Without `long` the argument goes by its place.
         let named = self.beside(self.helping(Arg::new(alloc, name)))?;
         Ok(match self.argument.takes {
             Takes::File(called) => named.value_name(called).required(true),
@@ -115,9 +118,10 @@ impl Row {
     }
 }
 
-/// All arguments, with the texts that `clap` borrows while it reads a command line: so they are made before it, and live as long as what is read.
+/// All arguments, with the texts that `clap` borrows while it reads a command line: so they are made before the line is read, and live as long as
+/// what is read.
 pub struct ArgumentTexts {
-    /// In the order of `ARGUMENTS`.
+    /// A row for each argument, in the order of `ARGUMENTS`.
     rows: Vec<Row>,
 }
 
@@ -147,6 +151,7 @@ impl ArgumentTexts {
     ) -> Result<Command<'a>, AllocError> {
         let mut command = Command::new(alloc, name).about(about);
         for row in self.rows.as_slice() {
+            // The table has the arguments of all commands; these are the command's own.
             if row.is_of(name) {
                 command = command.arg(row.argument(alloc)?)?;
             }
@@ -154,7 +159,7 @@ impl ArgumentTexts {
         Ok(command)
     }
 
-    /// The whole command line as `clap` reads it. The error is refused memory.
+    /// The whole command line as `clap` reads it: `orc` with a subcommand for each command. The error is refused memory.
     pub(crate) fn orc_command<'a>(&'a self, alloc: Global) -> Result<Command<'a>, AllocError> {
         let mut orc = Command::new(alloc, "orc")
             .version(VERSION)

@@ -19,12 +19,14 @@ use orc_rules::limits::DEFAULT_WORKERS;
 use std::alloc::Global;
 use std::convert::AsStr;
 
-// Whether a flag of this name is there. It states nothing, so that no caller's proof reads what `clap` states of flags.
+// Whether a flag of this name is on the command line. The function has no contract, so that no caller's proof reads what `clap` states of flags.
+// `given` has the command's arguments, as `clap` has read them.
 fn is_given(given: &ArgMatches, name: &str) -> bool {
     given.get_flag(name)
 }
 
-// What is written of a run: its journal, its values with their times, or its values. `clap` refuses both flags together.
+// What is written of a run: its journal, its values with their times, or its values. `clap` refuses a line with both flags, `--journal` and
+// `--times`.
 fn wanted_of(given: &ArgMatches) -> Wanted {
     if is_given(given, "journal") {
         Wanted::Journal
@@ -35,7 +37,8 @@ fn wanted_of(given: &ArgMatches) -> Wanted {
     }
 }
 
-// The order with the number that `--order` gives, else the fixed one. `Unordered` is asked for by a flag, which `options_of` reads.
+// The order of a run (what comes first where the rules leave it free): the one with the number that `--order` gives, else the fixed one. `Unordered`
+// is asked for by a flag, which `options_of` reads.
 fn order_of(given: &ArgMatches) -> Order {
     match given.get_one::<u64>("order") {
         Some(number) => Order::Numbered(number),
@@ -43,13 +46,15 @@ fn order_of(given: &ArgMatches) -> Order {
     }
 }
 
-// How a program is run. A numbered order is one worker's, so `clap` refuses a number of workers beside it, and the default number isn't read.
+// How a program is run, by the options of `run`. None where `clap` lacks one that has a default. A numbered order is one worker's, so `clap` refuses
+// a number of workers beside it, and the default number isn't read. `given` has the command's arguments, as `clap` has read them.
 fn options_of(given: &ArgMatches) -> Option<RunOptions> {
     let order = if is_given(given, "unordered") {
         Order::Unordered
     } else {
         order_of(given)
     };
+    // The number of `--workers`, unless the order is numbered.
     let workers = match order {
         Order::Numbered(_) => 1,
         Order::Fixed | Order::Unordered => given.get_one::<u64>("workers")?,
@@ -71,7 +76,8 @@ fn survey_options_of(given: &ArgMatches) -> Option<SurveyOptions> {
     })
 }
 
-// Through how many states all schedules are searched at most. None where `--all` isn't given: then nothing is searched.
+// Through how many states (places at which a run can be) all schedules are searched at most. None where `--all` isn't given: then nothing is
+// searched. `given` has the command's arguments, as `clap` has read them.
 fn states_of(given: &ArgMatches) -> Option<u64> {
     if !is_given(given, "all") {
         return None;
@@ -83,7 +89,7 @@ fn states_of(given: &ArgMatches) -> Option<u64> {
 fn outcomes_of<'a>(program: ProgramPaths<'a>, given: &ArgMatches<'a>) -> Option<Job<'a>> {
     let survey = survey_options_of(given)?;
     let states = states_of(given);
-    // `--show` gives the line of the outcome, from 1.
+    // `--show` gives the line of the outcome, from 1. Some: that outcome's journal is asked for.
     if let Some(number) = given.get_one::<u64>("show") {
         let options = ShowOptions {
             survey,
@@ -92,6 +98,7 @@ fn outcomes_of<'a>(program: ProgramPaths<'a>, given: &ArgMatches<'a>) -> Option<
         };
         return Some(Job::Show { program, options });
     }
+    // Without `--show`: with `--all` the schedules are searched, too.
     match states {
         Some(states) => {
             let options = SearchOptions { survey, states };
@@ -104,9 +111,11 @@ fn outcomes_of<'a>(program: ProgramPaths<'a>, given: &ArgMatches<'a>) -> Option<
     }
 }
 
-// What is written of a test: the script or the journal of the failure that `--fail` names, else a line for each claim.
+// What is written of a test: the script or the journal of the failure that `--fail` names, else a line for each claim. `given` has the command's
+// arguments, as `clap` has read them.
 fn shown_of(given: &ArgMatches) -> Shown {
     match given.get_one::<u64>("fail") {
+        // Without `--fail`: a line for each claim.
         None => Shown::Table,
         Some(number) => {
             if is_given(given, "journal") {
@@ -130,7 +139,8 @@ fn test_options_of(given: &ArgMatches) -> Option<TestOptions> {
     })
 }
 
-// As what a journal is drawn: as letters of this width, or as SVG in these colours.
+// As what a journal is drawn: as letters, `--width` columns wide, or as SVG in the colours of `--theme`. None where `clap` lacks one of these, though
+// each has a default. `given` has the command's arguments, as `clap` has read them.
 fn form_of(given: &ArgMatches) -> Option<Form> {
     if is_given(given, "text") {
         return Some(Form::Text(given.get_one::<u64>("width")?));
@@ -144,7 +154,7 @@ fn form_of(given: &ArgMatches) -> Option<Form> {
     Some(Form::Svg(theme))
 }
 
-// The job of `check`: with the claims of a test, or without.
+// The job of `check`: with the claims of a test, or without. None where `clap` lacks the journal, though it requires one.
 fn check_of<'a>(program: ProgramPaths<'a>, given: &ArgMatches<'a>) -> Option<Job<'a>> {
     let journal = given.get_str("journal")?;
     match given.get_str("claims") {
@@ -157,11 +167,14 @@ fn check_of<'a>(program: ProgramPaths<'a>, given: &ArgMatches<'a>) -> Option<Job
     }
 }
 
-// How a program is run whose journal is drawn. `draw` takes no number of workers, and no flag for a run that is unordered.
+// How a program is run whose journal is drawn. None where `clap` lacks the limit, though it has a default. `draw` takes no number of workers, and no
+// flag for a run that is unordered. `given` has the command's arguments, as `clap` has read them.
 fn drawn_run_of(given: &ArgMatches) -> Option<RunOptions> {
     let order = order_of(given);
+    // A numbered order is one worker's; else the default number.
     let workers = match order {
         Order::Numbered(_) => 1,
+        // `order_of` never gives Unordered: the `match` only has to name it.
         Order::Fixed | Order::Unordered => DEFAULT_WORKERS as u64,
     };
     Some(RunOptions {
@@ -172,7 +185,7 @@ fn drawn_run_of(given: &ArgMatches) -> Option<RunOptions> {
     })
 }
 
-// The job of `draw`: of a journal that is given, or of a run that is made.
+// The job of `draw`: of a journal that is given, or of a run that is made for it. None where `clap` lacks an option with a default.
 fn draw_of<'a>(program: ProgramPaths<'a>, given: &ArgMatches<'a>) -> Option<Job<'a>> {
     let drawing = orc_draw::Options {
         form: form_of(given)?,
@@ -194,7 +207,8 @@ fn draw_of<'a>(program: ProgramPaths<'a>, given: &ArgMatches<'a>) -> Option<Job<
     }
 }
 
-// What the words of a command that takes a script ask for. None too for another command: `job_of` has `print`, and there are no others.
+// What the words of the command `name`, which takes a script, ask for. None where `clap` lacks a file or a setting, and for another command: `job_of`
+// has `print`, and there are no others. `given` has the command's arguments, as `clap` has read them.
 fn job_with_script<'a>(
     name: &str,
     program: ProgramPaths<'a>,
@@ -217,9 +231,11 @@ fn job_with_script<'a>(
     }
 }
 
-// What the words of the command with this name ask for. None where `clap` lacks a file or a setting, which doesn't come.
+// What the words of the command with this name ask for. None where `clap` lacks a file or a setting, which doesn't come: `clap` requires the files,
+// and gives the defaults.
 fn job_of<'a>(name: &str, given: &ArgMatches<'a>) -> Option<Job<'a>> {
     let file = given.get_str("file")?;
+    // `print` takes no script.
     if name == "print" {
         return Some(Job::Print { file });
     }
@@ -236,8 +252,8 @@ const SHARED: &str = "'-' stands for more than one file, and standard input can 
 /// Why a command line is refused whose numbers are out of range. `clap` refuses it before, with the range.
 const OUT_OF_RANGE: &str = "the number of workers or of entries is out of range";
 
-/// Reads a command line, whose first word is the program's name. A job that is given names standard input for one file at most, and the numbers of
-/// workers and of entries that it asks for are within the limits.
+/// Reads a command line, whose first word is the program's name. `texts` has what the help says of the arguments. The job of an answer Ok names
+/// standard input for one file at most, and the numbers of workers and of entries that it asks for are within the limits.
 ///
 /// The error is `clap`'s: it has the text of the help or of the version where the line asks for them, else why the line is refused; or memory was
 /// refused.
@@ -249,9 +265,11 @@ pub fn read_words<'a, S: AsStr>(
     ensures once { IfOk result (λ asked. shares asked.job ≡ false) }
     ensures ranges { IfOk result (λ asked. AreInRange asked.job) }
 {
+    // The commands and arguments as `clap` reads them.
     let mut command = texts.orc_command(alloc)?;
     let matches = command.try_get_matches_from_mut(words)?;
     if let Some((name, given)) = matches.subcommand() {
+        // None doesn't come: `clap` gives each command its files and settings.
         if let Some(job) = job_of(name, given) {
             if job.shares_input() {
                 return Err(command.error(ErrorKind::ArgumentConflict, SHARED)?);

@@ -21,19 +21,20 @@ pub enum Bound {
     Void,
 }
 
-/// A scope: one name, with its meaning, more than in the scope that it extends. Scope 0 has no names, and scope n is record n - 1 of a list.
+/// A scope: one name, with its meaning, more than in the scope `outer`, which it extends. Scope 0 has no names, and scope n is record n - 1 of a
+/// list.
 #[derive(Clone, Copy)]
 pub struct Scope {
     /// The name, by its number.
     pub name: u32,
     /// What the name means. A cell stays here when it is bound or lost: the table of cells says what has become of it.
     pub bound: Bound,
-    /// The number of the scope that it extends.
+    /// The number of the scope that this one extends.
     pub outer: u32,
 }
 
-// What a meaning has become by now: a cell what the table of cells says of it, or itself if it isn't bound, or isn't in the table. A value and void
-// stay as they are.
+// What a meaning has become by now. For a cell (the variable of an opened `f <x< g`) it is what the table `cells` has at the cell's number, or the
+// cell itself if the table has no such place; a cell that isn't bound stands in the table as itself. A value and void stay as they are.
 fn current(cells: &[Bound], bound: Bound) -> Bound
     ensures { result ≡ current cells.now bound }
 {
@@ -42,11 +43,13 @@ fn current(cells: &[Bound], bound: Bound) -> Bound
             Some(now) => *now,
             None => bound,
         },
+        // A value or void: nothing changes it any more.
         _ => bound,
     }
 }
 
-// The record at a place, counted from 0. None if there are fewer records. The `match` names the two cases for the proof.
+// The record at the place `i` of the list of scopes, from 0: that of scope `i + 1`. None if there are fewer records. The `match` names the two cases
+// for the proof.
 fn scope_at(scopes: &[StoredScope], i: usize) -> Option<&StoredScope>
     ensures there { IfSome result (λ s. slice_get scopes.now i ≡ Some s.now) }
     ensures none { IfNone result (slice_get scopes.now i ≡ None) }
@@ -57,14 +60,17 @@ fn scope_at(scopes: &[StoredScope], i: usize) -> Option<&StoredScope>
     }
 }
 
-// What a name means in a scope, as its cell is by now. None if the scope has no such name.
+// What the name with the number `name` means in the scope with the number `scope`; if it means a cell, what that cell has become by now. None if the
+// scope has no such name.
 fn bound_of(scopes: &[StoredScope], cells: &[Bound], name: u32, scope: usize) -> Option<Bound>
     ensures bound { IfSome result (λ b. Means cells.now scopes.now scope (Name name) b) }
     ensures free { IfNone result (IsFree cells.now scopes.now scope (Name name)) }
 {
+    // The number of the scope that is looked at: from the given one outwards.
     let mut at = scope;
     // Each scope extends one of a lower number, so scope 0 is reached in time; the bound makes the loop end for any list.
     for _step in 0..=scopes.len() {
+        // Scope 0 has no names.
         if at == 0 {
             return None;
         }
@@ -82,8 +88,9 @@ fn bound_of(scopes: &[StoredScope], cells: &[Bound], name: u32, scope: usize) ->
     None
 }
 
-/// What an operand means in a scope: a value, a cell that isn't bound, or void. None for a name that the scope doesn't have. The clauses promise this
-/// of scopes of which each extends an earlier one. The time grows with the number of scopes from this one outwards to the one that adds the name.
+/// What an operand means in the scope with the number `scope`: a value, a cell that isn't bound, or void (a cell that can't get a value any more).
+/// None for a name that the scope doesn't have. The clauses promise this if each of the `scopes` extends an earlier one. The time grows with the
+/// number of scopes from this one outwards to the one that adds the name.
 pub fn meaning(
     scopes: &[StoredScope],
     cells: &[Bound],
@@ -94,13 +101,14 @@ pub fn meaning(
     ensures free { IfNone result (IsFree cells.now scopes.now scope operand) }
 {
     match operand {
+        // A literal means its value in each scope.
         Operand::Is(v) => Some(Bound::Is(v)),
         Operand::Name(name) => bound_of(scopes, cells, name, scope),
     }
 }
 
-/// Whether the operands mean these values in a scope, as many and in this order: not if one of them is a cell that isn't bound, void, or a name that
-/// the scope doesn't have. The clauses promise this of scopes of which each extends an earlier one.
+/// Whether the operands mean these values, `args`, in the scope with the number `scope`, as many and in this order: not if one of them is a cell that
+/// isn't bound, void, or a name that the scope doesn't have. The clauses promise this if each of the `scopes` extends an earlier one.
 pub fn are_arguments(
     scopes: &[StoredScope],
     cells: &[Bound],
@@ -111,8 +119,9 @@ pub fn are_arguments(
     ensures are { result ≡ true → AreArguments cells.now scopes.now scope operands.now args.now }
     ensures others { result ≡ false → AreOthers cells.now scopes.now scope operands.now args.now }
 {
-    // It calls itself once for each argument of one call, `MOST_ARGUMENTS` times at most.
+    // The function calls itself once for each argument of one call, `MOST_ARGUMENTS` times at most.
     match operands {
+        // No operand is left: the lists are as long if no value is left, too.
         [] => args.is_empty(),
         [operand, operands @ ..] => match args {
             [] => false,
@@ -120,6 +129,7 @@ pub fn are_arguments(
                 Some(Bound::Is(v)) if v == *arg => {
                     are_arguments(scopes, cells, operands, args, scope)
                 }
+                // A cell without a value, void, no such name, or another value.
                 _ => false,
             },
         },

@@ -8,7 +8,7 @@ use std::alloc::AllocError;
 use std::marker::Model;
 use std::mem::size_of;
 
-// A `Bound` with a variant for each kind of value, so that it takes 16 bytes.
+// A `Bound`, which is what a name means, with a variant for each kind of value, so that it takes 16 bytes.
 #[derive(Clone, Copy)]
 enum Put {
     Number(i64),
@@ -22,15 +22,17 @@ enum Put {
 /// `Scope`.
 #[derive(Clone, Copy)]
 pub struct StoredScope {
+    // The number of the name that the scope adds, and that of the scope that it extends.
     name: u32,
     outer: u32,
+    // What the name means.
     put: Put,
 }
 
-// The size that the comment above promises.
+// The size of 24 bytes, which the comment of `StoredScope` promises; the prover checks it.
 const _: () = prove!(size_of::<StoredScope>() == 24);
 
-// Contracts see the scope that is stored.
+// Contracts see the `Scope` that is stored.
 impl Model for StoredScope {
     ghost use Rattle.orc_env.specs.Stored.{bound_in, put_for, is_again};
     ghost use Rattle.orc_env.specs.declared.names.Scope.{Scope};
@@ -51,6 +53,7 @@ impl StoredScope {
     pub fn new(scope: Scope) -> StoredScope
         ensures { result ≡ scope }
     {
+        // What the name means, in the stored form.
         let put = match scope.bound {
             Bound::Is(Value::Number(number)) => Put::Number(number),
             Bound::Is(Value::Truth(truth)) => Put::Truth(truth),
@@ -65,7 +68,7 @@ impl StoredScope {
         }
     }
 
-    /// The name that it adds, as a variable's number.
+    /// The number of the name that the scope adds to those of the scope that it extends.
     #[inline(always)]
     pub fn name(&self) -> u32
         ensures { result ≡ self.now.name }
@@ -73,7 +76,7 @@ impl StoredScope {
         self.name
     }
 
-    /// What was put for the name. A cell stays here when it is bound or lost: the table of cells says what has become of it.
+    /// What the name was bound to when the scope was made. A cell stays here when it is bound or lost: the table of cells says what has become of it.
     #[inline(always)]
     pub fn bound(&self) -> Bound
         ensures { result ≡ self.now.bound }
@@ -87,7 +90,7 @@ impl StoredScope {
         }
     }
 
-    /// The number of the scope that it extends.
+    /// The number of the scope that this one extends; scope 0 has no names.
     #[inline(always)]
     pub fn outer(&self) -> u32
         ensures { result ≡ self.now.outer }
@@ -96,7 +99,8 @@ impl StoredScope {
     }
 }
 
-/// The number of a scope in 32 bits, as a scope that extends it stores it. The error is that it has over 32 bits, which counts as refused memory.
+/// The number `scope` of a scope in 32 bits, as a scope that extends it stores it. The error is that the number has over 32 bits, which counts as
+/// refused memory.
 #[inline(always)]
 pub fn outer_number(scope: usize) -> Result<u32, AllocError>
     ensures number { IfOk result (λ outer. outer ≡ scope) }

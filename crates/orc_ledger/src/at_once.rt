@@ -32,7 +32,8 @@ use orc_rules::entry::Entry;
 use orc_rules::value::{Answer, Args, Found};
 use orc_tables::{Call, Standing, Token};
 
-// The answer that the table gives with delay 0, at the time of the call itself; None if it gives one later or never.
+// The answer that the table of sites gives with delay 0, at the time of the call itself; None if the table gives an answer later or never. `found` is
+// what the table says of the call.
 fn answer_at_once(found: Found) -> Option<Answer>
     ensures { IfSome result (λ answer. found ≡ After answer 0) }
 {
@@ -42,8 +43,9 @@ fn answer_at_once(found: Found) -> Option<Answer>
     }
 }
 
-// Writes a call and its answer, and counts in `counts` a call of the site with these arguments, if a script answers the site. `token` is the caller's
-// mark, `call` the call's number, `answer` the entry of the return. Where memory is refused nothing changes.
+// Writes a call and its answer, and counts in `counts` a call of the site with these arguments, if a script answers the site. `token` is the mark of
+// the token that makes the call, `call` the call's number, `site` the site's, `answer` the entry of the return, which publishes nothing (`silent`).
+// Where memory is refused nothing changes.
 #[inline(always)]
 fn write_answered<P: Run>(
     journal: &mut Log<P>,
@@ -61,6 +63,7 @@ fn write_answered<P: Run>(
     ensures refused { OnErr result ((journal.new ≡ journal.old) × (counts.new ≡ counts.old)) }
     ensures why { IfErr result (λ fault. fault ≡ LedgerFault.Memory) }
 {
+    // The journal's length before both entries, to which it is cut if one is refused.
     let entries = journal.len();
     if journal
         .push_call(inputs.answers, token, call, site, args.as_slice())
@@ -68,7 +71,7 @@ fn write_answered<P: Run>(
     {
         return Err(LedgerFault::Memory);
     }
-    // The journal's length with the call, to which it is cut below.
+    // The journal's length with the call alone, to which it is cut below.
     let called = journal.len();
     if journal.push(answer).is_err() {
         journal.truncate(entries);
@@ -86,9 +89,10 @@ fn write_answered<P: Run>(
 }
 
 impl<P: Run> Ledger<P> {
-    /// Makes the call of a site at which this token is, whose operands have values. If the table answers it at once, and the limit allows both
-    /// entries, the answer is recorded, too; else the call pends. `args` is lent for the arguments: it has them afterwards. Full, Limit or Memory if
-    /// the entry is refused; then nothing changes but `args`.
+    /// Makes the call of a site at which this token is, which is in the slot `slot`; the call's operands have values, as the clause `calls` asks. If
+    /// the table answers it at once, and the limit allows both entries, the answer is recorded, too; else the call pends. `args` is lent for the
+    /// arguments: it has them afterwards. Full, Limit or Memory if the entry is refused; then nothing changes but `args`. Tokens in other slots stay
+    /// there.
     pub fn call_through(
         &mut self,
         inputs: &Inputs<'_, P>,
@@ -108,9 +112,10 @@ impl<P: Run> Ledger<P> {
         self.answer_through(inputs, slot, token, site, args)
     }
 
-    /// Makes the call at which this token is, of `site` with the operands of list `list` in `scope`, and records its answer, too, if the table gives
-    /// it at once and the limit allows both entries. It looks at the operands only once. None, and nothing changes, if an operand has no value.
-    /// `args` is lent for the arguments. Full, Limit or Memory if the entry is refused; then nothing changes but `args`.
+    /// Makes the call at which this token is, of the site with the number `site` with the operands of list `list`, which are read in the scope with
+    /// the number `scope`, and records the answer, too, if the table gives it at once and the limit allows both entries. The function looks at the
+    /// operands only once. None, and nothing changes, if an operand has no value. `args` is lent for the arguments. Full, Limit or Memory if the
+    /// entry is refused; then nothing changes but `args`. Tokens in other slots stay there.
     #[inline(always)]
     pub fn call_at(
         &mut self,
@@ -140,8 +145,9 @@ impl<P: Run> Ledger<P> {
         Ok(None)
     }
 
-    /// Makes the call at which this token is, of this site with these arguments: it is answered at once if the table does so and the limit allows
-    /// both entries, else it pends. Full, Limit or Memory if the entry is refused; then nothing changes.
+    /// Makes the call at which this token is, of this site with these arguments: the call is answered at once if the table does so and the limit
+    /// allows both entries, else the call pends. `asks` says that the token's term is this call. Full, Limit or Memory if the entry is refused; then
+    /// nothing changes. Tokens in other slots stay there.
     #[inline(always)]
     pub(crate) fn answer_through(
         &mut self,
@@ -172,15 +178,18 @@ impl<P: Run> Ledger<P> {
             }
         };
         let number = call.number;
-        // The call never pends: all that the table of calls gets is its number.
+        // The call never pends: all that the table of calls gets is its number, for which there has to be room.
         match self.calls.reserve_number() {
             Ok(()) => {}
             Err(_) => return Err(LedgerFault::Memory),
         }
+        // The number of the group that the token is a member of: the innermost right side of a `<x<` or left side of a `;` around it, or 0, the
+        // program.
         let group = self.steps.group_at(token.step);
         match answer {
-            // The slot is used again and the group keeps its size, so nothing more is reserved.
+            // A token on the value comes into the slot of the token that made the call, in the same group: nothing more is reserved.
             Answer::Value(value) => {
+                // The mark by which the journal names the token on the answer.
                 let mark = self.next_mark;
                 write_answered(
                     &mut self.journal,
@@ -207,6 +216,7 @@ impl<P: Run> Ledger<P> {
                 );
                 Ok(Called::Answered(value))
             }
+            // The call halts: the token goes, out of its group, and no token comes for it.
             Answer::Halt => {
                 write_answered(
                     &mut self.journal,

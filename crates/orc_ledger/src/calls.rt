@@ -17,10 +17,10 @@ use orc_rules::value::{Answer, Value};
 use orc_tables::{Call, Standing, Token};
 
 impl<P: Run> Ledger<P> {
-    /// Answers the call that pends with this number, if the table of sites gives this answer and it is due now. If the answer is a value, a token on
-    /// it comes in the call's place, and its slot is given; if the call halts, None is given. Each other token stays in its slot. Gone if no such
-    /// call pends, Wrong if the table says otherwise or the call isn't due now, Limit if the journal has as many entries as its limit, else Memory.
-    /// Nothing has changed then.
+    /// Answers the call that pends with this number, the call's in the journal, if the table of sites gives this answer and the answer is due now. If
+    /// the answer is a value, a token on the value comes in the call's place, and the token's slot is given; if the call halts, None is given. Each
+    /// other token stays in its slot. Gone if no such call pends, Wrong if the table says otherwise or the call isn't due now, Limit if the journal
+    /// has as many entries as its limit, else Memory. Nothing has changed then.
     pub fn returned(&mut self, number: u64, answer: Answer) -> Result<Option<usize>, ReturnFault>
         ensures done { IfOk result (λ slot. (c : Its) × Pends self.old number c × IsReturned self.old c answer slot self.new) }
         ensures others { OnOk result (KeepsAll self.old.slots self.new.slots) }
@@ -31,6 +31,7 @@ impl<P: Run> Ledger<P> {
             Some(call) => call,
             None => return Err(ReturnFault::Gone),
         };
+        // The error of `check_due`: the table gives another answer, or this one at another time.
         match check_due(call.found, call.made_at, answer, self.time) {
             Ok(()) => {}
             Err(_) => return Err(ReturnFault::Wrong),
@@ -39,6 +40,7 @@ impl<P: Run> Ledger<P> {
             return Err(ReturnFault::Limit);
         }
         match answer {
+            // `give` and `give_up` are refused for want of memory alone: the limit has been asked.
             Answer::Value(value) => match self.give(call, value) {
                 Ok(slot) => Ok(Some(slot)),
                 Err(_) => Err(ReturnFault::Memory),
@@ -50,7 +52,8 @@ impl<P: Run> Ledger<P> {
         }
     }
 
-    // Answers a call, which is due now, with a value. Gives the slot of the token on it. The error is refused memory, and then nothing changes.
+    // Answers a call, which is due now, with a value. Gives the slot of the token on the value, which comes in the call's place. The error is refused
+    // memory, and then nothing changes. `due` and `room` ask what `returned` has tested.
     fn give(&mut self, call: Call, value: Value) -> Result<usize, LedgerFault>
         requires pends { IsIn call self.old.calls }
         requires due { DueNow call.made_at call.found (Gives value) self.old.now }
@@ -61,11 +64,13 @@ impl<P: Run> Ledger<P> {
     {
         // `within` isn't asked: tokens and calls are limited together, and the token comes for the call. Nor does a group change its size.
         self.tokens.reserve()?;
+        // The mark by which the journal names the token on the value.
         let mark = self.next_mark;
         write(&mut self.journal, &Entry::Return(call.number, mark, value))?;
         self.entries += 1;
         self.next_mark = mark + 1;
         self.calls.take(call.number);
+        // The token is in the group in which the call was: the innermost right side of a `<x<` or left side of a `;` around it, or the program.
         let group = self.steps.group_at(call.step);
         let slot = self.tokens.add(
             Token {
@@ -78,7 +83,8 @@ impl<P: Run> Ledger<P> {
         Ok(slot)
     }
 
-    // Answers a call, which is due now, with a halt. The error is refused memory, and then nothing changes.
+    // Answers a call, which is due now, with a halt. The error is refused memory, and then nothing changes. `due` and `room` ask what `returned` has
+    // tested.
     fn give_up(&mut self, call: Call) -> Result<(), LedgerFault>
         requires pends { IsIn call self.old.calls }
         requires due { DueNow call.made_at call.found Halt self.old.now }
@@ -87,11 +93,12 @@ impl<P: Run> Ledger<P> {
         ensures others { OnOk result (KeepsAll self.old.slots self.new.slots) }
         ensures refused { OnErr result (self.new ≡ self.old) }
     {
+        // The group in which the call pends: the innermost right side of a `<x<` or left side of a `;` around it, or the program.
         let group = self.steps.group_at(call.step);
         write(&mut self.journal, &Entry::ReturnHalt(call.number))?;
         self.entries += 1;
         self.calls.take(call.number);
-        // The call was a member of the group, and no token comes for it.
+        // The call was a member of the group, and no token comes for it: one member less.
         self.groups.leave(group);
         Ok(())
     }

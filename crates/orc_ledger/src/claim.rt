@@ -12,7 +12,7 @@ pub trait Claim {
 
     ghost lost: { Self → Self → Type 0 };
 
-    /// Asks for it, once, and says whether it was got.
+    /// Asks for the claim, once, and says whether it was got.
     fn ask(&mut self) -> bool
         ensures yes { result ≡ true → got self.old self.new }
         ensures no { result ≡ false → lost self.old self.new };
@@ -23,10 +23,12 @@ pub trait Claim {
 pub struct Always;
 
 impl Claim for Always {
+    // What holds of the claim once it was got: nothing is promised. It is never lost (`⊥`).
     ghost got = { λ _ _. Unit {0} };
 
     ghost lost = { λ _ _. ⊥ };
 
+    // Always got: no other worker asks for it.
     fn ask(&mut self) -> bool {
         true
     }

@@ -25,7 +25,8 @@ use orc_log::Run;
 use orc_rules::entry::Entry;
 use orc_tables::{Standing, Token};
 
-// Makes room for `count` more scopes. The only fault is `Memory`.
+// Makes room for `count` more scopes, so that they can be added once the entry is written, when nothing may be refused any more. The scopes stay as
+// they are. The only fault is `Memory`.
 fn reserve_scopes(scopes: &mut Vec<StoredScope>, count: usize) -> Result<(), LedgerFault>
     ensures items { scopes.new.items ≡ scopes.old.items }
     ensures room { OnOk result (vec_len scopes.new + count ≤ vec_capacity scopes.new) }
@@ -37,26 +38,26 @@ fn reserve_scopes(scopes: &mut Vec<StoredScope>, count: usize) -> Result<(), Led
     }
 }
 
-// Adds scopes where there is room, in their order.
+// Adds the scopes `more` behind those in `scopes`, in their order. `reserve_scopes` has made the room that the clause asks.
 fn extend_within(scopes: &mut Vec<StoredScope>, more: &[StoredScope])
     requires { vec_len scopes.old + length more.now ≤ vec_capacity scopes.old }
     ensures { scopes.new.items ≡ scopes.old.items ++ more.now }
 {
-    // A definition without parameters adds none.
+    // A definition without parameters adds no scope.
     if more.is_empty() {
         return;
     }
-    // There is room, so it isn't refused.
+    // There is room, so memory isn't refused: the prover shows that the answer is Ok.
     let added = scopes.extend_from_slice(more);
     prove!(added.is_ok());
 }
 
 impl<P: Run> Ledger<P> {
     /// Makes a call of a definition: a token on its body takes the slot, with a scope for each parameter, and the answer is Ok(true). `token` is the
-    /// one in the slot, which is at a call of `definition` in `scope`, with the operands of list `list`. `added` is lent for the new scopes, and what
-    /// it held is lost. Ok(false), and nothing changes, if there is no such definition, if it has more or fewer parameters than there are operands,
-    /// or if an operand isn't bound: no checked program has such a call. Full, Limit or Memory if the entry is refused; then nothing changes but
-    /// `added`.
+    /// one in the slot `slot`: it is at a call of the definition with the number `definition`, with the operands of the list with the number `list`,
+    /// in the scope with the number `scope`. `added` is lent for the new scopes, and what it held is lost. Ok(false), and nothing changes, if there
+    /// is no such definition, if it has more or fewer parameters than there are operands, or if an operand isn't bound: no checked program has such a
+    /// call. Full, Limit or Memory if the entry is refused; then nothing changes but `added`. Tokens in other slots stay there.
     #[inline(always)]
     pub fn def(
         &mut self,
@@ -80,21 +81,25 @@ impl<P: Run> Ledger<P> {
     {
         // The token on the body takes the place of the one at the call: no token and no group more, and no left side of a `>x>` is entered.
         self.within(0, 0, 0)?;
-        // There is no such definition.
+        // `body` is the number of the node of the body. None: there is no such definition.
         let Some(body) = inputs.graph.body(definition as usize) else {
             return Ok(false);
         };
+        // The names of the parameters, and the operands of the call, which stand for them.
         let params = inputs.graph.params(definition as usize);
         let operands = inputs.graph.operands(list as usize);
-        // Writes a scope for each parameter over `added`, and gives the number that the innermost one will have in `self.scopes`.
+        // Writes a scope for each parameter over `added`, and gives the number that the innermost one will have in `self.scopes`. The error is
+        // refused memory.
         let fitted = parameter_scopes(&self.scopes, &self.cells, params, operands, scope, added)?;
-        // Not as many operands as parameters, or one that isn't bound.
+        // None: there are more or fewer operands than parameters, or an operand isn't bound.
         let Some(newest) = fitted else {
             return Ok(false);
         };
         reserve_scopes(&mut self.scopes, added.len())?;
-        // The new token is in the group of the one that it replaces, so no group changes its size.
+        // A group is what runs inside one right side of a `<x<`, one left side of a `;`, or the whole program. The new token is in the group of the
+        // one that it replaces, so no group changes its number of members.
         let group = self.steps.group_at(token.step);
+        // The mark by which the journal names the new token.
         let mark = self.next_mark;
         write(&mut self.journal, &Entry::Def(token.serial, mark))?;
         self.entries += 1;

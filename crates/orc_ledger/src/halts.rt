@@ -16,35 +16,38 @@ use orc_log::Run;
 use orc_tables::{Call, Group, Side, Token};
 
 impl<P: Run> Ledger<P> {
-    /// The open group with this number; None if no open group has it (the program's own, 0, isn't one).
+    /// The open group with this number: a right side of a `<x<` or a left side of a `;` that runs. None if no open group has this number (the
+    /// program's own, 0, isn't one).
     pub fn group_with(&self, number: u32) -> Option<Group>
         ensures { MatchOption result ((g : Its) → IsIn g self.now.groups → g.number ≡ number → ⊥) (λ g. IsIn g self.now.groups × (g.number ≡ number)) }
     {
         self.groups.get(number)
     }
 
-    // The number of the group around a group.
+    // The number of the group around a group: the next right side of a `<x<` or left side of a `;` outwards, or 0, the whole program.
     fn parent_of(&self, group: Group) -> u32
         ensures { result ≡ group_at self.now.steps group.outer }
     {
         self.steps.group_at(group.outer)
     }
 
-    // Whether the otherwise with this number, whose left side is this group, has published: its right side never runs then.
+    // Whether the left side of the otherwise (`f ; g`) with the number `number` has published: g never runs then. `group` is the number of the group
+    // that this left side is.
     fn was_left(&self, group: u32, number: u64) -> bool
         ensures { result ≡ has_left self.now.steps number }
     {
-        // The hint is the number of the step that entered the left side, so one look tells. None if it's wrong: then `has_left` looks at each step.
+        // The hint is the number of the step that entered the left side, so one look tells. None if the hint is wrong: then `has_left` looks at each
+        // step.
         match left_at(&self.steps, self.groups.hint(group), number) {
             Some(left) => left,
             None => has_left(&self.steps, number),
         }
     }
 
-    /// Ends the group with this number, which has no member. If it is a right side of a `<x<`, it is lost: its cell becomes void. If it is the left
-    /// side of an otherwise, the right side starts, unless the left side has published: then the group goes without an entry. Each token stays in its
-    /// slot. Gone if no open group has this number (the program's own, 0, isn't one), Live if it has members, Refused with the ledger's fault if its
-    /// entry is refused. A group that is refused stays.
+    /// Ends the group with this number, which has no member: no token, no pending call and no inner group. If it is a right side of a `<x<`, it is
+    /// lost: its cell becomes void. If it is the left side of an otherwise, the right side starts, unless the left side has published: then the group
+    /// goes without an entry. Each token stays in its slot. Gone if no open group has this number (the program's own, 0, isn't one), Live if the
+    /// group has members, Refused with the ledger's fault if the group's entry is refused. A group that is refused stays.
     pub fn halt(&mut self, number: u32) -> Result<Halted, HaltFault>
         ensures done { IfOk result (λ h. HasHalted (code P.listing) self.old self.new number h) }
         ensures others { OnOk result (KeepsAll self.old.slots self.new.slots) }
@@ -58,6 +61,7 @@ impl<P: Run> Ledger<P> {
         if !self.is_empty(number) {
             return Err(HaltFault::Live);
         }
+        // The answer names the group around this one, which may have no member any more.
         let parent = self.parent_of(group);
         match group.side {
             Side::Right(cell) => match self.lost(group, cell) {
@@ -65,6 +69,7 @@ impl<P: Run> Ledger<P> {
                 Err(fault) => Err(HaltFault::Refused(fault)),
             },
             Side::Left(other, node, scope) => {
+                // The left side has published: the right side never runs.
                 if self.was_left(number, other) {
                     self.close(group);
                     return Ok(Halted::Closed(parent));
@@ -77,14 +82,16 @@ impl<P: Run> Ledger<P> {
         }
     }
 
-    /// The number of the group in which a call pends; 0 is the program's own.
+    /// The number of the group in which a call pends: the innermost right side of a `<x<` or left side of a `;` around the call; 0 is the program's
+    /// own group.
     pub fn group_of_call(&self, call: &Call) -> u32
         ensures { result ≡ group_at self.now.steps call.now.step }
     {
         self.steps.group_at(call.step)
     }
 
-    /// The number of the group in which a token stands; 0 is the program's own.
+    /// The number of the group in which a token stands: the innermost right side of a `<x<` or left side of a `;` around the token; 0 is the
+    /// program's own group.
     pub fn group_of_token(&self, token: &Token) -> u32
         ensures { result ≡ group_at self.now.steps token.now.step }
     {

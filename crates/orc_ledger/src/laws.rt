@@ -35,7 +35,8 @@ pub fn calls_fit<P: Run>(ledger: &Ledger<P>)
     let _journal = &ledger.journal;
 }
 
-/// The journal leads to the marked term that the records describe, and their groups are nested as the sides are.
+/// The journal leads, by Orc's rules, to the marked term that the records describe, and the records' groups are nested as the sides are (right sides
+/// of a `<x<`, left sides of a `;`).
 pub fn stands<P: Run>(ledger: &Ledger<P>)
     ensures { Stands P.listing P.sites ledger.now }
 {

@@ -30,7 +30,8 @@ use orc_tables::{Crowd, Groups, Pending, Standing, Steps, Token, Tokens};
 use std::alloc::{AllocError, Global};
 use std::marker::{Model, PhantomData};
 
-/// The records of a run, with its journal.
+/// The records of a run, with its journal. A *token* marks a part of the program's term that runs, a *cell* stands for the value of a variable x of
+/// `f <x< g`, and a *group* is what runs inside one right side of a `<x<`, one left side of a `;`, or the whole program.
 pub struct Ledger<P: Run> {
     // The most entries that the journal is to have, cancels not counted.
     pub(crate) limit: usize,
@@ -38,25 +39,27 @@ pub struct Ledger<P: Run> {
     pub(crate) journal: Log<P>,
     // How many entries the journal has, cancels not counted: at most `limit`.
     pub(crate) entries: usize,
-    // The next mark, from 2: mark 1 is the first token's. Marks can't overflow: an entry adds two at most, and `MOST_ENTRIES` is small.
+    // The next mark, by which the journal names a new token, from 2: mark 1 is the first token's. Marks can't overflow: an entry adds two at most,
+    // and `MOST_ENTRIES` is small.
     pub(crate) next_mark: u64,
     // The time, in logical units, from 0.
     pub(crate) time: u64,
     // The tokens, each in a slot that it keeps while it lives.
     pub(crate) tokens: Tokens,
-    // The calls of sites that pend.
+    // The calls of sites that pend: they were made and have no answer yet.
     pub(crate) calls: Pending,
     // How often each site that a script answers was called with the same arguments.
     pub(crate) counts: Counts,
-    // Scope n is the n-th item of `scopes`, and step n, which enters a side or the left side of a `>x>`, that of `steps`; both count from 1. Scope 0
-    // has no names, and step 0 is the program as a whole.
+    // The scopes: each binds one name, and extends another scope. Scope n is the n-th item of `scopes`, from 1; scope 0 has no names.
     pub(crate) scopes: Vec<StoredScope>,
+    // The steps: each enters a side, or the left side of a `>x>`, and is inside another step. They count from 1; step 0 is the program as a whole.
     pub(crate) steps: Steps,
     // The sides that are open (right sides of a `<x<`, left sides of a `;`), each with the number of its members.
     pub(crate) groups: Groups,
-    // By number, what a cell has become: a value, or void if it was lost. A cell that is neither bound nor lost stands for itself.
+    // By the number of a cell, from 1, what it has become: a value, or void if its right side halted without one. A cell that is neither bound nor
+    // lost stands for itself.
     pub(crate) cells: Vec<Bound>,
-    // Lists for `bind`, kept so that it rarely asks for memory.
+    // Lists that `bind` fills with what is inside a right side, kept so that it rarely asks for memory.
     pub(crate) crowd: Crowd,
     // Names the run, for contracts alone.
     pub(crate) program: PhantomData<P>,
@@ -76,7 +79,7 @@ impl<P: Run> Model for Ledger<P> {
     ghost invariant = { λ b. IsKept P.listing P.sites P.limit b.journal.version b.counts b.groups.sizes b.tokens.parked (record { limit = b.limit; journal = b.journal.entries; entries = b.entries; next_mark = b.next_mark; now = b.time; made = b.calls.made; tokens = live b.tokens.items; slots = b.tokens.items; calls = b.calls.items; scopes = b.scopes.items; steps = b.steps.items; groups = b.groups.items; cells = b.cells.items }) };
 }
 
-// Written out, so that each exit of a function that has a ledger drops it by one call.
+// Written out, so that each exit of a function that has a ledger drops it by one call. Each field that has memory of its own is dropped.
 impl<P: Run> Drop for Ledger<P> {
     fn drop(self) {
         let Ledger {
@@ -107,7 +110,7 @@ impl<P: Run> Drop for Ledger<P> {
     }
 }
 
-// Writes an entry. The only fault is `Memory`, and then nothing changes.
+// Writes an entry behind the journal's last one. The only fault is `Memory`, and then nothing changes.
 #[inline(always)]
 pub(crate) fn write<P: Run>(journal: &mut Log<P>, entry: &Entry) -> Result<(), LedgerFault>
     ensures added { OnOk result (journal.new ≡ log_with journal.old (entry.now ∷ [])) }
@@ -120,8 +123,9 @@ pub(crate) fn write<P: Run>(journal: &mut Log<P>, entry: &Entry) -> Result<(), L
     }
 }
 
-// Writes an entry, then asks the claim, and removes the entry if the claim is lost. The entry has to publish nothing, since `truncate` removes no
-// other. Memory if memory is refused, Unclaimed if the claim is lost; the journal is then as it was.
+// Writes an entry, then asks the claim (what another worker may have won first), and removes the entry if the claim is lost. The clause `silent` asks
+// that the entry publishes nothing, since `truncate` removes no other. Memory if memory is refused, Unclaimed if the claim is lost; the journal is
+// then as it was.
 #[inline(always)]
 pub(crate) fn write_claimed<P: Run, C: Claim>(
     journal: &mut Log<P>,
@@ -134,6 +138,7 @@ pub(crate) fn write_claimed<P: Run, C: Claim>(
     ensures refused { OnErr result (journal.new ≡ journal.old) }
     ensures why { IfErr result (λ fault. IsBarred (claim.new ≡ claim.old) (C.lost claim.old claim.new) (λ reason. reason ≡ LedgerFault.Memory) fault) }
 {
+    // The journal's length before the entry, to which it is cut if the claim is lost.
     let entries = journal.len();
     write(journal, entry)?;
     if claim.ask() {
@@ -144,8 +149,9 @@ pub(crate) fn write_claimed<P: Run, C: Claim>(
 }
 
 impl<P: Run> Ledger<P> {
-    /// A new run at time 0: token 1 is on the program's main term, whose node is `root`, in slot 0. The journal is to have at most `limit` entries
-    /// (1 to `MOST_ENTRIES`), cancels not counted, and is held if the run `keeps` it. The only fault is `Memory`.
+    /// A new run at time 0: token 1 is on the program's main term, whose node is `root`, in slot 0. The journal is to have at most `limit` entries (1
+    /// to `MOST_ENTRIES`), cancels not counted, and its entries are held if `keeps` is true, else only counted. The clauses ask that `limit`, `keeps`
+    /// and `root` are those of the run `P`. The only fault is `Memory`.
     pub fn begin(
         alloc: Global,
         keeps: bool,
@@ -164,9 +170,9 @@ impl<P: Run> Ledger<P> {
         // There is no cell 0: a void item takes its place, so that cell n is item n.
         push_within(&mut cells, Bound::Void);
         let mut groups = Groups::begin(alloc)?;
-        // The first token is a member of the program's own group.
+        // The first token is a member of the program's own group, number 0.
         groups.join(0);
-        // The token is in scope 0, which has no names, and in step 0, the program as a whole.
+        // The token is at the node `root`, in scope 0, which has no names, and in step 0, the program as a whole.
         let tokens = Tokens::begin(
             alloc,
             Token {
@@ -194,8 +200,8 @@ impl<P: Run> Ledger<P> {
         })
     }
 
-    /// A law, and nothing runs: the journal leads, by the rules, from the program's term to a place at the ledger's time where no cancel is due; and
-    /// it has as many entries as `entries` says, which is within the limit.
+    /// A law, and nothing runs: the journal leads, by the rules, from the program's term to a place (a marked term and a time) at the ledger's time
+    /// where no cancel is due; and it has as many entries as `entries` says, which is within the limit.
     pub fn is_whole(&self)
         ensures { IsWhole P.listing P.sites self.now }
     {
@@ -211,8 +217,8 @@ impl<P: Run> Ledger<P> {
         let _journal = &self.journal;
     }
 
-    /// A law, and nothing runs: where a move, a call of a site or the end of a group would be refused as Full, the journal shows why. Its entries can
-    /// have made as many tokens, open groups or left sides of a `>x>` as there may be.
+    /// A law, and nothing runs: where a move, a call of a site or the end of a group would be refused as Full (there are as many tokens, groups or
+    /// left sides of a `>x>` around a token as there may be), the journal shows why. Its entries can have made so many.
     pub fn full_is_crowded(&self)
         ensures { FullIsCrowded P.listing self.now }
     {
@@ -220,7 +226,7 @@ impl<P: Run> Ledger<P> {
         let _journal = &self.journal;
     }
 
-    /// The journal of a run that keeps it. Nothing else of the ledger is left.
+    /// The journal of a run that keeps it, as the clause `keeps` asks. Nothing else of the ledger is left.
     pub fn into_journal(self) -> Journal
         requires keeps { P.keeps ≡ true }
         ensures entries { result.entries ≡ self.journal }
@@ -237,7 +243,7 @@ impl<P: Run> Ledger<P> {
         self.into_log().into_published()
     }
 
-    // The log of the run. Nothing else of the ledger is left.
+    // The log of the run: its entries, held or only counted. Nothing else of the ledger is left.
     pub(crate) fn into_log(self) -> Log<P>
         ensures entries { result.entries ≡ self.journal }
         ensures version { result.version ≡ Two }
@@ -283,28 +289,28 @@ impl<P: Run> Ledger<P> {
         self.limit
     }
 
-    /// The time, in logical units.
+    /// The time of the run, in logical units, from 0.
     pub fn time(&self) -> u64
         ensures { result ≡ self.now.now }
     {
         self.time
     }
 
-    /// The number of the mark that comes next, from 2 on.
+    /// The mark that the next new token gets in the journal, from 2 on: mark 1 is the first token's.
     pub fn next_mark(&self) -> u64
         ensures { result ≡ self.now.next_mark }
     {
         self.next_mark
     }
 
-    /// How many tokens there are.
+    /// How many tokens (running parts of the program's term) there are. Pending calls don't count.
     pub fn token_count(&self) -> usize
         ensures { result ≡ length self.now.tokens }
     {
         self.tokens.len()
     }
 
-    /// The token with this serial, which isn't 0, if it is in this slot; None if it isn't there any more.
+    /// The token with this serial, its mark in the journal, which isn't 0, if it is in the slot with this number; None if it isn't there any more.
     #[inline(always)]
     pub fn token(&self, slot: usize, serial: u64) -> Option<Token>
         requires { 1 ≤ serial }
@@ -318,7 +324,7 @@ impl<P: Run> Ledger<P> {
         }
     }
 
-    /// The token in this slot; None if the slot is free or isn't there.
+    /// The token in the slot with this number; None if the slot is free or isn't there.
     #[inline(always)]
     pub fn held(&self, slot: usize) -> Option<Token>
         ensures held { IfSome result (λ t. IsHeld self.now.slots slot t × IsIn t self.now.tokens) }
@@ -331,7 +337,7 @@ impl<P: Run> Ledger<P> {
         }
     }
 
-    /// The journal of a run that keeps it.
+    /// The journal of a run that keeps it, as the clause `keeps` asks. A run that only counts its entries has none.
     pub fn journal(&self) -> &Journal
         requires keeps { P.keeps ≡ true }
         ensures entries { result.now.entries ≡ self.now.journal }
@@ -340,7 +346,7 @@ impl<P: Run> Ledger<P> {
         self.journal.journal()
     }
 
-    /// How many entries the journal has, the cancels too.
+    /// How many entries the journal has, the cancels too; `entries` leaves them out.
     pub fn journal_len(&self) -> usize
         ensures { result ≡ length self.now.journal }
     {
@@ -348,8 +354,8 @@ impl<P: Run> Ledger<P> {
     }
 
     /// Asks whether the limits allow one more entry, with this many more `tokens` and `groups` (0 or 1 each) and a token inside `depth` left sides of
-    /// a `>x>` (0 where none is entered). Full where there would be more than `MOST_TOKENS`, `MOST_GROUPS` or `MOST_FRAMES`, else Limit where the
-    /// journal has as many entries as its limit.
+    /// a `>x>` (0 where none is entered). Ok means that they do; nothing is written. Full where there would be more than `MOST_TOKENS`, `MOST_GROUPS`
+    /// or `MOST_FRAMES`, else Limit where the journal has as many entries as its limit.
     #[inline(always)]
     pub fn within(&self, tokens: usize, groups: usize, depth: u32) -> Result<(), LedgerFault>
         requires { (tokens ≤ 1) × (groups ≤ 1) }
@@ -358,8 +364,8 @@ impl<P: Run> Ledger<P> {
         ensures room { OnOk result (self.now.entries < self.now.limit) }
         ensures places { OnOk result (HasRoom self.now tokens groups depth) }
     {
-        // Tokens and calls share one limit: the first test keeps the subtraction in the second from going below 0. One of `MOST_GROUPS` is the
-        // program's own group, which isn't in the table.
+        // Tokens and pending calls share one limit: the first test keeps the subtraction in the second from going below 0. One of `MOST_GROUPS` is
+        // the program's own group, which isn't in the table.
         if self.tokens.len() > MOST_TOKENS - tokens
             || self.calls.len() > MOST_TOKENS - tokens - self.tokens.len()
             || self.groups.len() > MOST_GROUPS - 1 - groups

@@ -34,7 +34,8 @@ use orc_rules::limits::MOST_FRAMES;
 use orc_tables::{Frame, Side, Standing, Step, Token};
 
 impl<P: Run> Ledger<P> {
-    /// `stop`: the token ends, and its slot is free. Full, Limit or Memory if the entry is refused; nothing has changed then.
+    /// `stop`: the token in the slot `slot` ends, and the slot is free. Full, Limit or Memory if the entry is refused; nothing has changed then.
+    /// Tokens in other slots stay there.
     pub fn end(&mut self, slot: usize, token: Token) -> Result<(), LedgerFault>
         requires held { IsHeld self.old.slots slot token }
         requires at { (node : ℕ) × (scope : ℕ) × (token.standing ≡ At node scope) × (code P.listing node ≡ stop) }
@@ -45,6 +46,7 @@ impl<P: Run> Ledger<P> {
     {
         // No token and no group comes, and no left side of a `>x>` is entered.
         self.within(0, 0, 0)?;
+        // The group that the token is a member of, and leaves: the innermost right side of a `<x<` or left side of a `;` around it, or the program.
         let group = self.steps.group_at(token.step);
         write(&mut self.journal, &Entry::End(token.serial))?;
         self.entries += 1;
@@ -53,8 +55,9 @@ impl<P: Run> Ledger<P> {
         Ok(())
     }
 
-    /// A void variable, or a call of a site with a void argument: nothing can give it a value any more. The token ends, and its slot is free. Full,
-    /// Limit or Memory if the entry is refused; nothing has changed then.
+    /// A void variable, or a call of a site with a void argument: the right side of the variable's `<x<` has halted without a value, and nothing can
+    /// give the variable a value any more. The token in the slot `slot` ends, and the slot is free. Full, Limit or Memory if the entry is refused;
+    /// nothing has changed then. Tokens in other slots stay there.
     pub fn void(&mut self, slot: usize, token: Token) -> Result<(), LedgerFault>
         requires held { IsHeld self.old.slots slot token }
         requires void { IsVoid (standing (code P.listing) (its_env (code P.listing) self.old) token.standing) }
@@ -65,6 +68,7 @@ impl<P: Run> Ledger<P> {
     {
         // No token and no group comes, and no left side of a `>x>` is entered.
         self.within(0, 0, 0)?;
+        // The group that the token is a member of, and leaves: the innermost right side of a `<x<` or left side of a `;` around it, or the program.
         let group = self.steps.group_at(token.step);
         write(&mut self.journal, &Entry::Void(token.serial))?;
         self.entries += 1;
@@ -74,7 +78,8 @@ impl<P: Run> Ledger<P> {
     }
 
     /// `f | g`: a token on each side, the left one in the same slot. `left` and `right` are the nodes of f and g, `scope` is the scope of the whole
-    /// term. Gives the right one's slot. Full, Limit or Memory if the entry is refused; nothing has changed then.
+    /// term. Gives the slot of the token on g. Full, Limit or Memory if the entry is refused; nothing has changed then. Tokens in other slots stay
+    /// there.
     #[inline(always)]
     pub fn fork(
         &mut self,
@@ -95,8 +100,11 @@ impl<P: Run> Ledger<P> {
     {
         // Two tokens come for one.
         self.within(1, 0, 0)?;
+        // Makes room for the token on g; that on f uses the old slot.
         self.tokens.reserve()?;
+        // The group that the token is a member of: the innermost right side of a `<x<` or left side of a `;` around it, or the program.
         let group = self.steps.group_at(token.step);
+        // The mark by which the journal names the token on f; the token on g has the next one.
         let mark = self.next_mark;
         write(
             &mut self.journal,
@@ -104,7 +112,7 @@ impl<P: Run> Ledger<P> {
         )?;
         self.entries += 1;
         self.next_mark = mark + 2;
-        // One token of the group becomes two.
+        // One token of the group becomes two: the group has one member more.
         self.groups.join(group);
         self.tokens.replace(
             slot,
@@ -126,8 +134,9 @@ impl<P: Run> Ledger<P> {
         Ok(other)
     }
 
-    /// `f >x> g`: a token on the left side, in the same slot. `left` and `right` are the nodes of f and g, `name` is the number of x, `scope` the
-    /// scope of the whole term. Full, Limit or Memory if the entry is refused; nothing has changed then.
+    /// `f >x> g`: a token on the left side, in the same slot. A new step says that the token is inside this left side. `left` and `right` are the
+    /// nodes of f and g, `name` is the number of x, `scope` the scope of the whole term. Full, Limit or Memory if the entry is refused; nothing has
+    /// changed then. Tokens in other slots stay there.
     #[inline(always)]
     pub fn feed(
         &mut self,
@@ -146,7 +155,9 @@ impl<P: Run> Ledger<P> {
         ensures refused { OnErr result (self.new ≡ self.old) }
         ensures why { IfErr result (λ fault. IsRefused self.old 0 0 (depth_at self.old.steps token.step + 1) fault) }
     {
+        // A left side of a `>x>` is no group: the new token is in the group of the old one.
         let group = self.steps.group_at(token.step);
+        // In how many left sides of a `>x>` the token is.
         let depth = self.steps.depth_at(token.step);
         // Asked before `within`, so that `depth + 1` doesn't overflow.
         if depth as usize >= MOST_FRAMES {
@@ -154,7 +165,9 @@ impl<P: Run> Ledger<P> {
         }
         // The new token is inside one left side of a `>x>` more.
         self.within(0, 0, depth + 1)?;
+        // Makes room for the step into the left side.
         self.steps.reserve()?;
+        // The mark by which the journal names the token on f.
         let mark = self.next_mark;
         write(&mut self.journal, &Entry::Seq(token.serial, mark))?;
         self.entries += 1;
@@ -162,6 +175,7 @@ impl<P: Run> Ledger<P> {
         // The number of the step that is added next: steps count from 1.
         let step = self.steps.len() + 1;
         self.steps.push(Step {
+            // The left side of a `>x>`: the number of x, the node of g and the scope for it, once a value comes.
             entered: Frame::SeqLeft(name, right, scope),
             outer: token.step,
             group,
@@ -180,8 +194,9 @@ impl<P: Run> Ledger<P> {
         Ok(())
     }
 
-    /// `f ; g`: a token on the left side, in the same slot, in a new group. `left` and `right` are the nodes of f and g, `scope` is the scope of the
-    /// whole term. The claim is asked last. Full, Limit or Memory if the entry is refused, Unclaimed if the claim is lost; nothing has changed then.
+    /// `f ; g`: a token on the left side, in the same slot. The left side is a new group: what runs in it, and ends as a whole. `left` and `right`
+    /// are the nodes of f and g, `scope` is the scope of the whole term. The claim (what another worker may have won first) is asked last. Full,
+    /// Limit or Memory if the entry is refused, Unclaimed if the claim is lost; nothing has changed then. Tokens in other slots stay there.
     pub fn other<C: Claim>(
         &mut self,
         slot: usize,
@@ -202,18 +217,22 @@ impl<P: Run> Ledger<P> {
     {
         // A token comes for the token, and a group is opened.
         self.within(0, 1, 0)?;
+        // Room for the step into the left side, and for the group that the left side is.
         self.steps.reserve()?;
         self.groups.reserve()?;
+        // In how many left sides of a `>x>` the token is: a `;` adds none.
         let depth = self.steps.depth_at(token.step);
+        // The mark by which the journal names the token on f.
         let mark = self.next_mark;
         write_claimed(&mut self.journal, &Entry::Other(token.serial, mark), claim)?;
         self.entries += 1;
         self.next_mark = mark + 1;
         // The number of the step that is added below: steps count from 1.
         let step = self.steps.len() + 1;
+        // The number of the group that the token is in, around the whole `f ; g`.
         let parent = self.steps.group_at(token.step);
-        // The group around the otherwise loses the token and gets the new group: it has as many members as before. The token's mark becomes the
-        // number of the otherwise.
+        // The group around the otherwise loses the token and gets the new group: it has as many members as before. The old token's mark becomes the
+        // number of the otherwise, by which the journal and the step name it.
         let number = self.groups.open(
             Side::Left(token.serial, right, scope),
             token.step,
@@ -241,9 +260,10 @@ impl<P: Run> Ledger<P> {
         Ok(())
     }
 
-    /// `f <x< g`: a token on each side with a new cell between them, the left one in the same slot, the right one in a new group. `left` and `right`
-    /// are the nodes of f and g, `name` is the number of x, `scope` the scope of the whole term. Gives the right one's slot. The claim is asked last.
-    /// Full, Limit or Memory if the entry is refused, Unclaimed if the claim is lost; nothing has changed then.
+    /// `f <x< g`: a token on each side, that on f in the same slot. A new cell stands for x in f. The right side is a new group: what runs in it, and
+    /// ends as a whole. `left` and `right` are the nodes of f and g, `name` is the number of x, `scope` the scope of the whole term. Gives the slot
+    /// of the token on g. The claim (what another worker may have won first) is asked last. Full, Limit or Memory if the entry is refused, Unclaimed
+    /// if the claim is lost; nothing has changed then. Tokens in other slots stay there.
     pub fn prune<C: Claim>(
         &mut self,
         slot: usize,
@@ -268,14 +288,17 @@ impl<P: Run> Ledger<P> {
         self.within(1, 1, 0)?;
         // A scope keeps the number of the one that it extends in 32 bits. A longer number counts as refused memory.
         let outer = outer_number(scope)?;
+        // Room for the token on g, the scope of f, the step into g, the cell and the group: nothing is refused once the entry is written.
         self.tokens.reserve()?;
         reserve(&mut self.scopes)?;
         self.steps.reserve()?;
         reserve(&mut self.cells)?;
         self.groups.reserve()?;
+        // The number of the group that the token is in, around the whole `f <x< g`.
         let parent = self.steps.group_at(token.step);
+        // The mark by which the journal names the token on f; the token on g has the next one.
         let mark = self.next_mark;
-        // The number of the new cell: they count from 1, since item 0 of `cells` is no cell.
+        // The number of the new cell: cells count from 1, since item 0 of `cells` is no cell.
         let cell = self.cells.len() as u64;
         write_claimed(
             &mut self.journal,
@@ -284,15 +307,17 @@ impl<P: Run> Ledger<P> {
         )?;
         self.entries += 1;
         self.next_mark = mark + 2;
-        // The numbers of the scope and of the step that are added below.
+        // The numbers of f's scope and of the step into g, which are added below.
         let inner = self.scopes.len() + 1;
         let step = self.steps.len() + 1;
+        // The number of the right side's group.
         let number = self
             .groups
             .open(Side::Right(cell), token.step, step, parent);
         // The parent keeps one token, on the left side, and gets the group, whose first member is the token on the right side.
         self.groups.join(parent);
         self.groups.join(number);
+        // In the scope of f the name x is the new cell.
         push_within(
             &mut self.scopes,
             StoredScope::new(Scope {
@@ -309,6 +334,7 @@ impl<P: Run> Ledger<P> {
             depth: 0,
             published: false,
         });
+        // The cell stands for itself: it has no value yet.
         push_within(&mut self.cells, Bound::Cell(cell));
         self.tokens.replace(
             slot,

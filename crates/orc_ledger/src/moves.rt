@@ -42,14 +42,16 @@ use orc_rules::value::{Args, Value};
 use orc_tables::{Standing, Token};
 
 impl<P: Run> Ledger<P> {
-    /// The number of the group of a token whose innermost step this is; 0, the program's own, for step 0.
+    /// The number of the group of a token whose innermost step has the number `step`; 0, the program's own, for step 0. A group is what runs inside
+    /// one right side of a `<x<`, one left side of a `;`, or the whole program.
     pub fn group_of(&self, step: usize) -> u32
         ensures { result ≡ group_at self.now.steps step }
     {
         self.steps.group_at(step)
     }
 
-    /// What takes a value that the token publishes: a `>x>`, a cell, or nothing, and then the program publishes it.
+    /// What takes a value that the token publishes: a `>x>`, a cell, or nothing, and then the program publishes the value. `takes` and `way` promise
+    /// that this is the nearest around the token, `there` that the scope and the step in the answer exist.
     #[inline(always)]
     pub fn taker_of(&self, token: Token) -> Taker
         requires { (slot : ℕ) × IsHeld self.now.slots slot token }
@@ -60,7 +62,8 @@ impl<P: Run> Ledger<P> {
         find_taker(&self.steps, token.step)
     }
 
-    // What stands for an operand in a scope: a value, an unbound cell or void. None for a name that isn't bound there.
+    // What stands for an operand in the scope with the number `scope`: a value, an unbound cell, or void (a cell that can't get a value any more).
+    // None for a name that isn't bound there.
     fn bound_of(&self, operand: Operand, scope: usize) -> Option<Bound>
         ensures bound { IfSome result (λ b. close_param (its_env (code P.listing) self.now scope) (param_of operand) ≡ given b) }
         ensures free { IfNone result ((x : ℕ) × (close_param (its_env (code P.listing) self.now scope) (param_of operand) ≡ Name x)) }
@@ -68,7 +71,7 @@ impl<P: Run> Ledger<P> {
         meaning(&self.scopes, &self.cells, operand, scope)
     }
 
-    // Whether each operand of a call has a value. The contract promises it of `true` alone.
+    // Whether each operand of a call has a value in the scope with the number `scope`. The contract promises that of `true` alone.
     #[inline(always)]
     pub(crate) fn have_values(&self, operands: &[Operand], scope: usize) -> bool
         ensures { result ≡ true → scan false Nothing (closed (its_env (code P.listing) self.now scope) operands.now) ≡ Action.Call }
@@ -76,7 +79,8 @@ impl<P: Run> Ledger<P> {
         are_values(&self.scopes, &self.cells, operands, scope)
     }
 
-    // Writes the values of a call's operands over `args`, and says whether each operand has one. If not, `args` has some of them.
+    // Writes the values that a call's operands have in the scope with the number `scope` over `args`, and says whether each operand has one. If not,
+    // `args` has some of them.
     #[inline(always)]
     pub(crate) fn take_values(&self, operands: &[Operand], scope: usize, args: &mut Args) -> bool
         requires few { length operands.now ≤ MOST_ARGUMENTS }
@@ -86,7 +90,8 @@ impl<P: Run> Ledger<P> {
         take_values(&self.scopes, &self.cells, operands, scope, args)
     }
 
-    // What a token at a call of a site with these operands does: `Call`, `Void` or `Wait`.
+    // What a token at a call of a site with these operands, in the scope with the number `scope`, does: `Call` if all have values, `Void` if one is
+    // void, `Wait` otherwise.
     pub(crate) fn scan(&self, operands: &[Operand], scope: usize) -> Action
         ensures { result ≡ scan false Nothing (closed (its_env (code P.listing) self.now scope) operands.now) }
     {
@@ -94,7 +99,8 @@ impl<P: Run> Ledger<P> {
         site_call_action(&self.scopes, &self.cells, operands, scope, false, None)
     }
 
-    // `stop`: the token goes, out of the group that the answer names.
+    // `stop`: the token goes, out of the group that the answer names, which may have no member any more. `done` promises that the records become what
+    // the token's action makes of them; its ks are the calls that a bind cancels, so here any will do. Tokens in other slots stay there.
     #[inline(always)]
     fn move_end(&mut self, slot: usize, token: Token) -> Result<Moved, LedgerFault>
         requires held { IsHeld self.old.slots slot token }
@@ -104,13 +110,15 @@ impl<P: Run> Ledger<P> {
         ensures refused { OnErr result (self.new ≡ self.old) }
         ensures why { IfErr result (λ fault. IsHindered P.listing self.old token fault) }
     {
-        // Asked now, since the move takes the token out of its group.
+        // Asked before the move, which takes the token out of its group.
         let group = self.group_of(token.step);
         self.end(slot, token)?;
         Ok(Moved::Gone(group))
     }
 
-    // A void variable, or a call of a site with a void argument: the token goes, out of the group that the answer names.
+    // A void variable (its cell can't get a value any more), or a call of a site with a void argument: the token goes, out of the group that the
+    // answer names, which may have no member any more. `done` promises that the records become what the token's action makes of them; its ks are the
+    // calls that a bind cancels, so here any will do. Tokens in other slots stay there.
     fn move_void(&mut self, slot: usize, token: Token) -> Result<Moved, LedgerFault>
         requires held { IsHeld self.old.slots slot token }
         requires void { IsVoid (standing (code P.listing) (its_env (code P.listing) self.old) token.standing) }
@@ -119,14 +127,15 @@ impl<P: Run> Ledger<P> {
         ensures refused { OnErr result (self.new ≡ self.old) }
         ensures why { IfErr result (λ fault. IsHindered P.listing self.old token fault) }
     {
-        // Asked now, since the move takes the token out of its group.
+        // Asked before the move, which takes the token out of its group.
         let group = self.group_of(token.step);
         self.void(slot, token)?;
         Ok(Moved::Gone(group))
     }
 
-    // `f | g`, whose sides are the nodes `left` and `right`: a token on the left side comes into the slot, and one on the right side into the slot
-    // that the answer names.
+    // `f | g`, whose sides are the nodes `left` and `right`, in the scope with the number `scope`: a token on the left side comes into the slot, and
+    // one on the right side into the slot that the answer names. `done` promises that the records become what the token's action makes of them; its
+    // ks are the calls that a bind cancels, so here any will do. Tokens in other slots stay there.
     #[inline(always)]
     fn move_fork(
         &mut self,
@@ -147,7 +156,9 @@ impl<P: Run> Ledger<P> {
         Ok(Moved::Forked(right_slot))
     }
 
-    // `f >x> g`: a token on f comes into the slot. `left` is the node of f, `name` the number of x, `right` the node of g.
+    // `f >x> g`: a token on f comes into the slot. `left` is the node of f, `name` the number of x, `right` the node of g, `scope` the number of the
+    // whole term's scope. `done` promises that the records become what the token's action makes of them; its ks are the calls that a bind cancels, so
+    // here any will do. Tokens in other slots stay there.
     fn move_feed(
         &mut self,
         slot: usize,
@@ -168,8 +179,10 @@ impl<P: Run> Ledger<P> {
         Ok(Moved::On)
     }
 
-    // `f ; g`, whose sides are the nodes `left` and `right`: a token on the left side comes into the slot. The claim is asked last, since a side is
-    // opened.
+    // `f ; g`, whose sides are the nodes `left` and `right`, in the scope with the number `scope`: a token on the left side comes into the slot. The
+    // claim (what another worker may have won first) is asked last, since a side is opened: if the move is made, the claim was got (`asked`). `done`
+    // promises that the records become what the token's action makes of them; its ks are the calls that a bind cancels, so here any will do. Tokens
+    // in other slots stay there.
     fn move_other<C: Claim>(
         &mut self,
         slot: usize,
@@ -192,7 +205,9 @@ impl<P: Run> Ledger<P> {
     }
 
     // `f <x< g`: a token on f comes into the slot, and one on g into the slot that the answer names. `left` is the node of f, `name` the number of x,
-    // `right` the node of g. The claim is asked last, since a side is opened.
+    // `right` the node of g, `scope` the number of the whole term's scope. The claim (what another worker may have won first) is asked last, since a
+    // side is opened: if the move is made, the claim was got (`asked`). `done` promises that the records become what the token's action makes of
+    // them; its ks are the calls that a bind cancels, so here any will do. Tokens in other slots stay there.
     fn move_prune<C: Claim>(
         &mut self,
         slot: usize,
@@ -215,8 +230,9 @@ impl<P: Run> Ledger<P> {
         Ok(Moved::Forked(right_slot))
     }
 
-    // A call of `definition` with the operands of list `list`: a token on the body comes into the slot. `added` is lent for the scopes of the
-    // parameters. The token waits where the call can't be made; no checked program has such a call.
+    // A call of the definition with the number `definition`, with the operands of list `list`, read in the scope with the number `scope`: a token on
+    // the body comes into the slot. `added` is lent for the scopes of the parameters. The token waits (the answer is `Waits`) where the call can't be
+    // made; no checked program has such a call. Tokens in other slots stay there.
     #[inline(always)]
     fn move_def(
         &mut self,
@@ -236,9 +252,11 @@ impl<P: Run> Ledger<P> {
         ensures why { IfErr result (λ fault. IsHindered P.listing self.old token fault) }
     {
         match inputs.graph.body(definition as usize) {
-            // No such definition. `def` asks the limits first, so this is asked before it: a call that can't be made waits, and is never refused.
+            // No such definition. `def` asks the limits first, so the definition is looked for before: a call that can't be made waits, and is never
+            // refused.
             None => Ok(Moved::Waits),
             Some(_) => {
+                // `def` answers false where the operands don't fit the parameters.
                 if self.def(inputs, slot, token, scope, definition, list, added)? {
                     Ok(Moved::On)
                 } else {
@@ -248,7 +266,8 @@ impl<P: Run> Ledger<P> {
         }
     }
 
-    // Nothing around the token takes its value: the program publishes it, and the token goes, out of the group that the answer names.
+    // Nothing around the token takes its value (`takes`): the program publishes it, and the token goes, out of the group that the answer names, which
+    // may have no member any more. Tokens in other slots stay there.
     #[inline(always)]
     fn move_publish(
         &mut self,
@@ -264,14 +283,15 @@ impl<P: Run> Ledger<P> {
         ensures refused { OnErr result (self.new ≡ self.old) }
         ensures why { IfErr result (λ fault. IsHindered P.listing self.old token fault) }
     {
-        // Asked now, since the move takes the token out of its group.
+        // Asked before the move, which takes the token out of its group.
         let group = self.group_of(token.step);
         self.publish(slot, token, value)?;
         Ok(Moved::Gone(group))
     }
 
-    // A `>x>` takes the token's value: a token on its right side comes into the slot. `name` is the number of x, `right` the node of the right side,
-    // `scope` the scope of the whole `>x>`, `outer` the step around it. The answer names the group that the old token was in.
+    // A `>x>` takes the token's value: a token on the `>x>`'s right side comes into the slot. `name` is the number of x, `right` the node of the
+    // right side, `scope` the scope of the whole `>x>`, `outer` the step around it (the entry into the side or `>x>` that is next outwards). The
+    // answer names the group that the old token was in, which may have no member any more. Tokens in other slots stay there.
     #[inline(always)]
     fn move_send(
         &mut self,
@@ -293,14 +313,15 @@ impl<P: Run> Ledger<P> {
         ensures refused { OnErr result (self.new ≡ self.old) }
         ensures why { IfErr result (λ fault. IsHindered P.listing self.old token fault) }
     {
-        // Asked now, since the move takes the token out of its group.
+        // Asked before the move, which takes the token out of its group.
         let group = self.group_of(token.step);
         self.send(slot, token, value, name, right, scope, outer)?;
         Ok(Moved::Sent(group))
     }
 
-    // The right side of this cell publishes the token's value: the cell is bound, and all inside that side goes. `outer` is the step around the
-    // pruning. The claim is asked last, and `cancelled` gets the numbers of the calls that are cancelled.
+    // The right side of this cell publishes the token's value: the cell is bound, and all inside that side goes. `outer` is the number of the step
+    // around the whole `f <x< g`. The claim (what another worker may have won first) is asked last, and `cancelled` gets the numbers of the calls
+    // that are cancelled. Tokens in other slots stay there, but for those that a bind drops with the right side.
     fn move_bind<C: Claim>(
         &mut self,
         slot: usize,
@@ -321,14 +342,15 @@ impl<P: Run> Ledger<P> {
         ensures refused { OnErr result (self.new ≡ self.old) }
         ensures why { IfErr result (λ fault. IsBarredAt P.listing self.old token (claim.new ≡ claim.old) (C.lost claim.old claim.new) fault) }
     {
-        // The group around the pruning, which the answer names: it loses the right side's group.
+        // The group around the whole `f <x< g`, which the answer names: it loses the right side's group, and may have no member any more.
         let group = self.group_of(outer);
         self.bind(slot, token, value, cell, claim, cancelled)?;
         Ok(Moved::Bound(cell, group))
     }
 
-    // A token whose term is this value publishes it to what takes it: the program, a `>x>` or a cell. For a cell alone the claim is asked, and
-    // `cancelled` gets the numbers of the calls that are cancelled.
+    // A token whose term is this value publishes the value to what takes it: the program, a `>x>` or a cell. For a cell alone the claim (what another
+    // worker may have won first) is asked, and `cancelled` gets the numbers of the calls that are cancelled. Tokens in other slots stay there, but
+    // for those that a bind drops with the right side.
     #[inline(always)]
     pub(crate) fn move_value<C: Claim>(
         &mut self,
@@ -347,18 +369,22 @@ impl<P: Run> Ledger<P> {
         ensures why { IfErr result (λ fault. IsBarredAt P.listing self.old token (claim.new ≡ claim.old) (C.lost claim.old claim.new) fault) }
     {
         match self.taker_of(token) {
+            // Nothing around the token takes the value: the program publishes it.
             Taker::Whole => self.move_publish(slot, token, value),
+            // The left side of a `>x>`: the number of x, the right side's node, the scope of the whole term, and the step around it.
             Taker::SeqLeft(name, right, scope, outer) => {
                 self.move_send(slot, token, value, name, right, scope, outer)
             }
+            // The right side of this cell: the cell is bound. `outer` is the step around the whole `f <x< g`.
             Taker::PruneRight(cell, outer) => self.move_bind(
                 slot, token, value, cell, outer, claim, cancelled,
             ),
         }
     }
 
-    // The variable with the number `name`, by what stands for it in this scope: a value is published, an unbound cell awaited, and with void the
-    // token goes. `claim` and `cancelled` are used only if the value binds a cell.
+    // The variable with the number `name`, by what stands for it in this scope: a value is published, an unbound cell is awaited, and with void (no
+    // value can come any more) the token goes. `claim` and `cancelled` are used only if the value binds a cell. Tokens in other slots stay there, but
+    // for those that a bind drops with the right side.
     fn move_name<C: Claim>(
         &mut self,
         slot: usize,
@@ -380,13 +406,14 @@ impl<P: Run> Ledger<P> {
             Some(Bound::Is(value)) => self.move_value(slot, token, value, claim, cancelled),
             Some(Bound::Void) => self.move_void(slot, token),
             Some(Bound::Cell(_)) => Ok(Moved::Waits),
-            // A name that isn't bound; no checked program has one.
+            // A name that isn't bound; no checked program has one. The token waits for ever.
             None => Ok(Moved::Waits),
         }
     }
 
-    // A call of a site, with the operands of list `list`: once they have values the answer is `Calls`, and the caller makes the call by another
-    // function.
+    // A call of a site, with the operands of list `list`, read in the scope with the number `scope`: once all operands have values the answer is
+    // `Calls`, and the caller makes the call by another function (`call`). With a void operand the token goes, else it waits. Tokens in other slots
+    // stay there.
     #[inline(always)]
     fn move_site(
         &mut self,
@@ -403,8 +430,9 @@ impl<P: Run> Ledger<P> {
         ensures refused { OnErr result (self.new ≡ self.old) }
         ensures why { IfErr result (λ fault. IsHindered P.listing self.old token fault) }
     {
+        // The operands of the list: names and literals.
         let operands = inputs.graph.operands(list as usize);
-        // Asked by itself first: most calls have their values, and a `bool` is quicker to hand back than an `Action`.
+        // The operands are asked for values by themselves first: most calls have theirs, and a `bool` is quicker to hand back than an `Action`.
         if self.have_values(operands, scope) {
             return Ok(Moved::Calls);
         }
@@ -417,8 +445,9 @@ impl<P: Run> Ledger<P> {
         }
     }
 
-    // Moves a token by the node at which it is, which is `node`, in this scope. `added` is used by a call of a definition alone, `cancelled` by a
-    // bind, and `claim` where a bind is made or a side opened.
+    // Moves a token by the node at which it is, which is `node`, in the scope with the number `scope`; each kind of node has its `move_..`. `added`
+    // is used by a call of a definition alone, `cancelled` by a bind, and `claim` (what another worker may have won first) where a bind is made or a
+    // side opened. Tokens in other slots stay there, but for those that a bind drops with the right side.
     #[inline(always)]
     pub(crate) fn move_at<C: Claim>(
         &mut self,
@@ -456,11 +485,12 @@ impl<P: Run> Ledger<P> {
         }
     }
 
-    /// Moves this token, which is in this slot, by its action, as `what` gives it: the kind of entry follows from the token's node and from what
-    /// takes its value. A call of a site is not made, and a token that waits stays as it is. If a cell is bound or a side opened, the claim is asked
-    /// last. Any other move leaves the claim untouched, and so does a refusal before it is asked. Full, Limit or Memory if the entry is refused,
-    /// Unclaimed if the claim is lost; the records are as before then. `added` and `cancelled` are lent: what they held may be lost, and if a cell is
-    /// bound, `cancelled` then holds the numbers of the calls that are cancelled, in rising order.
+    /// Moves this token, which is in this slot, by its action, what it does next (`what` gives it): the kind of entry follows from the token's node
+    /// and from what takes its value. A call of a site is not made, and a token that waits stays as it is. If a cell is bound or a side opened, the
+    /// claim (what another worker may have won first) is asked last. Any other move leaves the claim untouched, and so does a refusal before it is
+    /// asked. Full, Limit or Memory if the entry is refused, Unclaimed if the claim is lost; the records are as before then. `added` and `cancelled`
+    /// are lent: what they held may be lost, and if a cell is bound, `cancelled` then holds the numbers of the calls that are cancelled, in rising
+    /// order. Tokens in other slots stay there, but for those that a bind drops with the right side.
     pub fn advance_by<C: Claim>(
         &mut self,
         inputs: &Inputs<'_, P>,
@@ -486,9 +516,10 @@ impl<P: Run> Ledger<P> {
         }
     }
 
-    /// Moves this token as `advance_by` does, with a claim that is always got. Full, Limit or Memory if its entry is refused, and then nothing
-    /// changes. `added` and `cancelled` are lent: what they held may be lost, and if a cell is bound, `cancelled` then holds the numbers of the calls
-    /// that are cancelled, in rising order.
+    /// Moves this token as `advance_by` does, with a claim that is always got: no other worker can win the move. Full, Limit or Memory if its entry
+    /// is refused, and then nothing changes. `added` and `cancelled` are lent: what they held may be lost, and if a cell is bound, `cancelled` then
+    /// holds the numbers of the calls that are cancelled, in rising order. Tokens in other slots stay there, but for those that a bind drops with the
+    /// right side.
     pub fn advance(
         &mut self,
         inputs: &Inputs<'_, P>,
@@ -503,13 +534,14 @@ impl<P: Run> Ledger<P> {
         ensures refused { OnErr result (self.new ≡ self.old) }
         ensures why { IfErr result (λ fault. IsHindered P.listing self.old token fault) }
     {
+        // No other worker can win the move: the claim is always got.
         let mut claim = Always;
         self.advance_by(inputs, slot, token, &mut claim, added, cancelled)
     }
 
-    /// Moves this token, which is in this slot and on this value: it publishes the value to what takes it. Full, Limit or Memory if its entry is
-    /// refused, and then nothing changes. `cancelled` is lent: if a cell is bound, it then holds the numbers of the calls that are cancelled, in
-    /// rising order.
+    /// Moves this token, which is in this slot and on this value: the token publishes the value to what takes it (the program, a `>x>` or a cell).
+    /// Full, Limit or Memory if its entry is refused, and then nothing changes. `cancelled` is lent: if a cell is bound, it then holds the numbers of
+    /// the calls that are cancelled, in rising order. Tokens in other slots stay there, but for those that a bind drops with the right side.
     #[inline(always)]
     pub fn advance_value(
         &mut self,
@@ -525,6 +557,7 @@ impl<P: Run> Ledger<P> {
         ensures refused { OnErr result (self.new ≡ self.old) }
         ensures why { IfErr result (λ fault. IsHindered P.listing self.old token fault) }
     {
+        // No other worker can win the move: the claim is always got.
         let mut claim = Always;
         self.move_value(slot, token, value, &mut claim, cancelled)
     }

@@ -24,8 +24,9 @@ use orc_rules::value::{Args, Value};
 use orc_tables::{Standing, Token};
 
 impl<P: Run> Ledger<P> {
-    // Sends the value on which a token stands to the `>x>` that takes it. False, and nothing changes, where something else takes it or the entry is
-    // refused: whoever moves the token next makes that move, or meets the refusal again and reports it.
+    // Sends the value on which the token in the slot `slot` stands to the `>x>` that takes the value, and answers true. False, and nothing changes,
+    // where something else takes the value or the entry is refused: whoever moves the token next makes that move, or meets the refusal again and
+    // reports it. Tokens in other slots stay there.
     #[inline(always)]
     fn send_on(&mut self, slot: usize, token: Token, value: Value) -> bool
         requires held { IsHeld self.old.slots slot token }
@@ -35,19 +36,22 @@ impl<P: Run> Ledger<P> {
         ensures others { KeepsOthers self.old.slots slot self.new.slots }
     {
         match self.taker_of(token) {
+            // A `>x>`: the number of x, the right side's node, the scope of the whole term, and the step around it.
             Taker::SeqLeft(name, right, scope, outer) => {
                 match self.send(slot, token, value, name, right, scope, outer) {
                     Ok(()) => true,
                     Err(_) => false,
                 }
             }
+            // The program or a cell takes the value: this function leaves that to the token's next move.
             Taker::Whole => false,
             Taker::PruneRight(_, _) => false,
         }
     }
 
-    // A token at a call of a site, with the operands of list `list`, makes it if the operands have values, and goes on with an answer that comes at
-    // once. `On` where nothing has changed: an operand has no value, or the call is refused.
+    // A token at a call of the site with the number `site`, with the operands of list `list`, read in the scope with the number `scope`, makes the
+    // call if the operands have values, and goes on with an answer that comes at once. `On` where nothing has changed: an operand has no value, or
+    // the call is refused. Tokens in other slots stay there.
     #[inline(always)]
     fn call_on(
         &mut self,
@@ -76,12 +80,14 @@ impl<P: Run> Ledger<P> {
                         standing: Standing::On(value),
                         step: token.step,
                     };
+                    // True: the `>x>` around the call has taken the answer.
                     if self.send_on(slot, answered, value) {
                         Passed::Through
                     } else {
                         Passed::Answered
                     }
                 }
+                // The call waits for its answer, or it has halted, out of this group.
                 Ok(Called::Pends(number)) => Passed::Pends(number),
                 Ok(Called::Halted(group)) => Passed::Halted(group),
                 // Nothing has changed: whoever moves the token next meets the same refusal, and reports it.
@@ -91,7 +97,8 @@ impl<P: Run> Ledger<P> {
         Passed::On
     }
 
-    // Removes the last step, at which no token, call or group is left. So a program that repeats itself doesn't add a step in each round.
+    // Removes the last step, which is the entry into the left side of a `>x>` where no token, call or group is left (`IsVacant`). So a program that
+    // repeats itself doesn't add a step in each round.
     #[inline(always)]
     fn shed(&mut self)
         requires { IsVacant self.old }
@@ -100,10 +107,11 @@ impl<P: Run> Ledger<P> {
         self.steps.drop_last();
     }
 
-    /// `f >x> g`: a token on the left side, in the same slot, as `feed` puts it there. If it is at a call of a site with values then, the call is
-    /// made, as `call_through` makes it; and if that is answered at once the `>x>` takes the answer. The fault says why the first entry is refused,
-    /// and then nothing changes; what is refused after it is left undone, and is no fault. If the token gets through, or the call halts, the step
-    /// into the left side goes again. `args` is lent for the arguments.
+    /// `f >x> g`: a token on the left side, in the same slot, as `feed` puts it there. If that token is at a call of a site with values, the call is
+    /// made, as `call_through` makes it; and if the call is answered at once the `>x>` takes the answer. `left` and `right` are the nodes of f and g,
+    /// `name` is the number of x, `scope` the number of the whole term's scope. The fault says why the first entry is refused, and then nothing
+    /// changes; what is refused after that entry is left undone, and is no fault. If the token gets through, or the call halts, the step into the
+    /// left side (its record in the table of steps) goes again. `args` is lent for the arguments. Tokens in other slots stay there.
     pub fn feed_through(
         &mut self,
         inputs: &Inputs<'_, P>,

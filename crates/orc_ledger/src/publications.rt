@@ -36,8 +36,9 @@ use orc_rules::value::Value;
 use orc_tables::{Standing, Token};
 
 impl<P: Run> Ledger<P> {
-    /// A publication of the program: nothing around the token takes the value. The token ends, and the otherwises around it have published: their
-    /// right sides never run. Full, Limit or Memory where the entry is refused; nothing has changed then.
+    /// A publication of the program: nothing around the token takes the value, as the clause `takes` asks. `slot` is the token's slot. The token
+    /// ends, and the otherwises (`f ; g`) in whose left sides the token is have published: their right sides never run. Full, Limit or Memory where
+    /// the entry is refused; nothing has changed then. Tokens in other slots stay there.
     #[inline(always)]
     pub fn publish(&mut self, slot: usize, token: Token, value: Value) -> Result<(), LedgerFault>
         requires held { IsHeld self.old.slots slot token }
@@ -50,6 +51,7 @@ impl<P: Run> Ledger<P> {
     {
         // The token goes: no token and no group comes, and no left side of a `>x>` is entered.
         self.within(0, 0, 0)?;
+        // The group that the token is a member of, and leaves: the innermost right side of a `<x<` or left side of a `;` around it, or the program.
         let group = self.steps.group_at(token.step);
         write(&mut self.journal, &Entry::Publish(token.serial, value))?;
         self.entries += 1;
@@ -60,9 +62,10 @@ impl<P: Run> Ledger<P> {
         Ok(())
     }
 
-    /// A `>x>` takes the value that the token publishes: a token on a copy of its right side takes the slot, and the otherwises between have
-    /// published. `name`, `right` and `scope` are the name, the right side's node and the scope of that `>x>`, `outer` is the step around it
-    /// ([`Taker::SeqLeft`]). Full, Limit or Memory where the entry is refused; nothing has changed then.
+    /// A `>x>` takes the value that the token publishes: a token on a copy of the `>x>`'s right side takes the slot, and the otherwises (`f ; g`)
+    /// between token and `>x>` have published. `name`, `right` and `scope` are the number of x, the right side's node and the scope of that `>x>`,
+    /// `outer` is the number of the step around it ([`Taker::SeqLeft`]): the entry into the side or `>x>` that is next outwards. Full, Limit or
+    /// Memory where the entry is refused; nothing has changed then. Tokens in other slots stay there.
     #[inline(always)]
     pub fn send(
         &mut self,
@@ -90,14 +93,16 @@ impl<P: Run> Ledger<P> {
         // The new scope extends that of the `>x>`, whose number it keeps in 32 bits. A longer number counts as refused memory.
         let extended = outer_number(scope)?;
         reserve(&mut self.scopes)?;
-        // The groups that the token leaves and joins.
+        // The numbers of the groups that the token leaves and joins. A group is what runs inside one right side of a `<x<`, one left side of a `;`,
+        // or the program.
         let left = self.steps.group_at(token.step);
         let joined = self.steps.group_at(outer);
+        // The mark by which the journal names the new token.
         let mark = self.next_mark;
         write(&mut self.journal, &Entry::Send(token.serial, mark, value))?;
         self.entries += 1;
         self.next_mark = mark + 1;
-        // The two may be one group: as it is joined first, it isn't empty in between.
+        // The two may be one group: as it is joined first, it isn't without members in between.
         self.groups.join(joined);
         self.groups.leave(left);
         // Marks the otherwises that the value passes as published: their right sides never run.

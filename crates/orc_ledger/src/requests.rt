@@ -32,8 +32,8 @@ use orc_rules::entry::Entry;
 use orc_rules::value::Args;
 use orc_tables::{Call, Standing, Token};
 
-// Writes a call, and counts in `counts` a call of the site with these arguments, if a script answers the site. `token` is the caller's mark, `call`
-// the call's number. Where memory is refused nothing changes.
+// Writes the entry of a call, and counts in `counts` a call of the site with the number `site` with these arguments, if a script answers the site.
+// `token` is the mark of the token that makes the call, `call` the call's number. Where memory is refused nothing changes.
 fn write_call<P: Run>(
     journal: &mut Log<P>,
     counts: &mut Counts,
@@ -48,6 +48,7 @@ fn write_call<P: Run>(
     ensures refused { OnErr result ((journal.new ≡ journal.old) × (counts.new ≡ counts.old)) }
     ensures why { IfErr result (λ fault. fault ≡ LedgerFault.Memory) }
 {
+    // The journal's length before the call, to which it is cut if the counting is refused.
     let entries = journal.len();
     match journal.push_call(inputs.answers, token, call, site, args.as_slice()) {
         Ok(()) => {}
@@ -63,8 +64,8 @@ fn write_call<P: Run>(
 }
 
 impl<P: Run> Ledger<P> {
-    // The number of the site that a token calls. The arguments are written over `args`. The token's action is `Call`, as the clause asks: so it is at
-    // a node, that node is a call of a site, and all operands have values. No `unreachable!` is met.
+    // The number of the site that a token calls. The arguments are written over `args`. The token's action is `Call`, as the clause asks: so the
+    // token is at a node, that node is a call of a site, and all operands have values. No `unreachable!` is met.
     #[inline(always)]
     pub(crate) fn ask(&self, inputs: &Inputs<'_, P>, token: Token, args: &mut Args) -> u32
         requires calls { what_of (code P.listing) (definitions P.listing) self.now token ≡ Action.Call }
@@ -84,7 +85,8 @@ impl<P: Run> Ledger<P> {
     }
 
     // The record of the call that a token makes next, of a site with these arguments: its number, the table's answer, the place of its entry (`row`),
-    // which is the next one in the journal, and which call with these arguments it is (`nth`). It looks into the counts once, and changes nothing.
+    // which is the next one in the journal, and which call with these arguments it is (`nth`). The function looks into the counts of calls once, and
+    // changes nothing.
     #[inline(always)]
     pub(crate) fn next_call(
         &self,
@@ -95,6 +97,7 @@ impl<P: Run> Ledger<P> {
     ) -> Call
         ensures { IsNextCall P.listing P.sites self.now token site args.now result }
     {
+        // The table's answer (`found`), and which call of the site with these arguments this one is (`nth`).
         let next = self.counts.next_call(inputs.answers, site, args);
         Call {
             number: self.calls.next_number(),
@@ -106,8 +109,8 @@ impl<P: Run> Ledger<P> {
         }
     }
 
-    // Makes this call, which `next_call` gave: it pends in the token's place, and the slot is free. The limits were asked before. The only fault is
-    // `Memory`, and then nothing changes.
+    // Makes this call, which `next_call` gave: it pends in the place of the token in the slot `slot`, and the slot is free. The limits were asked
+    // before (the clause `room`). The only fault is `Memory`, and then nothing changes. Tokens in other slots stay there.
     pub(crate) fn pend(
         &mut self,
         inputs: &Inputs<'_, P>,
@@ -126,7 +129,7 @@ impl<P: Run> Ledger<P> {
         ensures refused { OnErr result (self.new ≡ self.old) }
         ensures why { IfErr result (λ fault. fault ≡ LedgerFault.Memory) }
     {
-        // Makes room for the call, and notes when it is due.
+        // Makes room for the call, and notes when it is due. The error is refused memory.
         match self.calls.reserve(call) {
             Ok(()) => {}
             Err(_) => return Err(LedgerFault::Memory),
@@ -141,7 +144,8 @@ impl<P: Run> Ledger<P> {
             args,
         )?;
         self.entries += 1;
-        // The call is a member of the token's group in its place: no group changes its size.
+        // A group is what runs inside one right side of a `<x<`, one left side of a `;`, or the whole program. The call is a member of the token's
+        // group in the token's place: no group changes its number of members.
         self.tokens.remove(slot);
         let group = self.steps.group_at(call.step);
         // The table of calls takes the group as a hint for later searches.
@@ -149,9 +153,9 @@ impl<P: Run> Ledger<P> {
         Ok(())
     }
 
-    /// Makes the call of a site at which this token is, whose operands have values: the call pends in the token's place, and the slot is free. Gives
-    /// the call's record. `args` is lent for the arguments: it has them afterwards, and what it held is lost. Full, Limit or Memory if the entry is
-    /// refused; then nothing changes but `args`.
+    /// Makes the call of a site at which this token is, which is in the slot `slot`; the call's operands have values, as the clause `calls` asks: the
+    /// call pends in the token's place, and the slot is free. Gives the call's record. `args` is lent for the arguments: it has them afterwards, and
+    /// what it held is lost. Full, Limit or Memory if the entry is refused; then nothing changes but `args`. Tokens in other slots stay there.
     pub fn call(
         &mut self,
         inputs: &Inputs<'_, P>,
@@ -176,8 +180,8 @@ impl<P: Run> Ledger<P> {
         Ok(call)
     }
 
-    /// What the call that pends with this number asks. None where no such call pends; and if the run doesn't keep its journal, since the call's entry
-    /// is read.
+    /// What the call that pends with this number (the call's in the journal, from 1) asks: site, arguments, and when it was made. None where no such
+    /// call pends; and if the run doesn't keep its journal, since the call's entry is read.
     pub fn request(&self, number: u64) -> Option<Request>
         ensures { MatchOption result (P.keeps ≡ true → weight (has_number number) self.now.calls ≡ 0) (IsAsked P.listing P.sites self.now number) }
     {
@@ -200,14 +204,14 @@ impl<P: Run> Ledger<P> {
         })
     }
 
-    /// The record of the call that pends with this number; None if none does.
+    /// The record of the call that pends with this number, the call's in the journal, from 1; None if no such call pends.
     pub fn pending(&self, number: u64) -> Option<Call>
         ensures { MatchOption result (weight (has_number number) self.now.calls ≡ 0) (Pends self.now number) }
     {
         self.calls.get(number)
     }
 
-    /// How many calls pend.
+    /// How many calls of sites pend: they were made and have no answer yet.
     pub fn pending_count(&self) -> usize
         ensures { result ≡ length self.now.calls }
     {

@@ -22,11 +22,12 @@ use orc_rules::limits::MOST_FRAMES;
 use orc_tables::{Standing, Token};
 
 impl<P: Run> Ledger<P> {
-    // Whether a token uses a rule of Orc next: it neither waits nor makes a move of marks, which is an entry that uses no rule (`end`, `fork`, `seq`
-    // or `other`).
+    // Whether a token uses a rule of Orc next: the token neither waits nor makes a move of marks, which is an entry that uses no rule (`end`, `fork`,
+    // `seq` or `other`). The contract speaks of `true` alone.
     fn is_at_rule(&self, inputs: &Inputs<'_, P>, token: &Token) -> bool
         ensures { result ≡ true → is_rule (what_of (code P.listing) (definitions P.listing) self.now token.now) ≡ true }
     {
+        // `what` gives the token's action: what the token does next.
         match self.what(inputs, token) {
             Action::Halt | Action::Fork | Action::Seq | Action::Other | Action::Wait(_) => false,
             Action::Prune
@@ -40,10 +41,11 @@ impl<P: Run> Ledger<P> {
     }
 
     // The token as it would be on the first part of its term (f of `f | g`, `f >x> g` and `f ; g`): if that part can use a rule, so can the term.
-    // None for a term of another form.
+    // None for a term of another form, and for a token on a value.
     fn first_part(&self, inputs: &Inputs<'_, P>, token: Token) -> Option<Token>
         ensures { IfSome result (λ part. can_move (definitions P.listing) (term_of (code P.listing) self.now part) ≡ true → can_move (definitions P.listing) (term_of (code P.listing) self.now token) ≡ true) }
     {
+        // A token on a value is at no node: it has no parts.
         let Standing::At(node, scope) = token.standing else {
             return None;
         };
@@ -57,7 +59,8 @@ impl<P: Run> Ledger<P> {
         }
     }
 
-    // Whether a token, if the slot holds one, can use a rule now, or could after moves of marks into the first parts of its term.
+    // Whether a token can use a rule now, or could after moves of marks (entries that use no rule) into the first parts of its term. `token` is what
+    // a slot holds: in a free slot its serial is 0, and the answer is false.
     fn uses_rule(&self, inputs: &Inputs<'_, P>, token: &Token) -> bool
         ensures there { result ≡ true → 1 ≤ token.now.serial }
         ensures rule { result ≡ true → can_move (definitions P.listing) (term_of (code P.listing) self.now token.now) ≡ true }
@@ -66,7 +69,8 @@ impl<P: Run> Ledger<P> {
             return false;
         }
         let mut inner = *token;
-        // The bound only makes the loop end; any large number would do. If first parts nest deeper, the answer is false, whatever the term can do.
+        // Goes inwards to the innermost first part. The bound only makes the loop end; any large number would do. If first parts nest deeper, the
+        // answer is false, whatever the term can do.
         for _inwards in 0..MOST_FRAMES {
             match self.first_part(inputs, inner) {
                 Some(part) => inner = part,
@@ -76,8 +80,9 @@ impl<P: Run> Ledger<P> {
         self.is_at_rule(inputs, &inner)
     }
 
-    /// Whether some token can use a rule of Orc, if need be after moves of marks alone. If so the run isn't quiet. If not, nothing is promised: it
-    /// looks at each token, but of the token's term only at the first parts (the left sides).
+    /// Whether some token can use a rule of Orc, if need be after moves of marks (entries that use no rule) alone. If so the run isn't quiet: the
+    /// clause says that no place at which the records are is quiet. If not, nothing is promised: the function looks at each token, but of the token's
+    /// term only at the first parts (the left sides).
     pub fn can_use_rule(&self, inputs: &Inputs<'_, P>) -> bool
         ensures { result ≡ true → (p : Place) → IsAt P.listing P.sites self.now p → IsQuiet (context P.listing P.sites) (moment p) → ⊥ }
     {
@@ -89,7 +94,8 @@ impl<P: Run> Ledger<P> {
         false
     }
 
-    /// Whether the program's own group has no members. The term has halted then, by the rules.
+    /// Whether the program's own group, number 0, has no members: no token, no pending call and no open side is left. The term has halted then, by
+    /// the rules.
     pub fn has_halted(&self) -> bool
         ensures empty { result ≡ true ↔ (members (numbers_of self.now) self.now 0 ≡ 0) }
         ensures halted { result ≡ true → (p : Place) → IsAt P.listing P.sites self.now p → Halted (erase p.marked) }

@@ -39,7 +39,7 @@ use orc_tables::{
     take_out,
 };
 
-// Writes what a cell has become: a value, or void if it is lost. If there is no such cell, nothing changes.
+// Writes what the cell with this number has become: a value, or void if its right side halted without one. If there is no such cell, nothing changes.
 fn settle(cells: &mut Vec<Bound>, cell: u64, bound: Bound)
     ensures { cells.new.items ≡ slice_set cells.old.items cell bound }
 {
@@ -48,8 +48,9 @@ fn settle(cells: &mut Vec<Bound>, cell: u64, bound: Bound)
     }
 }
 
-// Writes a bind and, behind it, the cancels of these calls, then asks the claim, and removes these entries if the claim is lost. Memory if memory is
-// refused, Unclaimed if the claim is lost; the journal is then as it was.
+// Writes a bind (the cell gets the value that the token publishes) and, behind it, the cancels of the calls with the numbers in `cancelled`, then
+// asks the claim (what another worker may have won first), and removes these entries if the claim is lost. Memory if memory is refused, Unclaimed if
+// the claim is lost; the journal is then as it was. `token` is the token's mark.
 fn write_bind<P: Run, C: Claim>(
     journal: &mut Log<P>,
     token: u64,
@@ -63,6 +64,7 @@ fn write_bind<P: Run, C: Claim>(
     ensures refused { OnErr result (journal.new ≡ journal.old) }
     ensures why { IfErr result (λ fault. IsBarred (claim.new ≡ claim.old) (C.lost claim.old claim.new) (λ reason. reason ≡ LedgerFault.Memory) fault) }
 {
+    // The journal's length before the bind, to which it is cut if the claim is lost.
     let entries = journal.len();
     match journal.push_bind(token, cell, value, cancelled) {
         Ok(()) => {}
@@ -76,17 +78,18 @@ fn write_bind<P: Run, C: Claim>(
 }
 
 impl<P: Run> Ledger<P> {
-    /// How many sides are open: right sides of a `<x<` whose cell has no value yet, and left sides of a `;` that haven't been closed.
+    /// How many sides are open groups: right sides of a `<x<` whose cell has no value yet, and left sides of a `;` that haven't been closed.
     pub fn side_count(&self) -> usize
         ensures { result ≡ length self.now.groups }
     {
         self.groups.len()
     }
 
-    /// Binds a cell to the value that the token publishes in its right side: all that is inside that side goes, and the calls that pended there are
-    /// cancelled. The tokens outside it stay in their slots. `slot` is the token's slot, which only the contract uses. `cancelled` gets the numbers
-    /// of the cancelled calls, in rising order; what it held is lost. The claim is asked last. Full, Limit or Memory if the entries are refused,
-    /// Unclaimed if the claim is lost; no record has changed then.
+    /// Binds the variable x of an `f <x< g`, which is the cell with the number `cell`, to the value that the token publishes in the right side: all
+    /// that is inside that side goes, and the calls that pended there are cancelled. The tokens outside the side stay in their slots. `slot` is the
+    /// token's slot, which only the contract uses. `cancelled` gets the numbers of the cancelled calls, in rising order; what it held is lost. The
+    /// claim (what another worker may have won first) is asked last. Full, Limit or Memory if the entries are refused, Unclaimed if the claim is
+    /// lost; no record has changed then.
     pub fn bind<C: Claim>(
         &mut self,
         slot: usize,
@@ -109,9 +112,9 @@ impl<P: Run> Ledger<P> {
     {
         // No token and no group comes, and no left side of a `>x>` is entered.
         self.within(0, 0, 0)?;
-        // Lists what is inside the right side: the calls, which are to be cancelled, in `cancelled`, the rest in `self.crowd`. `known` is false if
-        // only the calls were found: then each table is searched below. `side_group` guesses the side's group by the token; a wrong guess costs only
-        // time.
+        // Lists what is inside the right side: the numbers of the calls, which are to be cancelled, in `cancelled`, the rest in `self.crowd`. `known`
+        // is false if only the calls were found: then each table is searched below. `side_group` guesses the side's group by the token; a wrong guess
+        // costs only time.
         let known = list_side(
             &mut self.crowd,
             &self.tokens,
@@ -122,6 +125,7 @@ impl<P: Run> Ledger<P> {
             side_group(&self.steps, token.step),
             cancelled,
         )?;
+        // The entries: the bind, and a cancel for each of these calls. Cancels don't count in `self.entries`.
         write_bind(
             &mut self.journal,
             token.serial,
@@ -131,7 +135,8 @@ impl<P: Run> Ledger<P> {
             claim,
         )?;
         self.entries += 1;
-        // What is inside goes, the token itself and the side's own group too. Nothing of this asks for memory.
+        // What is inside goes from the tables: the tokens, the publishing one too, then the calls, then the groups, the side's own too. Nothing of
+        // this asks for memory.
         leave_tokens(
             &mut self.tokens,
             &mut self.groups,
@@ -156,12 +161,13 @@ impl<P: Run> Ledger<P> {
             &self.crowd.groups,
         );
         settle(&mut self.cells, cell, Bound::Is(value));
-        // The tokens that are parked for this cell have to be looked at again.
+        // The tokens that are parked for this cell (known to wait for it) have to be looked at again.
         self.tokens.wake(cell);
         Ok(())
     }
-    /// The right side of a cell has halted without a publication: its group has no members. The group goes and the cell becomes void; no other record
-    /// goes, and each token stays in its slot. Full, Limit or Memory if the entry is refused; nothing has changed then.
+    /// The right side of an `f <x< g` has halted without a publication: `group`, which is that side, has no members, no token, no pending call and no
+    /// inner group. `cell` is the number of the cell that stands for x. The group goes and the cell becomes void; no other record goes, and each
+    /// token stays in its slot. Full, Limit or Memory if the entry is refused; nothing has changed then.
     pub fn lost(&mut self, group: Group, cell: u64) -> Result<(), LedgerFault>
         requires there { IsIn group self.old.groups }
         requires side { group.side ≡ Right cell }
@@ -180,12 +186,13 @@ impl<P: Run> Ledger<P> {
         // The group goes, and the group around it has one member less.
         take_out(&mut self.groups, &self.steps, group);
         settle(&mut self.cells, cell, Bound::Void);
-        // The tokens that are parked for this cell have to be looked at again.
+        // The tokens that are parked for this cell (known to wait for it) have to be looked at again: it is void now.
         self.tokens.wake(cell);
         Ok(())
     }
 
-    /// Removes the group of a left side of an otherwise that has published and has no member any more. The journal gets no entry for it.
+    /// Removes the group of the left side of a `;` that has published, so that the right side never runs, and that has no member any more: no token,
+    /// no pending call and no inner group. The journal gets no entry for it. Each token stays in its slot.
     pub fn close(&mut self, group: Group)
         requires there { IsIn group self.old.groups }
         requires over { is_over (code P.listing) self.old group.side ≡ true }
@@ -196,9 +203,10 @@ impl<P: Run> Ledger<P> {
         // The group goes, and the group around it has one member less.
         take_out(&mut self.groups, &self.steps, group);
     }
-    /// The left side of an otherwise has halted without a publication: its group has no members. The group goes, and a token starts the right side,
-    /// at this `node` and `scope`; each other token stays in its slot. `number` is the otherwise's. Gives the new token's slot. Full, Limit or Memory
-    /// if the entry is refused; nothing has changed then.
+    /// The left side of an `f ; g` has halted without a publication: `group`, which is that side, has no members, and the clause `stays` asks that no
+    /// value has left it. The group goes, and a token starts the right side, at this `node` and `scope`; each other token stays in its slot. `number`
+    /// is the one by which the journal names this `f ; g`. Gives the new token's slot. Full, Limit or Memory if the entry is refused; nothing has
+    /// changed then.
     pub fn right(
         &mut self,
         group: Group,
@@ -219,10 +227,12 @@ impl<P: Run> Ledger<P> {
         // One token more: it starts the right side.
         self.within(1, 0, 0)?;
         self.tokens.reserve()?;
+        // The mark by which the journal names the new token.
         let mark = self.next_mark;
         write(&mut self.journal, &Entry::Right(number, mark))?;
         self.entries += 1;
         self.next_mark = mark + 1;
+        // The number of the group around the whole `f ; g`.
         let parent = self.steps.group_at(group.outer);
         // The parent loses the group and gets the token: it has as many members as before.
         let _left = self.groups.take(group.number);

@@ -33,14 +33,16 @@ use std::marker::{Model, PhantomData};
 /// A call of a definition with values, as a task that can be run by itself: the number of the definition and the arguments.
 #[derive(Drop)]
 pub struct SubRunTask {
+    /// The number of the definition that is called.
     pub definition: u32,
+    /// The values with which the definition is called, one for each parameter.
     pub args: Args,
-    /// Whether the whole run publishes what the call publishes.
+    /// Whether the whole run publishes what the call publishes: nothing around the call takes it.
     pub is_outermost: bool,
 }
 
 impl SubRunTask {
-    /// A copy of the task.
+    /// A copy of the task: the same definition, arguments and `is_outermost`.
     pub fn copied(&self) -> SubRunTask
         ensures { result ≡ self.now }
     {
@@ -62,7 +64,7 @@ pub struct SubRun<P: Run> {
     journal: Log<P>,
     // Whether its run is known to have published nothing.
     is_silent: bool,
-    // By its own numbers: its next mark, how many calls of sites it has made, how many cells it has opened.
+    // By its own numbers: its next mark (the journal's name for a token), how many calls of sites it has made, how many cells it has opened.
     next_mark: u64,
     calls: u64,
     cells: usize,
@@ -71,8 +73,8 @@ pub struct SubRun<P: Run> {
     program: PhantomData<P>,
 }
 
-// What contracts see of a sub-run (`Apart`). By the invariant the call's run is over but for the token that is `left`, and has published nothing
-// where `is_silent` is true.
+// What contracts see of a sub-run (`Apart`). By the invariant (`IsOver`) the call's run is over but for the token that is `left`, and has published
+// nothing where `is_silent` is true.
 impl<P: Run> Model for SubRun<P> {
     ghost use Rattle.std.specs.Prelude.{◌≡◌, true};
     ghost use Rattle.orc_subrun.specs.Moved.{AreSilent};
@@ -85,7 +87,7 @@ impl<P: Run> Model for SubRun<P> {
     ghost invariant = { λ p. IsOver P.listing P.sites (record { definition = p.definition; args = p.args; entries = p.journal.entries; mark = p.next_mark; calls = p.calls; cells = p.cells; left = p.left }) × (p.is_silent ≡ true → AreSilent p.journal.entries) };
 }
 
-// Written out, so that each exit of a function that has a part drops it by one call.
+// Written out, so that each exit of a function that has a `SubRun` drops it by one call. Only the journal has memory of its own.
 impl<P: Run> Drop for SubRun<P> {
     fn drop(self) {
         let SubRun {
@@ -118,8 +120,8 @@ impl<P: Run> SubRun<P> {
         self.left.is_some()
     }
 
-    /// Whether the sub-run is the result of this task, and may be merged where the task's call is: a sub-run that has published something may be
-    /// merged only where the whole run publishes that. The contract promises it of `true` alone.
+    /// Whether the sub-run is the result of this task (same definition, same arguments), and may be merged where the task's call is: a sub-run that
+    /// has published something may be merged only where the whole run publishes that (`is_outermost`). The contract promises that of `true` alone.
     pub fn is_of(&self, task: &SubRunTask) -> bool
         ensures { result ≡ true → (self.now.definition ≡ task.now.definition) × (self.now.args ≡ task.now.args) × (self.now.left ≡ None → (task.now.is_outermost ≡ true) ⊎ AreSilent self.now.entries) }
     {
@@ -134,8 +136,9 @@ impl<P: Run> SubRun<P> {
 fn are_same(values: &[Value], others: &[Value]) -> bool
     ensures { result ≡ true → values.now ≡ others.now }
 {
-    // It recurses over the arguments of one call, which are `MOST_ARGUMENTS` at most.
+    // The function recurses over the arguments of one call, which are `MOST_ARGUMENTS` at most.
     match values {
+        // `values` has ended: the lists are the same if `others` has ended, too.
         [] => others.is_empty(),
         [value, values @ ..] => match others {
             [other, others @ ..] if *value == *other => are_same(values, others),
@@ -145,7 +148,7 @@ fn are_same(values: &[Value], others: &[Value]) -> bool
     }
 }
 
-// Makes room for `count` more cells. The only fault is `Memory`. The cells stay either way.
+// Makes room for `count` more cells (those that a merged part has opened). The only fault is `Memory`. The cells stay either way.
 fn reserve_cells(cells: &mut Vec<Bound>, count: usize) -> Result<(), LedgerFault>
     ensures items { cells.new.items ≡ cells.old.items }
     ensures room { IfOk result (λ _. vec_len cells.new + count ≤ vec_capacity cells.new) }
@@ -157,18 +160,22 @@ fn reserve_cells(cells: &mut Vec<Bound>, count: usize) -> Result<(), LedgerFault
     }
 }
 
-// Adds `count` cells that stand for themselves: those of a part, whose numbers are used up though nothing refers to them any more.
+// Adds `count` cells that stand for themselves, neither bound nor lost: those of a part, whose numbers are used up though nothing refers to them any
+// more.
 fn add_cells(cells: &mut Vec<Bound>, count: usize)
     requires room { vec_len cells.old + count ≤ vec_capacity cells.old }
     ensures { cells.new.items ≡ cells.old.items ++ cells_from (length cells.old.items) count }
 {
     for _cell in 0..count {
+        // Item n of `cells` is cell n, so the length is the next cell's number.
         let number = cells.len() as u64;
         cells.push_reserved(Bound::Cell(number));
     }
 }
 
-// The token that takes the place of `token` when a part is merged: on the value that the part yields. None where nothing is left of the part.
+// The token that takes the place of `token`, the one at the part's call, when a part (a sub-run) is merged: it is on the value that the part yields,
+// which `left` has. None where nothing is left of the part. `numbering` says how the part's numbers become those of the enclosing run; the clauses
+// ask that the new mark doesn't overflow and isn't 0.
 fn comer_of(numbering: Numbering, token: Token, left: Option<Yield>) -> Option<Token>
     requires marks { IfSome left (λ y. (2 ≤ y.mark) × (numbering.mark + y.mark < 2 ^ 64)) }
     requires next { 1 ≤ numbering.mark }
@@ -176,7 +183,7 @@ fn comer_of(numbering: Numbering, token: Token, left: Option<Yield>) -> Option<T
     ensures serial { IfSome result (λ t. 1 ≤ t.serial) }
 {
     match left {
-        // The part's mark 2 becomes the enclosing run's next one, and so on; its mark 1 is that of `token` itself.
+        // The part's mark 2 becomes the enclosing run's next mark (`numbering.mark`), and so on; the part's mark 1 is that of `token` itself.
         Some(left) => Some(Token {
             serial: numbering.mark + left.mark - 2,
             standing: Standing::On(left.value),
@@ -186,8 +193,9 @@ fn comer_of(numbering: Numbering, token: Token, left: Option<Yield>) -> Option<T
     }
 }
 
-// Puts `comer`, the token that a merged part leaves, into the slot of the token at the part's call; both are in `group`. Without a `comer` it removes
-// the token, from its group, too.
+// Puts `comer`, the token that a merged part leaves, into the slot of the token at the part's call; both are in the group with the number `group`
+// (what runs inside one right side of a `<x<`, one left side of a `;`, or the whole program). Without a `comer` the function removes the token, from
+// its group, too. `parked` promises that no token is known to wait that wasn't before.
 fn exchange(
     tokens: &mut Tokens,
     groups: &mut Groups,
@@ -218,7 +226,7 @@ fn exchange(
 
 impl<P: Run> Ledger<P> {
     /// The call of a definition with values at which the token is, as a task. None where the token isn't at such a call, or an argument has no value;
-    /// the contract doesn't say when. The task is outermost only if the token is inside no side and no `>x>`.
+    /// the contract doesn't say when the answer is None. The task is outermost only if the token is inside no side and no `>x>`.
     pub fn task(&self, inputs: &Inputs<'_, P>, token: &Token) -> Option<SubRunTask>
         ensures stands { IfSome result (λ task. StandsFor P.listing self.now token.now task.definition task.args) }
         ensures outermost { IfSome result (λ task. task.is_outermost ≡ true → token.now.step ≡ 0) }
@@ -237,11 +245,12 @@ impl<P: Run> Ledger<P> {
         Some(SubRunTask {
             definition,
             args,
+            // Step 0 is the program as a whole: nothing is around the token.
             is_outermost: token.step == 0,
         })
     }
 
-    // Whether nothing is left of the run: no token, no call that pends and no open side.
+    // Whether nothing is left of the run: no token, no call that pends and no open side (right side of a `<x<`, left side of a `;`).
     fn is_over(&self) -> bool
         ensures { result ≡ true → (length self.now.tokens ≡ 0) × (length self.now.calls ≡ 0) × (length self.now.groups ≡ 0) × (2 ≤ self.now.next_mark) }
     {
@@ -252,7 +261,8 @@ impl<P: Run> Ledger<P> {
             && self.next_mark >= 2
     }
 
-    // The value of the token in this slot and its mark, if the run would publish the value next and nothing else is left of it.
+    // The value of the token in this slot and the token's mark, if the run would publish that value next and nothing else is left of the run. None
+    // else.
     fn yielded(&self, inputs: &Inputs<'_, P>, slot: usize) -> Option<Yield>
         ensures alone { IfSome result (λ _. (length self.now.tokens ≡ 1) × (length self.now.calls ≡ 0) × (length self.now.groups ≡ 0) × (2 ≤ self.now.next_mark)) }
         ensures token { IfSome result (λ y. (t : Its) × IsHeld self.now.slots slot t × (t.step ≡ 0) × (t.serial ≡ y.mark) × (2 ≤ y.mark) × (what_of (code P.listing) (definitions P.listing) self.now t ≡ Publish y.value)) }
@@ -265,7 +275,9 @@ impl<P: Run> Ledger<P> {
         {
             return None;
         }
+        // None: the slot is free.
         let token = self.tokens.held(slot)?;
+        // With a step above 0 the token is inside a side or a `>x>`.
         if token.step > 0 || token.serial < 2 {
             return None;
         }
@@ -279,8 +291,8 @@ impl<P: Run> Ledger<P> {
         }
     }
 
-    // Turns a ledger that has run this task into the task's result, for the enclosing run `W`. Of the task's run nothing is left but `left`, a token
-    // on a value; `is_silent` says that the run is known to have published nothing.
+    // Turns a ledger that has run this task into the task's result, for the enclosing run `W`, which has the same sites and keeps its journal if this
+    // run does. Of the task's run nothing is left but `left`, a token on a value; `is_silent` says that the run is known to have published nothing.
     fn part_of<W: Run>(self, task: SubRunTask, is_silent: bool, left: Option<Yield>) -> SubRun<W>
         requires silent { is_silent ≡ true → AreSilent self.journal }
         requires sites { P.sites ≡ W.sites }
@@ -311,9 +323,10 @@ impl<P: Run> Ledger<P> {
         }
     }
 
-    /// Turns a ledger that has run this task into the task's result, for the enclosing run `W`. None if the enclosing run could affect an entry:
-    /// time has passed, a call was cancelled, or a site was called that a script answers. None also if something is left of the run, with one
-    /// exception: a run that has published nothing may have one token left, in slot `last`, on a value that it would publish next.
+    /// Turns a ledger that has run this task into the task's result, for the enclosing run `W`. None if the enclosing run could affect an entry: time
+    /// has passed, a call was cancelled, or a site was called that a script answers. None also if something is left of the run (a token, a pending
+    /// call, an open side), with one exception: a run that has published nothing may have one token left, in slot `last`, on a value that it would
+    /// publish next.
     pub fn into_sub_run<W: Run>(
         self,
         inputs: &Inputs<'_, P>,
@@ -327,10 +340,11 @@ impl<P: Run> Ledger<P> {
         requires call { source P.listing ≡ call_of task.definition task.args }
         ensures { IfSome result (λ part. (part.definition ≡ task.definition) × (part.args ≡ task.args)) }
     {
-        // Some entry may be a tick, a cancel or a call that a script answers: the enclosing run could affect it.
+        // `are_local` is false if some entry is a tick, a cancel or a call that a script answers: the enclosing run could affect such an entry.
         if !self.journal.are_local(inputs.answers) {
             return None;
         }
+        // Whether the run has published nothing.
         let is_silent = self.journal.is_silent();
         if self.is_over() {
             return Some(self.part_of(task, is_silent, None));
@@ -339,14 +353,15 @@ impl<P: Run> Ledger<P> {
         if !is_silent {
             return None;
         }
+        // None if there is no slot `last`, or if more than a token on a value is left.
         let last = self.yielded(inputs, last?)?;
         Some(self.part_of(task, true, Some(last)))
     }
 
-    /// Merges a part, which is a sub-run: the token is at the call that the part has run. A part that has published something is merged only where
-    /// the token is inside no side and no `>x>`. The part's entries are appended to the journal under the numbers that they have in this run. Then
-    /// the token is gone, or a token on the value that the call yields is in its slot. The fault is Limit if the limit has no room for all of the
-    /// entries, else Memory; nothing has changed then.
+    /// Merges a part, which is a sub-run: the token, which is in the slot `slot`, is at the call that the part has run. A part that has published
+    /// something is merged only where the token is inside no side and no `>x>` (the clause `fits`). The part's entries are appended to the journal
+    /// under the numbers that they have in this run. Then the token is gone, or a token on the value that the call yields is in its slot. The fault
+    /// is Limit if the limit has no room for all of the entries, else Memory; nothing has changed then.
     pub fn append_sub_run(
         &mut self,
         slot: usize,
@@ -363,6 +378,7 @@ impl<P: Run> Ledger<P> {
         ensures why { IfErr result (λ fault. IsUntaken self.old part.now fault) }
     {
         let entries = part.journal.len();
+        // The part's entries have to fit below the limit, all of them.
         if entries > self.limit - self.entries {
             return Err(LedgerFault::Limit);
         }
@@ -376,9 +392,10 @@ impl<P: Run> Ledger<P> {
         };
         // The token on the value that the part yields, if it yields one.
         let comer = comer_of(numbering, token, part.left);
+        // The group that the token is a member of.
         let group = self.steps.group_at(token.step);
-        // What can be refused comes first, and `append` changes nothing if it is: from there on nothing can fail. A token comes for a token at most,
-        // so Full isn't asked.
+        // What can be refused comes first: room for the cells, then `append`, which writes the part's entries and uses up the numbers of its calls,
+        // or changes nothing. From there on nothing can fail. A token comes for a token at most, so Full isn't asked.
         reserve_cells(&mut self.cells, part.cells)?;
         self.journal
             .append(&part.journal, numbering, &mut self.calls, part.calls)?;

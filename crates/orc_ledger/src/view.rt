@@ -11,13 +11,15 @@ use orc_log::Run;
 use orc_tables::{Standing, Token};
 
 impl<P: Run> Ledger<P> {
-    /// What a token does next: a move of marks (an entry that uses no rule of Orc), another entry, or to wait. It looks at the token's node and, for
-    /// a call or a variable, at the scopes in which its names lie; for a value at what takes it. Nothing is allocated.
+    /// What a token does next: a move of marks (an entry that uses no rule of Orc), another entry, or to wait. The function looks at the token's node
+    /// and, for a call or a variable, at the scopes in which its names lie; for a value at what takes it. Nothing is allocated.
     pub fn what(&self, inputs: &Inputs<'_, P>, token: &Token) -> Action
         ensures { result ≡ what_of (code P.listing) (definitions P.listing) self.now token.now }
     {
         match token.standing {
+            // The token is on a value: what takes the value decides.
             Standing::On(value) => publish_action(&self.steps, token.step, value),
+            // The token is at the node with this number, in the scope with this number.
             Standing::At(node, scope) => action_at(
                 inputs.graph,
                 &self.scopes,

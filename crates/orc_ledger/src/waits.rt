@@ -18,8 +18,8 @@ use orc_rules::param::Operand;
 use orc_tables::{Standing, Token};
 
 impl<P: Run> Ledger<P> {
-    // Writes the unbound cells among operands, in a scope of the ledger, over `listed`, in their order. The only fault is `Memory`, and what is
-    // listed is then not known.
+    // Writes the numbers of the unbound cells among `operands`, by what each name stands for in the scope with the number `scope`, over `listed`, in
+    // the order of the operands. The only fault is `Memory`, and what is listed is then not known.
     fn list_awaited(
         &self,
         operands: &[Operand],
@@ -32,8 +32,9 @@ impl<P: Run> Ledger<P> {
         Ok(list_cells(&self.scopes, &self.cells, operands, scope, listed)?)
     }
 
-    /// Writes the cells for which a token waits over `listed`: that of its variable, or each one among the arguments of its call of a site, in their
-    /// order, as often as it stands there. A token that waits for no cell has none. The only fault is `Memory`, and what is listed is then not known.
+    /// Writes the numbers of the cells for which a token waits over `listed`: the unbound cell of its variable, or each one among the arguments of
+    /// its call of a site, in their order, as often as it stands there. A token that waits for no cell has none. The only fault is `Memory`, and what
+    /// is listed is then not known.
     pub fn awaited(
         &self,
         inputs: &Inputs<'_, P>,
@@ -45,6 +46,7 @@ impl<P: Run> Ledger<P> {
     {
         if let Standing::At(node, scope) = token.standing {
             match inputs.graph.node(node as usize) {
+                // A variable is looked up as a call with this one operand would be.
                 Node::Name(name) => {
                     return self.list_awaited(&[Operand::Name(name)], scope, listed);
                 }
@@ -59,8 +61,9 @@ impl<P: Run> Ledger<P> {
         Ok(())
     }
 
-    /// Lists the cells for which a token waits, as `awaited` does, and parks it: `next` need not look at it until one of these cells is bound or
-    /// lost. A token that can move isn't parked. The only fault is `Memory`; what is listed is then not known, and the token isn't parked.
+    /// Lists the cells for which a token waits, as `awaited` does, and parks the token, which is in the slot `slot`: it is noted as one that waits,
+    /// and `next` need not look at it until one of these cells is bound or lost. A token that can move isn't parked. For contracts nothing changes
+    /// (`same`): the notes aren't in the records. The only fault is `Memory`; what is listed is then not known, and the token isn't parked.
     pub fn park(
         &mut self,
         inputs: &Inputs<'_, P>,

@@ -7,14 +7,14 @@ use std::alloc::AllocError;
 /// Why a call is refused; nothing has changed then. If there are several causes, it is the first in this order.
 #[derive(Clone, Copy, Debug, PartialEq, Eq)]
 pub enum LedgerFault {
-    /// There would be over `MOST_TOKENS` tokens and calls, `MOST_GROUPS` groups (with the program's own), or `MOST_FRAMES` left sides of a `>x>`
-    /// around a token.
+    /// There would be over `MOST_TOKENS` tokens and pending calls, `MOST_GROUPS` groups (with the program's own), or `MOST_FRAMES` left sides of a
+    /// `>x>` around a token.
     Full,
     /// The journal has as many entries as its limit, cancels not counted.
     Limit,
     /// Memory was refused.
     Memory,
-    /// The call came with a claim, asked it when nothing else was in its way, and the claim was lost.
+    /// The call came with a claim (what another worker may have won first), asked it when nothing else was in its way, and the claim was lost.
     Unclaimed,
 }
 
@@ -23,6 +23,7 @@ impl From<AllocError> for LedgerFault {
 
     ghost from_gives = { λ _ fault. fault ≡ Memory };
 
+    // The allocator's error tells nothing more: memory was refused.
     fn from(_error: AllocError) -> LedgerFault {
         LedgerFault::Memory
     }
@@ -31,7 +32,7 @@ impl From<AllocError> for LedgerFault {
 /// Why an answer of a call is refused; nothing has changed then. If there are several causes, it is the first in this order.
 #[derive(Clone, Copy, Debug, PartialEq, Eq)]
 pub enum ReturnFault {
-    /// No call with this number pends.
+    /// No call with this number pends: it was answered or cancelled, or never made.
     Gone,
     /// The table of sites has another answer for the call, or another due time, or none.
     Wrong,
@@ -44,9 +45,9 @@ pub enum ReturnFault {
 /// Why a group doesn't halt; nothing has changed then. If there are several causes, it is the first in this order.
 #[derive(Clone, Copy, Debug, PartialEq, Eq)]
 pub enum HaltFault {
-    /// No open group has this number.
+    /// No open group (right side of a `<x<`, left side of a `;`) has this number.
     Gone,
-    /// The group has members.
+    /// The group has members: a token, a pending call or a group is in it.
     Live,
     /// The entry with which the group would end is refused, for this reason.
     Refused(LedgerFault),

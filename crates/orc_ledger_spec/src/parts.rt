@@ -2,9 +2,11 @@
 
 use orc_rules::value::Value;
 
-/// All that is left of a sub-run: a token on the value that the call yields. `mark` is the token's mark in that run, not in the enclosing one.
+/// All that is left of a sub-run: a token on the value that the call yields.
 #[derive(Clone, Copy)]
 pub struct Yield {
+    /// The token's mark in the sub-run's own journal, not in that of the enclosing run.
     pub mark: u64,
+    /// The value that the call yields.
     pub value: Value,
 }

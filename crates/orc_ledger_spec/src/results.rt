@@ -5,7 +5,9 @@ ghost use Rattle.orc_ledger_spec.specs.Passing.{goes};
 
 use orc_rules::value::{Args, Value};
 
-/// What a move of a token has done. If a group may have lost its last member by it, the answer names that group, so that the caller can halt it.
+/// What a move of a token has done. A group is what runs inside one right side of a `<x<`, one left side of a `;`, or the whole program. If a group
+/// may have lost its last member by the move, the answer names that group, so that the caller can halt it. A slot is the place of a token in the
+/// table of tokens.
 #[derive(Clone, Copy, Debug, PartialEq, Eq)]
 pub enum Moved {
     /// The token was replaced: its successor is in its slot.
@@ -25,7 +27,7 @@ pub enum Moved {
     Waits,
 }
 
-/// What became of a call of a site.
+/// What became of a call of a site that a token has made.
 #[derive(Clone, Copy)]
 pub enum Called {
     /// The call pends, with this number, and the token that made it is gone.
@@ -37,7 +39,8 @@ pub enum Called {
 }
 
 /// What has become of a token that moves, or that enters the left side of a `>x>` and makes the call there in one go. Up to `Waits` each is the
-/// [`Moved`] of the same name.
+/// [`Moved`] of the same name. A slot is the place of a token in the table of tokens, a group what runs inside one right side of a `<x<`, one left
+/// side of a `;`, or the whole program.
 #[derive(Clone, Copy)]
 pub enum Passed {
     /// The token was replaced: its successor is in its slot.
@@ -52,7 +55,7 @@ pub enum Passed {
     Bound(u64, u32),
     /// The token is at a call of a site whose arguments have values, which the caller makes: nothing has changed.
     Calls,
-    /// The token waits: nothing has changed.
+    /// The token waits, for a cell or for what never comes: nothing has changed.
     Waits,
     /// The call pends, with this number, and the slot is free.
     Pends(u64),
@@ -65,7 +68,7 @@ pub enum Passed {
 }
 
 impl Moved {
-    /// This outcome as a [`Passed`].
+    /// This outcome of a move as the [`Passed`] of the same name.
     #[inline(always)]
     pub fn passed(self) -> Passed
         ensures { result ≡ goes self }
@@ -82,20 +85,24 @@ impl Moved {
     }
 }
 
-/// What a call asks: the number of its site, its arguments, when it was made (in logical time), and which call it is of this site with these
-/// arguments, from 1; 1 where no script answers the site.
+/// What a pending call of a site asks.
 #[derive(Drop)]
 pub struct Request {
+    /// The number of the site in the program's table.
     pub site: u32,
+    /// The values with which the site is called.
     pub args: Args,
+    /// When the call was made, in logical time.
     pub made_at: u64,
+    /// Which call of this site with these arguments it is, from 1; 1 where no script answers the site.
     pub nth: u64,
 }
 
-/// What has become of a group that halted.
+/// What has become of a group that halted: of a right side of a `<x<` or a left side of a `;` without members.
 #[derive(Clone, Copy, Debug, PartialEq, Eq)]
 pub enum Halted {
-    /// The cell has become void; the group around its pruning has this number, and may have no member any more.
+    /// The right side's cell, which has the first number, has become void; the group around its pruning has the second number, and may have no member
+    /// any more.
     Lost(u64, u32),
     /// The otherwise starts its right side: a token on it is in this slot.
     Resumed(usize),

@@ -19,20 +19,21 @@ use std::alloc::{AllocError, Global};
 use std::thread;
 use std::thread::Threads;
 
-/// The most orders in a batch; their outcomes are counted once all of them were run.
+/// The most orders in a batch; their outcomes are counted once all of them were run. An order is a number that decides what comes first in a run
+/// where the rules leave it free.
 const BATCH: u64 = 1_024;
 
-/// Threads share the runs of a batch if these have at least this many entries in all, by the mean of the batch before. A thread that begins may wait
-/// longer for a processor than a shorter batch takes.
+/// Threads share the runs of a batch if these runs have at least this many journal entries in all, by the mean of the batch before. A thread that
+/// begins may wait longer for a processor than a shorter batch takes.
 const WORTH: u64 = 50_000;
 
-/// The most entries that the runs of a batch should have in all, by the mean of the batch before: what they publish is held until it is counted.
+/// The most entries that the runs of a batch should have in all, by the mean of the batch before: what the runs publish is held until it is counted.
 const ROOM: u64 = 4_000_000;
 
 /// The result of the run in an order.
 #[derive(Drop)]
 struct Trial {
-    // The fault Memory until the order was run.
+    // What the run came to, or its fault; the fault Memory until the order was run.
     came: Result<Played, EngineFault>,
 }
 
@@ -55,14 +56,18 @@ fn places(alloc: Global, number: u64) -> Result<Vec<Trial>, AllocError>
 struct Surveyor<'s, R> {
     // Starts the threads.
     rt: &'s R,
+    // From where memory is taken.
     alloc: Global,
+    // The program that is run, and the table that answers its calls.
     program: &'s Program,
     answers: &'s Answers,
+    // The most entries of a run's journal, cancels not counted.
     limit: u64,
 }
 
 impl<R: Threads + Sync> Surveyor<'_, R> {
-    // Runs `number` orders from `first` on, on `threads` threads. If a run fails, its place has the fault. The error is refused memory.
+    // Runs the program in `number` orders from `first` on, on `threads` threads, and gives the results in the order of the orders. If a run fails,
+    // its place has the fault. The error is refused memory.
     #[tactic(auto, using(crate::proofs::Lent::filled))]
     fn run(&self, threads: usize, first: u64, number: u64) -> Result<Vec<Trial>, AllocError>
         requires threads { 0 < threads }
@@ -78,7 +83,7 @@ impl<R: Threads + Sync> Surveyor<'_, R> {
             &|at: usize, trial: &mut Trial|
                 ensures { IsTried self.entry.now.program.now self.entry.now.answers.now self.entry.now.limit trial.exit.now }
             {
-                // `go` asks for room, so this never wraps; this function has no such clause.
+                // The place `at`, from 0, is that of this order. `go` asks for room, so this never wraps; this function has no such clause.
                 let order = first.wrapping_add(at as u64);
                 // Without a journal (`false`): the outcome needs none.
                 trial.came = run_alone(
@@ -94,14 +99,15 @@ impl<R: Threads + Sync> Surveyor<'_, R> {
         Ok(trials)
     }
 
-    // Counts the outcome of the run in an order, and gives how many entries it had. A run that ended because memory was refused shows no outcome of
-    // the program, so it is a fault.
+    // Counts in `seen` the outcome of the run in the order with this number, and gives how many entries the run's journal had. A run that ended
+    // because memory was refused shows no outcome of the program, so it is a fault.
     fn count(&self, trial: &Trial, order: u64, seen: &mut Outcomes) -> Result<u64, EngineFault>
         requires tried { IsTried self.now.program.now self.now.answers.now self.now.limit trial.now }
         ensures counted { OnOk result ((c : Came) × IsOfRun self.now.program.now self.now.answers.now self.now.limit c × Counts order c seen.old seen.new) }
         ensures range { IfErr result (λ fault. fault ≡ EngineFault.Range → IsInRange 1 self.now.limit → ⊥) }
         ensures sound { IfErr result (λ fault. IsOwn fault → IsProgram (definitions self.now.program.now) (source self.now.program.now) → ⊥) }
     {
+        // The run, or the fault for which it wasn't made.
         let played = match &trial.came {
             Ok(played) => played,
             Err(fault) => return Err(*fault),
@@ -114,8 +120,9 @@ impl<R: Threads + Sync> Surveyor<'_, R> {
         Ok(played.summary.entries)
     }
 
-    // Runs `number` orders from `first` on, and counts their outcomes. Gives how many entries a run had on average. The fault is that of the first
-    // run with one, or Memory; outcomes before it are counted then.
+    // Runs the program in `number` orders from `first` on, and counts their outcomes in `seen`. Gives how many journal entries a run had on average.
+    // The clauses ask for a thread and an order at least, and that the orders' numbers don't overflow. The fault is that of the first run with one,
+    // or Memory; outcomes before it are counted then.
     #[tactic(auto, using(crate::proofs::Counting::one_order_more))]
     fn go(
         &self,
@@ -136,6 +143,7 @@ impl<R: Threads + Sync> Surveyor<'_, R> {
         };
         let mut entries: u64 = 0;
         for order in first..first + number {
+            // The result of this order, by its place in the batch.
             let trial = &trials[(order - first) as usize];
             // The sum only decides on batches and threads; it can't overflow, which the prover isn't told.
             entries = entries.saturating_add(self.count(trial, order, seen)?);
@@ -145,8 +153,9 @@ impl<R: Threads + Sync> Surveyor<'_, R> {
     }
 }
 
-/// Runs a program in the orders from 0 up to `orders`, and gives each outcome once, sorted by the first order that came to it. Each run has at most
-/// `limit` entries, cancels not counted. `workers` threads make the runs, and the calling one is one of them; the result is the same on any number.
+/// Runs a program in the orders from 0 up to `orders`, and gives each outcome (how a run ended, and what it published) once, sorted by the first
+/// order that came to it. The journal of each run has at most `limit` entries, cancels not counted. `workers` threads make the runs, and the calling
+/// one is one of them; the result is the same on any number.
 ///
 /// The fault is Range exactly if there are no workers or over `MOST_WORKERS`, or the limit is 0 or over `MOST_ENTRIES`; and Memory if memory was
 /// refused. No other fault comes if the scope check accepts the program.
@@ -175,8 +184,9 @@ pub fn survey<R: Threads + Sync>(
         limit,
     };
     let mut seen = Outcomes::new(alloc);
+    // How many orders were run.
     let mut next = 0;
-    // The first batch is one run, which shows how long the runs are.
+    // How many orders the next batch has. The first batch is one run, which shows how long the runs are.
     let mut batch = 1;
     let mut threads = 1;
     // Each round runs one order at least, so the loop ends.

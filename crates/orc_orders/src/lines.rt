@@ -11,7 +11,7 @@ use orc_outcome::End;
 use orc_rules::value::Value;
 use std::alloc::{AllocError, Global};
 
-// The word for an end in an outcome's line.
+// The word for the way in which a run ended, in an outcome's line.
 fn word_of(end: End) -> &'static str
     ensures { result.now ≡ end_word end }
 {
@@ -24,11 +24,12 @@ fn word_of(end: End) -> &'static str
     }
 }
 
-// The part of an outcome's line before the values: `order 3 (43 of 100) Halted:` says that order 3 is the first to come to it, and that 43 of the 100
-// `orders` did. The error is refused memory.
+// The part of an outcome's line before the values: `order 3 (43 of 100) Halted:` says that order 3 (a number that decides what comes first in a run)
+// is the first whose run came to the outcome, and that 43 of the 100 `orders` did. The error is refused memory.
 fn head_of(alloc: Global, orders: u64, seen: &Seen) -> Result<Vec<u8>, AllocError>
     ensures { IfOk result (λ t. t.items ≡ head orders seen.now) }
 {
+    // By `seen` the first order that came to the outcome, and how many did.
     let first = seen.first;
     let times = seen.times;
     let word = word_of(seen.end);
@@ -36,8 +37,8 @@ fn head_of(alloc: Global, orders: u64, seen: &Seen) -> Result<Vec<u8>, AllocErro
     Ok(head.into_bytes())
 }
 
-// The part of an outcome's line before the values where none of `orders` orders came to it: `no order (0 of 100) Halted:`. The error is refused
-// memory.
+// The part of an outcome's line before the values where none of `orders` orders came to the outcome, which a search has found:
+// `no order (0 of 100) Halted:`. The error is refused memory.
 fn unseen_head_of(alloc: Global, orders: u64, end: End) -> Result<Vec<u8>, AllocError>
     ensures { IfOk result (λ t. t.items ≡ unseen_head orders end) }
 {
@@ -46,7 +47,7 @@ fn unseen_head_of(alloc: Global, orders: u64, end: End) -> Result<Vec<u8>, Alloc
     Ok(head.into_bytes())
 }
 
-// Adds each value, after a space. If memory is refused some of them may be there.
+// Adds each value to the text `out`, after a space. If memory is refused some of them may be there.
 fn write_values(out: &mut Vec<u8>, published: &[Value]) -> Result<(), AllocError>
     ensures { OnOk result (out.new.items ≡ out.old.items ++ flat_map value published.now) }
 {
@@ -57,7 +58,7 @@ fn write_values(out: &mut Vec<u8>, published: &[Value]) -> Result<(), AllocError
     Ok(())
 }
 
-// Adds a line: its head, the values, and LF. If memory is refused a part of it may be there.
+// Adds a line to the text `out`: its head, the values, and LF. If memory is refused a part of the line may be there.
 fn write_line(out: &mut Vec<u8>, head: &[u8], published: &[Value]) -> Result<(), AllocError>
     ensures { OnOk result (out.new.items ≡ out.old.items ++ (head.now ++ (flat_map value published.now ++ codes "\n"))) }
 {
@@ -67,7 +68,8 @@ fn write_line(out: &mut Vec<u8>, head: &[u8], published: &[Value]) -> Result<(),
     Ok(())
 }
 
-/// A text with a line for each of these outcomes of `orders` orders, such as `order 3 (43 of 100) Halted: 41`. The error is refused memory.
+/// A text with a line for each of these outcomes, to which the runs in `orders` orders came, such as `order 3 (43 of 100) Halted: 41`. The error is
+/// refused memory.
 pub fn lines_of(alloc: Global, orders: u64, seen: &[Seen]) -> Result<Vec<u8>, AllocError>
     ensures { IfOk result (λ t. t.items ≡ lines orders seen.now) }
 {

@@ -14,16 +14,17 @@ use std::alloc::{AllocError, Global};
 use std::hash::{Hash, Hasher};
 use std::marker::Model;
 
-/// An outcome that came up: how a run ended, and what it published.
+/// An outcome that came up in some order: how a run ended, and what it published. An order is a number that decides what comes first in a run where
+/// the rules leave it free.
 #[derive(Drop)]
 pub struct Seen {
     /// How the run ended.
     pub end: End,
-    /// What was published, in order.
+    /// What the run published, in order.
     pub values: Vec<Value>,
-    /// The first order that came to it, from 0.
+    /// The first order whose run came to this outcome, from 0.
     pub first: u64,
-    /// How many orders came to it.
+    /// How many orders have runs that came to this outcome.
     pub times: u64,
 }
 
@@ -36,8 +37,10 @@ pub fn are_same(one: &[Value], other: &[Value]) -> bool
     let mut others = other;
     loop {
         match rest {
+            // The first list has ended: the two are the same if the second one has ended, too.
             [] => return others.is_empty(),
             [v, more @ ..] => match others {
+                // The second list is shorter.
                 [] => return false,
                 [w, more_others @ ..] => {
                     if !is_same(*v, *w) {
@@ -52,7 +55,7 @@ pub fn are_same(one: &[Value], other: &[Value]) -> bool
 }
 
 impl Seen {
-    // Whether it is the outcome of a run that ended so and published these values.
+    // Whether this is the outcome of a run that ended so and published these values.
     #[tactic(auto, using(orc_rules::proofs::Values::values_decide))]
     fn is_of(&self, end: End, values: &[Value]) -> bool
         ensures { result ≡ true ↔ IsOf (record { end = end; values = values.now }) self.now }
@@ -61,8 +64,8 @@ impl Seen {
     }
 }
 
-/// The place, from 0, of the outcome of a run that ended so and published these values, among those that came up; None if it isn't one of them. It
-/// compares with one after another.
+/// The place, from 0, of the outcome of a run that ended so and published these values, among those that came up; None if that outcome isn't one of
+/// them. The function compares with one after another.
 pub fn place_of(seen: &[Seen], end: End, values: &[Value]) -> Option<usize>
     ensures { MatchOption result (All (λ y. IsOf (record { end = end; values = values.now }) y → ⊥) seen.now) (λ at. (at < length seen.now) × ((d : Seen) → IsOf (record { end = end; values = values.now }) (slice_index_or seen.now at d))) }
 {
@@ -74,10 +77,12 @@ pub fn place_of(seen: &[Seen], end: End, values: &[Value]) -> Option<usize>
     None
 }
 
-// An outcome by which a hash set finds its place.
+// An outcome as a hash set has it: how a run ended, and what it published. By it the set finds the place of the same outcome in `Outcomes::seen`.
 #[derive(PartialEq, Eq, Drop)]
 struct Outcome {
+    // How the run ended.
     end: End,
+    // What the run published, in order.
     values: Vec<Value>,
 }
 
@@ -92,14 +97,15 @@ impl Hash for Outcome {
 
     ghost respects_eq = { (second_alike _ (on_Alike (λ o. o.values.items) (items_Alike (record { fed = respects_eq-law })))).fed };
 
+    // Feeds the values to the hasher; `respects_eq` shows that equal outcomes feed it the same.
     fn hash<H: Hasher>(&self, state: &mut H) {
         self.values.hash(state);
     }
 }
 
-/// The outcomes that came up, each found by a hash.
+/// The outcomes that came up, each found by a hash and not by comparing with all.
 pub(crate) struct Outcomes {
-    // In the order in which they came up first.
+    // The outcomes in the order in which they came up first.
     seen: Vec<Seen>,
     // At the place of each outcome of `seen` a copy of it, by which a hash finds the place.
     known: IndexSet<Outcome>,
@@ -125,7 +131,8 @@ impl Model for Outcomes {
     ghost invariant = { λ o. AreKnown o.known.keys o.seen.items };
 }
 
-// Counts one more order that came to the outcome at this place, from 0. Refused, and nothing changes, only at 2^64 orders.
+// Counts one more order whose run came to the outcome at the place `at` of `seen`, from 0. The error, with which nothing changes, comes only at 2^64
+// orders.
 #[tactic(auto, using(crate::proofs::Known::once_more))]
 fn again(seen: &mut Vec<Seen>, at: usize) -> Result<(), AllocError>
     requires { at < length seen.old.items }
@@ -141,7 +148,7 @@ fn again(seen: &mut Vec<Seen>, at: usize) -> Result<(), AllocError>
 }
 
 impl Outcomes {
-    /// No outcome came up.
+    /// No outcome came up yet.
     pub(crate) fn new(alloc: Global) -> Outcomes
         ensures { result ≡ [] }
     {
@@ -151,7 +158,7 @@ impl Outcomes {
         }
     }
 
-    /// The outcomes in the order in which they came up first.
+    /// The outcomes in the order in which they came up first. Nothing else is left.
     pub(crate) fn into_seen(self) -> Vec<Seen>
         ensures { result.items ≡ self }
     {
@@ -159,7 +166,7 @@ impl Outcomes {
         seen
     }
 
-    // The place of an outcome, from 0; None if it didn't come up yet.
+    // The place of an outcome in `seen`, from 0; None if the outcome didn't come up yet. The clause says that no item is this outcome then.
     #[tactic(auto, using(crate::proofs::Known::found_at, crate::proofs::Known::not_found))]
     fn place_of(&self, outcome: &Outcome) -> Option<usize>
         ensures { MatchOption result (All (λ y. IsOf (came_of outcome.now) y → ⊥) self.now) (λ at. (at < length self.now) × ((d : Seen) → IsOf (came_of outcome.now) (slice_index_or self.now at d))) }
@@ -170,7 +177,8 @@ impl Outcomes {
         }
     }
 
-    // Adds an outcome to which no order came before; `order`, from 0, is the one that has come to it now. If memory is refused nothing changes.
+    // Adds an outcome to which no order came before, as the first clause asks; `order`, from 0, is the one whose run has come to it now. If memory is
+    // refused nothing changes.
     #[tactic(auto, using(crate::proofs::Counting::counted_first, crate::proofs::Known::known_too))]
     fn add(&mut self, alloc: Global, order: u64, outcome: Outcome) -> Result<(), AllocError>
         requires { All (λ y. IsOf (came_of outcome) y → ⊥) self.old }
@@ -182,15 +190,17 @@ impl Outcomes {
             first: order,
             times: 1,
         };
+        // What can be refused comes first: room in the list, and the item of the set, which takes the place that comes next in the list.
         self.seen.try_reserve(1)?;
         self.known.insert(outcome)?;
-        // Room was made before, so that both lists grow or neither does.
+        // Room was made above, so the list grows, too: the prover shows that the answer is Ok.
         let pushed = self.seen.push(seen);
         prove!(pushed.is_ok());
         Ok(())
     }
 
-    /// Counts one more order, whose run ended so and published these values; `order` is its number, from 0. The error is refused memory.
+    /// Counts one more order, whose run ended so and published these values; `order` is its number, from 0. The error is refused memory, and then
+    /// nothing has changed. `Counts` says that the outcome is added, or counted once more.
     #[tactic(auto, using(crate::proofs::Known::counted_at, crate::proofs::Known::counted_as, crate::proofs::Known::known_still))]
     pub(crate) fn count(
         &mut self,
@@ -206,6 +216,7 @@ impl Outcomes {
             values: Vec::from_slice(alloc, values)?,
         };
         match self.place_of(&outcome) {
+            // The outcome came up before: its count rises.
             Some(at) => again(&mut self.seen, at),
             None => self.add(alloc, order, outcome),
         }

@@ -9,10 +9,10 @@ use orc_tally::ClaimSite;
 use orc_ways::test::SiteName;
 use std::alloc::{AllocError, Global};
 
-/// Stands for a site that the table doesn't have. No site has this number, since a table has fewer sites.
+/// The number for a site that a test names and the program's table of sites doesn't have. No site has this number, since a table has fewer sites.
 const NOWHERE: u32 = u32::MAX;
 
-// A site that claims name, with its number in the program's table of sites, or `NOWHERE` if the table doesn't have it.
+// A site that the claims of a test name, with its number in the program's table of sites, or `NOWHERE` if the table doesn't have it.
 fn claim_site(answers: &Answers, site: &SiteName<'_>) -> ClaimSite
     ensures { result ≡ claim_site answers.now (site_of site.now) }
 {
@@ -26,8 +26,8 @@ fn claim_site(answers: &Answers, site: &SiteName<'_>) -> ClaimSite
     }
 }
 
-/// The sites that claims name, by their numbers in the table, in the same order. One whose name the table doesn't have gets 2^32 - 1, which is the
-/// number of none. The error is refused memory.
+/// The sites that the claims of a test name, by their numbers in the program's table of sites, in the same order. One whose name the table doesn't
+/// have gets 2^32 - 1, which is the number of none. The error is refused memory.
 pub fn claim_sites(
     alloc: Global,
     answers: &Answers,

@@ -22,27 +22,27 @@ use orc_tally::{ClaimSite, Told, happenings_of, noted, nothing_told};
 use orc_ways::test::SiteName;
 use std::alloc::{AllocError, Global};
 
-/// What is tried in each way.
+/// What is tried in each way. A way is a script by which the services of a test's case may answer; a trial is the program's run with it in one order.
 #[derive(Clone, Copy)]
 pub struct Trials<'t, 'a> {
     /// The program, as it is written.
     pub source: &'t [u8],
     /// The sites that the claims name. In a claim a site's number is its place in this list, from 0.
     pub sites: &'t [SiteName<'a>],
-    /// What is judged in each run.
+    /// The claims of the test, which are judged in each run.
     pub claims: &'t [Claim],
     /// Each way is run in the orders from 0 up to this number, that one left out.
     pub orders: u64,
-    /// The most entries of a run, cancels not counted.
+    /// The most entries of a run's journal, cancels not counted.
     pub limit: u64,
 }
 
-/// Why the trials of a way couldn't be made.
+/// Why the trials of a way (the runs with its script) couldn't be made.
 #[derive(Clone, Copy, Debug, PartialEq, Eq)]
 pub enum TrialFault {
     /// With the way's script the source doesn't load.
     Load(LoadFault),
-    /// A run wasn't brought to its end.
+    /// A run wasn't brought to its end by the engine.
     Engine(EngineFault),
 }
 
@@ -53,12 +53,13 @@ impl From<AllocError> for TrialFault {
 
     ghost from_gives = { λ error f. f ≡ Engine Memory };
 
+    // The allocator's error tells nothing more: memory was refused.
     fn from(_error: AllocError) -> TrialFault {
         TrialFault::Engine(EngineFault::Memory)
     }
 }
 
-/// A run, and what claims see of it.
+/// A run, and what an observer sees of it, by which claims are judged.
 pub struct Run {
     /// The run's result, with its journal.
     pub played: Played,
@@ -76,18 +77,19 @@ impl Drop for Run {
     }
 }
 
-/// Where a run stands at its end. One that was cut still runs.
+/// Where a run stands at its end: it has halted, it waits for ever (Quiet), or it still runs, since it was cut.
 pub fn state_at(end: End) -> State
     ensures { result ≡ state_at end }
 {
     match end {
         End::Halted => State::Halted,
         End::Quiet => State::Quiet,
+        // The run was cut by a limit or by refused memory: something could still happen.
         End::Limit | End::Full | End::Memory => State::Running,
     }
 }
 
-// 1 for a run that was cut, 0 for any other.
+// 1 for a run that was cut (it still runs at its end), 0 for any other: what the run adds to the count of those that were cut.
 fn cut_at(state: State) -> u64
     ensures value { result ≡ cond (is_running state) 1 0 }
     ensures most { result ≤ 1 }
@@ -98,24 +100,25 @@ fn cut_at(state: State) -> u64
     }
 }
 
-/// The verdicts of a way's trials.
+/// The verdicts of a way's trials: of the runs with one script, in many orders.
 #[derive(Drop)]
 pub(crate) struct WayTold {
     /// The verdicts on each claim, in the order of the claims.
     pub(crate) told: Vec<Told>,
-    /// How many runs were cut.
+    /// How many of the way's runs were cut by a limit.
     pub(crate) cut: u64,
     /// How many entries the runs had in all, or the greatest number if they had more.
     pub(crate) entries: u64,
 }
 
-// A way whose program is loaded.
+// A way (one script for the services of a case) whose program is loaded.
 struct Way<'w, 'a> {
     alloc: Global,
+    // What is tried: the program, the claims, the orders and the limit.
     trials: &'w Trials<'w, 'a>,
     // The program, and the table that answers its calls by the way's script.
     loaded: Loaded,
-    // The sites that the claims name, by their numbers in that table.
+    // The sites that the claims name, by their numbers in the table of `loaded`.
     sites: Vec<ClaimSite>,
 }
 
@@ -132,7 +135,8 @@ impl Drop for Way<'_, '_> {
 }
 
 impl<'w, 'a> Way<'w, 'a> {
-    // Loads the program with the script of a way. The fault is that of loading, or Memory.
+    // Loads the program of `trials` with the script of a way, and finds the sites that the claims name. The fault is that of loading, or Memory. The
+    // clauses say that the answer's table is the script's, and its program the source's.
     fn load(
         alloc: Global,
         trials: &'w Trials<'w, 'a>,
@@ -157,14 +161,14 @@ impl<'w, 'a> Way<'w, 'a> {
         })
     }
 
-    // Makes the run in an order. A run that ended because memory was refused shows nothing of the program, so it is a fault. Faults are the engine's
-    // and none is a LoadFault, so the clause on them holds for any source and script.
+    // Makes the run of the way's program in the order with this number, from 0. A run that ended because memory was refused shows nothing of the
+    // program, so it is a fault. Faults are the engine's and none is a LoadFault, so the clause on them holds for any source and script.
     fn run(&self, order: u64) -> Result<Run, TrialFault>
         requires program { IsProgram (definitions self.now.loaded.program) (source self.now.loaded.program) }
         ensures made { IfOk result (IsMade self.now.loaded.program self.now.loaded.answers self.now.sites.items self.now.trials.now.limit) }
         ensures fault { (source : List ℕ) (script : List ℕ) → IfErr result (IsFaultOfWay source script self.now.trials.now.limit) }
     {
-        // `true`: the run keeps its journal, from which the happenings are read below.
+        // `Some(order)`: the scheduler follows this order. `true`: the run keeps its journal, from which the happenings are read below.
         let played = match run_alone(
             self.alloc,
             &self.loaded.program,
@@ -176,6 +180,7 @@ impl<'w, 'a> Way<'w, 'a> {
             Ok(played) => played,
             Err(fault) => return Err(TrialFault::Engine(fault)),
         };
+        // Not a fault of `run_alone`: it answers with a run that was cut.
         if played.summary.end == End::Memory {
             return Err(TrialFault::Engine(EngineFault::Memory));
         }
@@ -188,7 +193,7 @@ impl<'w, 'a> Way<'w, 'a> {
     }
 
     // Makes the trial in this order, and gives `told`, the verdicts of the way with the number `way` in the orders before, with those of this run
-    // added. The fault is the engine's, or Memory.
+    // added. `few` asks that the count of cut runs doesn't overflow. The fault is the engine's, or Memory.
     fn note(&self, way: u64, order: u64, told: &WayTold) -> Result<WayTold, TrialFault>
         requires program { IsProgram (definitions self.now.loaded.program) (source self.now.loaded.program) }
         requires few { told.now.cut + 1 < 2 ^ 64 }
@@ -208,6 +213,7 @@ impl<'w, 'a> Way<'w, 'a> {
             summary.now,
         )?;
         Ok(WayTold {
+            // The verdicts of the orders before, with this run's.
             told: noted(
                 self.alloc,
                 way,
@@ -222,8 +228,8 @@ impl<'w, 'a> Way<'w, 'a> {
     }
 }
 
-/// Makes the trials of the way with this number and script, and gives their verdicts. The fault is that of loading the source with the script, or the
-/// first of a run.
+/// Makes the trials of the way with this number, from 0, and this script: one run in each order, from order 0 on. Gives the verdicts. The fault is
+/// that of loading the source with the script, or the first of a run.
 #[tactic(auto, using(crate::proofs::Telling::no_order_yet, crate::proofs::Telling::one_trial_more, crate::proofs::Telling::few))]
 pub(crate) fn try_way(
     alloc: Global,
@@ -236,6 +242,7 @@ pub(crate) fn try_way(
 {
     // The program is loaded once for all orders of the way.
     let its = Way::load(alloc, trials, script)?;
+    // No verdicts yet: no order was tried.
     let mut told = WayTold {
         told: nothing_told(alloc, trials.claims)?,
         cut: 0,

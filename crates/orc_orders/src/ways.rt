@@ -16,11 +16,12 @@ use std::alloc::{AllocError, Global};
 use std::thread;
 use std::thread::Threads;
 
-/// How many ways a batch has; with more workers than this it has as many ways as workers. The verdicts are joined once all of its ways were tried.
+/// How many ways (scripts by which services may answer) a batch has; with more workers than this number a batch has as many ways as workers. The
+/// verdicts are joined once all of its ways were tried.
 const BATCH: usize = 64;
 
-/// Threads share the ways of a batch if their runs have at least this many entries in all, by the mean of the batch before. A thread that begins may
-/// wait longer for a processor than a shorter batch takes.
+/// Threads share the ways of a batch if the runs of these ways have at least this many journal entries in all, by the mean of the batch before. A
+/// thread that begins may wait longer for a processor than a shorter batch takes.
 const WORTH: u64 = 20_000;
 
 /// The verdicts on a case's claims in the ways that were tried so far: in how many ways each claim fails, and where first (`orc_tally`).
@@ -35,7 +36,7 @@ pub struct CaseTold {
 }
 
 impl CaseTold {
-    /// Before the first way. The error is refused memory.
+    /// The verdicts before the first way: none was tried, so no claim fails yet. The error is refused memory.
     #[tactic(auto, using(crate::proofs::Telling::no_way_yet))]
     pub fn new(alloc: Global, claims: &[Claim]) -> Result<CaseTold, AllocError>
         ensures { IfOk result (λ t. (source : List ℕ) (sites : List Site) (orders limit : ℕ) → AreTold source sites claims.now orders limit [] t) }
@@ -47,7 +48,8 @@ impl CaseTold {
         })
     }
 
-    // Adds the verdicts of one more way, which has to be the next one. If memory is refused nothing changes.
+    // Adds the verdicts of one more way (the runs with one script), which has to be the way with the number `ways`. The clause asks that the count of
+    // ways doesn't overflow. If memory is refused nothing changes.
     fn join(&mut self, alloc: Global, way: &WayTold) -> Result<(), AllocError>
         requires { self.old.ways + 1 < 2 ^ 64 }
         ensures { OnOk result (IsJoined self.old way.now self.new) }
@@ -63,14 +65,15 @@ impl CaseTold {
     }
 }
 
-/// The result of a way's trials.
+/// The result of a way's trials, at its place in a batch.
 #[derive(Drop)]
 struct Tried {
-    // The fault Memory until the way was tried.
+    // The way's verdicts, or why its trials couldn't be made; the fault Memory until the way was tried.
     came: Result<WayTold, TrialFault>,
 }
 
-// Places for the results of `number` ways. A place says that memory was refused until its way was tried. The error is refused memory.
+// Places for the results of `number` ways, in which threads write. A place says that memory was refused until its way was tried. The error is refused
+// memory.
 fn places(alloc: Global, number: usize) -> Result<Vec<Tried>, AllocError>
     ensures { IfOk result (λ places. length places.items ≡ number) }
 {
@@ -83,17 +86,21 @@ fn places(alloc: Global, number: usize) -> Result<Vec<Tried>, AllocError>
     Ok(places)
 }
 
-// Ways whose numbers follow one another from `first` on, by their scripts: that of way `first` comes first.
+// Ways whose numbers follow one another from `first` on, by their scripts: that of way `first` comes first. They are tried together.
 #[derive(Drop)]
 struct Batch<'t, 'a, 's> {
+    // From where memory is taken, and what is tried in each way.
     alloc: Global,
     trials: &'t Trials<'t, 'a>,
+    // The number of the first way, from 0.
     first: u64,
+    // The script of each way, in the order of the ways.
     scripts: &'s [Vec<u8>],
 }
 
 impl Batch<'_, '_, '_> {
-    // Tries each way on one of `threads` threads, and gives their results in the order of the ways. The error is refused memory.
+    // Tries each way of the batch on one of `threads` threads, and gives the results in the order of the ways. The clauses ask for one thread at
+    // least, and that the ways' numbers don't overflow. The error is refused memory.
     fn run<R: Threads + Sync>(&self, rt: &R, threads: usize) -> Result<Vec<Tried>, AllocError>
         requires threads { 0 < threads }
         requires room { self.now.first + length self.now.scripts.now < 2 ^ 64 }
@@ -110,6 +117,7 @@ impl Batch<'_, '_, '_> {
                 requires { (at < length self.now.scripts.now) × (self.now.first + at < 2 ^ 64) }
                 ensures { IsTriedAt self.entry.now at place.exit.now }
             {
+                // The place `at`, from 0, is that of the way with this number.
                 let way = self.first + at as u64;
                 place.came = try_way(self.alloc, self.trials, way, self.scripts[at].as_slice());
             },
@@ -117,9 +125,9 @@ impl Batch<'_, '_, '_> {
         Ok(tried)
     }
 
-    // Tries the ways and adds the verdicts of each to `told`. Gives the mean, over these ways, of the entries that all runs of a way have, and 0 if
-    // there are no ways. From it `try_ways` decides whether the next batch is worth threads; no contract speaks of it. The fault is that of the first
-    // way with one, or Memory; the verdicts of the ways before it are added then.
+    // Tries the ways of the batch, which begins where `told` ends (`first`), and adds the verdicts of each to `told`. Gives the mean, over these
+    // ways, of the entries that all runs of a way have, and 0 if there are no ways. From it `try_ways` decides whether the next batch is worth
+    // threads; no contract speaks of it. The fault is that of the first way with one, or Memory; the verdicts of the ways before it are added then.
     #[tactic(auto, using(crate::proofs::Adding::none_added, crate::proofs::Adding::all_added))]
     fn tell<R: Threads + Sync>(
         &self,
@@ -140,17 +148,20 @@ impl Batch<'_, '_, '_> {
         for at in 0..self.scripts.len() {
             let way = match &tried[at].came {
                 Ok(way) => way,
+                // The way's trials couldn't be made; the ways before it are in `told`.
                 Err(fault) => return Err(*fault),
             };
             told.join(self.alloc, way)?;
             entries = entries.saturating_add(way.entries);
         }
+        // With no ways the divisor is 1, and the mean 0.
         Ok(entries / (self.scripts.len() as u64).max(1))
     }
 }
 
-/// Tries the next ways of a case, whose scripts these are, and adds their verdicts. `workers` threads make the runs, and the calling one is one of
-/// them; the verdicts are the same on any number.
+/// Tries the next ways of a case, whose scripts these are, and adds their verdicts to `told`. A way is one script by which the case's services may
+/// answer, and is run in each order of `trials`. `workers` threads make the runs, and the calling one is one of them; the verdicts are the same on
+/// any number.
 ///
 /// The fault is Range exactly if there are no workers or over `MOST_WORKERS`, or the limit is 0 or over `MOST_ENTRIES`. It is `Load` with the fault
 /// of the first way with whose script the source doesn't load, or Memory if memory was refused. After a fault the verdicts of some of the ways may be
@@ -168,6 +179,7 @@ pub fn try_ways<'t, 'a, R: Threads + Sync>(
     ensures cause { IfErr result (Breaks trials.now (texts scripts.now) told.old) }
     ensures range { result ≡ Err (TrialFault.Engine EngineFault.Range) ↔ (IsInRange workers trials.now.limit → ⊥) }
 {
+    // What the engine doesn't take: so `Range` is asked before any run.
     if workers < 1 || workers > MOST_WORKERS || trials.limit < 1 || trials.limit > MOST_ENTRIES {
         return Err(TrialFault::Engine(EngineFault::Range));
     }
@@ -175,8 +187,9 @@ pub fn try_ways<'t, 'a, R: Threads + Sync>(
         // No machine tries 2^64 ways.
         return Err(TrialFault::Engine(EngineFault::Memory));
     }
+    // How many of the scripts were tried.
     let mut next = 0;
-    // The first way shows how long the runs are.
+    // How many ways the next batch has. The first way alone shows how long the runs are.
     let mut number = 1;
     let mut threads = 1;
     // Each round tries one way at least, so the loop ends.

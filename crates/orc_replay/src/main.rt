@@ -16,14 +16,16 @@ use orc_rules::entry::State;
 use std::alloc::Global;
 use std::{env, fs, io};
 
-/// Replays a journal's text. Gives how many entries it has, cancels too, and the state (Halted, Quiet, Running) in which the ledger is at its end.
-/// The error for a text that can't be read is a `Stop` at 0; the others are those of `replay_journal`.
+/// Replays a journal's text: has a ledger, the state of a run, do each entry. `source` is the text of the program, `script` that of the answers of
+/// its sites. Gives how many entries it has, cancels too, and the state (Halted, Quiet, Running) in which the ledger is at its end. The error for a
+/// text that can't be read is a `Stop` at 0; the others are those of `replay_journal`.
 pub(crate) fn replay_text(
     alloc: Global,
     source: &[u8],
     script: &[u8],
     text: &[u8],
 ) -> Result<(usize, State), Stop> {
+    // The answer for a text that can't be read: nothing was replayed.
     let unread = Stop {
         at: 0,
         why: Odd::Other,
@@ -38,9 +40,10 @@ pub(crate) fn replay_text(
     Ok((journal.len(), state))
 }
 
-// Writes a line on one family of rows, which `what` describes: whether all its rows hold.
+// Writes a line on one family of rows (tests of one kind), which `what` describes: whether all its rows hold.
 fn tell<R: Print>(rt: &R, what: &str, holds: bool) -> io::Result<()> {
     let word = if holds { "holds" } else { "WRONG" };
+    // For instance `holds: moves of marks come first`.
     println!(rt; "{word}: {what}")
 }
 
@@ -85,6 +88,7 @@ fn tell_all<R: Print>(rt: &R, alloc: Global) -> io::Result<()> {
     Ok(())
 }
 
+// With three words, names of files, replays one journal; else tries all rows, and writes whether they hold.
 fn main(rt: HostRuntime) -> io::Result<()> {
     let alloc = rt.alloc();
     let words = env::args(&rt)?.collect::<Vec<String>>(alloc)?;
@@ -92,6 +96,7 @@ fn main(rt: HostRuntime) -> io::Result<()> {
     let [_, source, script, journal] = words.as_slice() else {
         return tell_all(&rt, alloc);
     };
+    // The three words name files.
     let source = fs::read(&rt, source.as_str())?;
     let script = fs::read(&rt, script.as_str())?;
     let journal = fs::read(&rt, journal.as_str())?;

@@ -9,24 +9,25 @@ use orc_outcome::End;
 use orc_rules::entry::State;
 use std::alloc::{AllocError, Global};
 
-// Sites that answer in turn, later, by their argument, with a halt, and never.
+// The script for the sites of the programs: they answer in turn, later, by their argument, with a halt, and never.
 const SCRIPT: &[u8] =
     b"A() = 1 then halt then 2 after 1\nB(_) = 5 after 2\nC(1) = true\nC(_) = halt after 1\nN() = never\n";
 
-/// How many programs are made.
+/// How many programs are made, with the seeds from 1 on.
 const PROGRAMS: u64 = 300;
 
-/// The most entries of a run: few enough that some programs are cut (`are_replayed`).
+/// The most entries of a run's journal: few enough that some runs are cut (`are_replayed`).
 const ENTRIES: u64 = 60;
 
 /// A linear congruential generator: pseudo-random numbers that are the same each time.
 #[derive(Drop)]
 struct Dice {
+    // The last number; first it is the seed.
     state: u64,
 }
 
 impl Dice {
-    // A number below n.
+    // A number below n, from 0.
     fn pick(&mut self, n: u64) -> u64
         requires { 1 ≤ n }
         ensures { result < n }
@@ -67,18 +68,19 @@ const LEAVES: [&[u8]; 11] = [
     b"#",
 ];
 
-/// A sign that is still to be written.
+/// A sign of a program that is still to be written.
 #[derive(Clone, Copy)]
 struct Part {
     // A byte of the text, or one of `%`, `^`, `$`, `#`, which stand for more.
     sign: u8,
     // The level of the expression in which it stands, 0 to 4.
     level: u32,
-    // Bit n says that the variable of level n is bound there.
+    // Bit n says that the variable of level n is bound where the sign stands.
     names: u32,
 }
 
-// Puts an expression of this level before the parts that are still to be written. They are a stack, so its last sign is pushed first.
+// Puts an expression of this level, which the dice pick, before `parts`, the signs that are still to be written. These are a stack, so the
+// expression's last sign is pushed first. Bit n of `names` says that the variable of level n is bound there. The error is refused memory.
 fn put(dice: &mut Dice, parts: &mut Vec<Part>, level: u32, names: u32) -> Result<(), AllocError> {
     // The `% 11` and `% 7`, the lengths of the tables, change nothing: they show the prover that the index is in range.
     let signs = if level == 0 {
@@ -104,17 +106,20 @@ const VARIABLES: [&[u8]; 9] = [
 // The values that stand in programs.
 const VALUES: [&[u8]; 4] = [b"0", b"1", b"2", b"true"];
 
-// The name of the variable of a level. No level is over 4, and `% 9` shows the prover that the index is in range.
+// The name of the variable of a level, which an operator of that level binds. No level is over 4, and `% 9` shows the prover that the index is in
+// range.
 fn variable(level: u32) -> &'static [u8] {
     VARIABLES[level as usize % 9]
 }
 
-// A value; in half of the cases a variable that is bound, if one is: the first from level `start` on, round from 8 to 1.
+// A value; in half of the cases a variable that is bound, if one is: the first from level `start + 1` on, round from 8 to 1. Bit n of `names` says
+// that the variable of level n is bound.
 fn value(dice: &mut Dice, names: u32) -> &'static [u8] {
     let start = dice.pick(8) as u32;
     if dice.pick(2) == 0 {
         for turn in 0..8_u32 {
             let level = start.wrapping_add(turn) % 8 + 1;
+            // The variable of this level is bound.
             if names & (1_u32 << level) != 0 {
                 return variable(level);
             }
@@ -123,7 +128,8 @@ fn value(dice: &mut Dice, names: u32) -> &'static [u8] {
     VALUES[dice.pick(4) as usize % 4]
 }
 
-// A program by its seed: signs are taken from a stack, and a sign that stands for an expression pushes one.
+// A program's text by its seed: a definition `f` and a main expression. signs are taken from a stack, and a sign that stands for an expression pushes
+// one.
 fn program(alloc: Global, seed: u64) -> Result<Vec<u8>, AllocError> {
     let mut dice = Dice { state: seed };
     let mut text = Vec::from_slice(alloc, b"def f(v1, v2) = (v2 | B(v1) >> v1)\n")?;
@@ -137,6 +143,7 @@ fn program(alloc: Global, seed: u64) -> Result<Vec<u8>, AllocError> {
         let Some(Part { sign, level, names }) = parts.pop() else {
             break;
         };
+        // The level of the expressions inside this sign's own.
         let below = level.saturating_sub(1);
         // `%` stands for an expression of the level below, `^` for one in which this level's variable is bound, too, `$` for that variable, `#` for a
         // value.
@@ -152,8 +159,8 @@ fn program(alloc: Global, seed: u64) -> Result<Vec<u8>, AllocError> {
     Ok(text)
 }
 
-// Whether a run that ends so may leave the ledger in this state. After a run that its limit cuts something can still happen, if only a move of marks.
-// A run of so few entries reaches no other limit.
+// Whether a run of the engine that ends so may leave a ledger, by which its journal is replayed, in this state. After a run that its limit cuts
+// something can still happen, if only a move of marks. A run of so few entries reaches no other limit.
 fn fits(end: End, state: State) -> bool {
     match end {
         End::Halted => state == State::Halted,
@@ -163,7 +170,7 @@ fn fits(end: End, state: State) -> bool {
     }
 }
 
-// How a program's run ends. None if the replay of its journal fails, or leads to a state in which a run doesn't end so.
+// How a program's run ends. None if the replay of the run's journal by a ledger fails, or leads to a state in which a run doesn't end so.
 fn replayed(alloc: Global, source: &[u8]) -> Option<End> {
     let loaded = load(alloc, source, SCRIPT).ok()?;
     let (program, answers) = (&loaded.program, &loaded.answers);
@@ -171,6 +178,7 @@ fn replayed(alloc: Global, source: &[u8]) -> Option<End> {
     let played = run_alone(alloc, program, answers, None, true, ENTRIES).ok()?;
     let journal = played.journal.as_ref()?;
     let state = replay_journal(alloc, program, answers, journal).ok()?;
+    // The engine's summary has to count as many entries as the journal has.
     if journal.len() as u64 == played.summary.entries && fits(played.summary.end, state) {
         Some(played.summary.end)
     } else {
@@ -178,7 +186,7 @@ fn replayed(alloc: Global, source: &[u8]) -> Option<End> {
     }
 }
 
-// How many runs halt, are quiet, and are cut by the limit, in this order. None where a program isn't replayed.
+// How many runs halt, are quiet (wait for ever), and are cut by the limit, in this order. None where a program isn't replayed.
 fn ends(alloc: Global) -> Option<[u32; 3]> {
     let mut ends = [0_u32; 3];
     for seed in 1..PROGRAMS + 1 {

@@ -26,20 +26,20 @@ use std::marker::Brand;
 /// Why the replay of an entry fails.
 #[derive(Clone, Copy, Debug, PartialEq, Eq)]
 pub enum Odd {
-    /// The ledger has no such token, call or side.
+    /// The ledger has no such token (no running part of the program with this mark), call or side.
     Gone,
     /// The token does something else next than the entry says, or waits.
     Word,
-    /// The side that the entry ends has a token. By the rules it may only make moves of marks (entries without a rule), and the ledger makes these
-    /// first.
+    /// The side that the entry ends (right side of a `<x<`, left side of a `;`) has a token. By the rules that token may only make moves of marks
+    /// (entries without a rule), and the ledger makes these first.
     Live,
     /// The call has another answer, or is due at another time.
     Wrong,
-    /// Something else comes next than this tick.
+    /// The entry is a tick, and something else comes next than this tick.
     Time,
     /// The ledger wrote another entry. Of a whole replay also: a text can't be read, or the journal is of the first version.
     Other,
-    /// A limit is reached.
+    /// A limit is reached: of entries, tokens, groups, or left sides of a `>x>` around a token.
     Limit,
     /// Memory was refused.
     Memory,
@@ -48,7 +48,9 @@ pub enum Odd {
 /// The entry at which a replay fails, from 1, and why; 0 if nothing was replayed.
 #[derive(Clone, Copy, Debug, PartialEq, Eq)]
 pub struct Stop {
+    /// The number of the entry, from 1; cancels count. 0 if nothing was replayed.
     pub at: usize,
+    /// Why the entry fails.
     pub why: Odd,
 }
 
@@ -66,10 +68,11 @@ enum Side {
 struct OpenGroup {
     // The ledger's number of the group; 0 is the program's own, which isn't noted.
     number: u32,
+    // The side that the group is.
     side: Side,
-    // The number of the group outside it; 0 for the program's own.
+    // The number of the group outside this one; 0 for the program's own.
     parent: u32,
-    // Whether a publication has left it. Then it ends without an entry once it has no members.
+    // Whether a publication has left the group. Then the group ends without an entry once it has no members (tokens, pending calls, inner groups).
     has_published: bool,
 }
 
@@ -109,17 +112,19 @@ impl<P: Run> Drop for Replay<P> {
 }
 
 impl From<LedgerFault> for Odd {
+    // Full (too many tokens, groups or left sides of a `>x>`) and Limit (too many entries) are both Limit here.
     fn from(fault: LedgerFault) -> Odd {
         match fault {
             LedgerFault::Full | LedgerFault::Limit => Odd::Limit,
             LedgerFault::Memory => Odd::Memory,
-            // The claim that `advance` makes here always succeeds, so this fault doesn't occur.
+            // A claim is what another worker may have won first. The one that `advance` makes always succeeds, so this fault doesn't occur.
             LedgerFault::Unclaimed => Odd::Other,
         }
     }
 }
 
-// Whether the entry is what the token does next. The marks and numbers that the entry gives to what is new are compared afterwards.
+// Whether the entry is what a token does next, which is its action `what`. The marks and numbers that the entry gives to what is new are compared
+// afterwards.
 fn says(what: Action, entry: &Entry) -> bool {
     match (what, entry) {
         (Action::Halt, Entry::End(_)) => true,
@@ -130,6 +135,7 @@ fn says(what: Action, entry: &Entry) -> bool {
         (Action::Def, Entry::Def(_, _)) => true,
         (Action::Void, Entry::Void(_)) => true,
         (Action::Call, Entry::Call(_, _, _, _)) => true,
+        // With these three the value, and the cell of a bind, have to be the same, too.
         (Action::Publish(value), Entry::Publish(_, v)) => value == *v,
         (Action::Send(value), Entry::Send(_, _, v)) => value == *v,
         (Action::Bind(cell, value), Entry::Bind(_, c, v)) => cell == *c && value == *v,
@@ -139,7 +145,8 @@ fn says(what: Action, entry: &Entry) -> bool {
 }
 
 impl<P: Run> Replay<P> {
-    /// A run that has begun: token 1 stands at the program's main term. The error is refused memory.
+    /// A run that has begun: token 1 stands at the program's main term, in slot 0. The error is refused memory. The clauses ask that the graph is
+    /// that of the run `P`, which keeps its journal and has the greatest limit.
     pub fn begin(alloc: Global, graph: &Graph) -> Result<Replay<P>, Odd>
         requires keeps { P.keeps ≡ true }
         requires graph { graph.now ≡ P.listing }
@@ -189,8 +196,8 @@ impl<P: Run> Replay<P> {
         self.close_published()
     }
 
-    // Makes room for the notes on an entry: two tokens and a group, the most that one brings (`open`). So no memory is refused for them once the
-    // ledger has moved.
+    // Makes room for the notes on an entry: two tokens and a group, the most that one entry brings (`open`). So no memory is refused for the notes
+    // once the ledger has moved.
     fn make_room(&mut self) -> Result<(), Odd> {
         if self.slots.try_reserve(2).is_err() || self.groups.try_reserve(1).is_err() {
             return Err(Odd::Memory);
@@ -198,7 +205,8 @@ impl<P: Run> Replay<P> {
         Ok(())
     }
 
-    // Has the ledger do what an entry says, and once more if memory was refused, since nothing has changed then.
+    // Has the ledger do what an entry says, and once more if memory was refused: nothing has changed then, so the second call has to do what the
+    // first one would have done.
     fn enter_again(&mut self, inputs: &Inputs<'_, P>, entry: &Entry) -> Result<(), Odd> {
         match self.enter(inputs, entry) {
             Err(Odd::Memory) => self.enter(inputs, entry),
@@ -206,20 +214,24 @@ impl<P: Run> Replay<P> {
         }
     }
 
-    // The token with this serial makes its next move, if that is the entry: Gone if it isn't there, Word if it does something else next.
+    // The token with this serial makes its next move, if that is the entry: Gone if no token has this serial (its mark in the journal), Word if the
+    // token does something else next.
     fn advance(&mut self, inputs: &Inputs<'_, P>, serial: u64, entry: &Entry) -> Result<(), Odd> {
+        // The slot in which the ledger keeps the token, by the notes.
         let Some(slot) = self.slots.get(serial as usize).copied() else {
             return Err(Odd::Gone);
         };
         let Some(token) = self.ledger.held(slot) else {
             return Err(Odd::Gone);
         };
+        // The slot has a later token by now: the one that is asked for is gone.
         if token.serial != serial {
             return Err(Odd::Gone);
         }
         if !says(self.ledger.what(inputs, &token), entry) {
             return Err(Odd::Word);
         }
+        // The group that the token is in before its move: the innermost open side around it, or 0, the program's own.
         let group = self.ledger.group_of_token(&token);
         let moved = self
             .ledger
@@ -234,10 +246,11 @@ impl<P: Run> Replay<P> {
         }
     }
 
-    // Notes what a token's move has done: the tokens that came of it, a side that was entered, and groups that a publication has left. The token
-    // stood in `slot` and in the group with the number `group`, and its successor, if it has one, is in the same slot.
+    // Notes what a token's move, which wrote `entry`, has done: the tokens that came of it, a side that was entered, and groups that a publication
+    // has left. The token stood in `slot` and in the group with the number `group`, and its successor, if it has one, is in the same slot.
     fn follow(&mut self, entry: &Entry, slot: usize, group: u32, moved: Moved) -> Result<(), Odd> {
         match moved {
+            // One successor, in the same slot.
             Moved::On => {
                 // The successor's group: the left side's own, if the token has entered an otherwise.
                 let inner = self.stand(slot)?;
@@ -246,6 +259,7 @@ impl<P: Run> Replay<P> {
                     _ => Ok(()),
                 }
             }
+            // Two successors: one in the same slot, the other in the slot `right`.
             Moved::Forked(right) => {
                 self.stand(slot)?;
                 // The right token's group: the right side's own, if the token has opened a pruning.
@@ -255,25 +269,28 @@ impl<P: Run> Replay<P> {
                     _ => Ok(()),
                 }
             }
+            // A `>x>` took the value: the successor, on the right side, is in the same slot.
             Moved::Sent(_) => {
                 // On its way to the `>x>` the value has left the left sides of otherwises between the old token's group and the new one's.
                 let outer = self.stand(slot)?;
                 self.leave(group, outer)
             }
+            // The token has no successor.
             Moved::Gone(_) => match entry {
                 // The value leaves all left sides around the token, up to the program's own group.
                 Entry::Publish(_, _) => self.leave(group, 0),
                 // The token has ended, and has published nothing.
                 _ => Ok(()),
             },
+            // The token has bound this cell: all that was in its right side is gone.
             Moved::Bound(cell, _) => self.drop_side(cell),
             // Not reached: `advance` itself makes the call for `Calls`, and `says` accepts no entry for a token that waits.
             Moved::Calls | Moved::Waits => Err(Odd::Word),
         }
     }
 
-    // Notes that the newest token is in this slot, and gives the number of its group. Gone if no token is there, Other if its serial isn't the next
-    // one, which is the length of `slots`.
+    // Notes that the newest token is in this slot, and gives the number of the token's group. Gone if no token is there, Other if the token's serial
+    // isn't the next one, which is the length of `slots`.
     fn stand(&mut self, slot: usize) -> Result<u32, Odd> {
         let Some(token) = self.ledger.held(slot) else {
             return Err(Odd::Gone);
@@ -287,7 +304,8 @@ impl<P: Run> Replay<P> {
         Ok(self.ledger.group_of_token(&token))
     }
 
-    // Notes that the group with this number was opened for a side, inside the group `parent`.
+    // Notes that the group with this number was opened for a side, inside the group with the number `parent` (0 is the program's own). No publication
+    // has left it yet.
     fn note(&mut self, number: u32, side: Side, parent: u32) -> Result<(), Odd> {
         let group = OpenGroup {
             number,
@@ -301,14 +319,16 @@ impl<P: Run> Replay<P> {
         }
     }
 
-    // The index of the group with this number in `groups`. None if it isn't open, or is the program's own.
+    // The index in `groups`, the notes on open groups, of the group with this number. None if that group isn't open, or is the program's own.
     fn place_of(&self, number: u32) -> Option<usize> {
         self.groups.iter().position(|open| open.number == number)
     }
 
-    // Notes that a publication has left the left sides from the group `from` outwards, up to the group `to`, which it doesn't leave. Other if one of
-    // them isn't open, or is a right side, which no publication leaves. At most `MOST_GROUPS` groups are nested, so the loop reaches `to`.
+    // Notes that a publication has left the left sides from the group with the number `from` outwards, up to the group with the number `to`, which
+    // the publication doesn't leave. Other if one of them isn't open, or is a right side, which no publication leaves. At most `MOST_GROUPS` groups
+    // are nested, so the loop reaches `to`.
     fn leave(&mut self, from: u32, to: u32) -> Result<(), Odd> {
+        // The number of the group that the publication leaves next.
         let mut number = from;
         for _outwards in 0..MOST_GROUPS {
             if number == to {
@@ -321,13 +341,14 @@ impl<P: Run> Replay<P> {
                 return Err(Odd::Other);
             }
             open.has_published = true;
+            // The publication goes on to the group outside.
             number = open.parent;
         }
         Err(Odd::Other)
     }
 
-    // Drops the group of a cell's right side, which a bind has ended, and all groups inside it: each turn drops one whose parent isn't there any
-    // more. No more than `MOST_GROUPS` are open, so the loop ends by `return`. Other if the cell has no open right side.
+    // Drops the group of a cell's right side, which a bind has ended, and all groups inside it: each turn drops one whose parent (the group outside
+    // it) isn't there any more. No more than `MOST_GROUPS` are open, so the loop ends by `return`. Other if the cell has no open right side.
     fn drop_side(&mut self, cell: u64) -> Result<(), Odd> {
         let Some(place) = self
             .groups
@@ -339,6 +360,7 @@ impl<P: Run> Replay<P> {
         // The right side's own group.
         self.groups.swap_remove(place);
         for _inwards in 0..MOST_GROUPS {
+            // None: no group without its parent is left.
             let Some(place) = self.orphan() else {
                 return Ok(());
             };
@@ -347,15 +369,15 @@ impl<P: Run> Replay<P> {
         Err(Odd::Other)
     }
 
-    // The index in `groups` of a group whose parent isn't there. None if there is none.
+    // The index in `groups` of a group whose parent, the group outside it, isn't there. None if there is no such group.
     fn orphan(&self) -> Option<usize>
         ensures { IfSome result (λ place. place < vec_len self.now.groups) }
     {
         self.groups.iter().position(|open| open.parent != 0 && self.place_of(open.parent).is_none())
     }
 
-    // Has the ledger halt a group, and once more where memory was refused, since nothing has changed then. `enter` can't be called again for that:
-    // the entry before was made.
+    // Has the ledger halt the group with this number, and once more where memory was refused, since nothing has changed then. `enter` can't be called
+    // again for that: the entry before was made.
     fn halt_again(&mut self, number: u32) -> Result<Halted, HaltFault> {
         match self.ledger.halt(number) {
             Err(HaltFault::Refused(LedgerFault::Memory)) => self.ledger.halt(number),
@@ -364,9 +386,10 @@ impl<P: Run> Replay<P> {
     }
 
     // Closes the groups that have published and have no members left: they end without an entry. To close one may take the last member from the group
-    // outside it, so it looks again after each. No more than `MOST_GROUPS` are open, so the loop ends by `return`.
+    // outside it, so the search begins again after each. No more than `MOST_GROUPS` are open, so the loop ends by `return`.
     fn close_published(&mut self) -> Result<(), Odd> {
         for _outwards in 0..MOST_GROUPS {
+            // None: no group is left to close.
             let Some(place) = self.groups.iter().position(|open| open.has_published
                 && self.ledger.is_empty(open.number))
             else {
@@ -382,8 +405,8 @@ impl<P: Run> Replay<P> {
         Err(Odd::Other)
     }
 
-    // Halts a side: a cell is lost, or the right side of an otherwise starts. Gone if the side isn't open, Live if its group has members, Other if
-    // its group ends without an entry, else Limit or Memory.
+    // Halts a side, which has no members any more: a cell is lost, or the right side of an otherwise starts. Gone if the side isn't open, Live if its
+    // group has members, Other if its group ends without an entry, else Limit or Memory.
     fn halt(&mut self, side: Side) -> Result<(), Odd> {
         let Some(place) = self.groups.iter().position(|open| open.side == side) else {
             return Err(Odd::Gone);
@@ -408,14 +431,16 @@ impl<P: Run> Replay<P> {
         }
     }
 
-    // Answers the pending call with this number: with a value, on which a token stands then, or with a halt. Gone if no such call pends, Wrong if the
-    // table has another answer or another due time, else Limit or Memory.
+    // Answers the pending call with this number, its number in the journal: with a value, on which a token stands then, or with a halt. Gone if no
+    // such call pends, Wrong if the table has another answer or another due time, else Limit or Memory.
     fn answer(&mut self, number: u64, answer: Answer) -> Result<(), Odd> {
         match self.ledger.returned(number, answer) {
+            // Answered with a value: its token is in this slot.
             Ok(Some(slot)) => {
                 self.stand(slot)?;
                 Ok(())
             }
+            // Answered with a halt: no token comes.
             Ok(None) => Ok(()),
             Err(ReturnFault::Gone) => Err(Odd::Gone),
             Err(ReturnFault::Wrong) => Err(Odd::Wrong),
@@ -424,7 +449,7 @@ impl<P: Run> Replay<P> {
         }
     }
 
-    // Lets time go on to `wanted`. Time if the ledger says that something else comes next, or a tick to another time.
+    // Lets the run's time go on to `wanted`, in logical units. Time if the ledger says that something else comes next, or a tick to another time.
     fn tick(&mut self, inputs: &Inputs<'_, P>, wanted: u64) -> Result<(), Odd> {
         let next = self.ledger.next(inputs);
         // Shows the prover the ledger's invariant, which `tick` needs; nothing runs.
@@ -438,7 +463,7 @@ impl<P: Run> Replay<P> {
         }
     }
 
-    /// The state to which the entries have led, by the ledger.
+    /// The state to which the entries have led, by the ledger: Halted, Quiet (it waits for ever), or Running.
     pub fn state(&mut self, inputs: &Inputs<'_, P>) -> State {
         if self.ledger.has_halted() {
             return State::Halted;
@@ -457,10 +482,12 @@ impl<P: Run> Replay<P> {
             let Some(entry) = journal.get(at) else {
                 return Ok(());
             };
+            // The ledger's journal hasn't reached this place: the entry is still to be made.
             if self.ledger.journal_len() <= at
                 && let Err(why) = self.enter_again(inputs, &entry)
             {
                 return Err(Stop {
+                    // In a `Stop` entries count from 1.
                     at: at.saturating_add(1),
                     why,
                 });
@@ -470,7 +497,7 @@ impl<P: Run> Replay<P> {
     }
 }
 
-// Whether two journals have the same text. None if memory is refused.
+// Whether two journals have the same text. None if memory is refused. False also if an entry of one has no line.
 fn are_same(alloc: Global, answers: &Answers, one: &Journal, other: &Journal) -> Option<bool> {
     let mut text = Vec::new(alloc);
     let mut other_text = Vec::new(alloc);
@@ -481,7 +508,8 @@ fn are_same(alloc: Global, answers: &Answers, one: &Journal, other: &Journal) ->
 }
 
 // Has a new ledger do the entries of a journal of the program with this graph. Ok, with the state to which they lead, if the ledger writes the same
-// journal; the error is Other at the last entry if it writes another one. In contracts `P` stands for the run; the caller picks it.
+// journal; the error is Other at the last entry if it writes another one. The clauses ask that graph, answers and limit are those of the run `P`, and
+// that it keeps its journal.
 fn replay_named<P: Run>(
     alloc: Global,
     graph: &Graph,
@@ -500,6 +528,7 @@ fn replay_named<P: Run>(
     };
     replay.follow_journal(&inputs, journal)?;
     let at = journal.len();
+    // None: memory was refused.
     match are_same(alloc, answers, replay.ledger.journal(), journal) {
         Some(true) => Ok(replay.state(&inputs)),
         Some(false) => Err(Stop {

@@ -16,39 +16,44 @@ use orc_rules::value::{Answer, Value};
 use std::alloc::{AllocError, Global};
 use std::marker::Brand;
 
-/// What a row does with a ledger, or what the ledger has to say.
+/// What a row does with a ledger (the state of a run, with its journal), or what the ledger has to say. A token marks a running part of the program;
+/// its mark is its number in the journal, from 1.
 #[derive(Clone, Copy)]
 pub(crate) enum Step {
     /// The ledger does these entries, a line each, and writes exactly these. It does a cancel with the bind before it, so a cancel's line is only
     /// compared with the journal.
     Does(&'static str),
-    /// The token with this mark waits.
+    /// The token with this mark waits: it can't move until a cell gets a value or is lost.
     Waits(u64),
     /// `Ledger::next`, which says what comes next in the run, gives this.
     Next(Next),
-    /// The least number of a call that is due now is this; None if none is due.
+    /// The least number of a call that is due now is this; None means that no call is due.
     Due(Option<u64>),
     /// The call with this number, the answer that the ledger refuses for it, and the reason.
     Refuses(u64, Answer, ReturnFault),
-    /// Of a pending call its number, the time at which it was made, and its place, from 1, among the calls of its site with its arguments.
+    /// A pending call: its number, the time at which it was made, and its place, from 1, among the calls of its site with its arguments.
     Asked(u64, u64, u64),
-    /// Whether the term has halted.
+    /// Whether the program's term has halted: true if it has.
     Halted(bool),
 }
 
-/// A program, the script that answers its sites, and the steps of its run.
+/// A program, the script that answers its sites (empty if it has no sites of its own), and the steps of its run.
 #[derive(Clone, Copy)]
 pub(crate) struct Row {
+    // The text of the program.
     source: &'static str,
+    // The text of the script, which says how the program's own sites answer.
     script: &'static str,
+    // What the ledger has to do and say, one after another.
     steps: &'static [Step],
 }
 
 // The value that a wait (`Rwait`) returns.
 const SIGNAL: Answer = Answer::Value(Value::Signal);
 
-// What the token with this mark does next. None if no such token is there. No row has a hundred tokens, so slots from 100 on are empty.
+// What the token with the mark `serial` does next. None if no such token is there. No row has a hundred tokens, so slots from 100 on are empty.
 fn next_action<P: Run>(ledger: &Ledger<P>, inputs: &Inputs<'_, P>, serial: u64) -> Option<Action> {
+    // The ledger keeps each token in a slot, and has no search by marks.
     for slot in 0..100_usize {
         if let Some(token) = ledger.held(slot)
             && token.serial == serial
@@ -59,17 +64,20 @@ fn next_action<P: Run>(ledger: &Ledger<P>, inputs: &Inputs<'_, P>, serial: u64) 
     None
 }
 
-// Whether the lines are entries, and the ledger has done them. A cancel is passed over, since it has come with its bind.
+// Whether the lines, each with LF, are entries of a journal, and the ledger has done them one after another. A cancel is passed over, since the
+// ledger has written it with its bind.
 fn does<P: Run>(replay: &mut Replay<P>, inputs: &Inputs<'_, P>, lines: &str) -> bool {
     // Lent to `read_entry`, which overwrites it.
     let mut entry = Entry::Tick(0);
     let mut rest = lines.as_bytes();
     // A line has a byte at least, so there are no more lines than bytes.
     for _line in 0..lines.len() {
-        // Reads the first line of `rest` into `entry`, and gives the bytes behind it.
+        // Reads the first line of `rest` into `entry`, and gives the bytes behind that line. None: `rest` begins with no entry, which is right only
+        // at its end.
         let Some(behind) = read_entry(rest, inputs.answers, &mut entry) else {
             return rest.is_empty();
         };
+        // `enter` has the ledger do what the entry says.
         let is_done = matches!(entry, Entry::Cancel(_)) || replay.enter(inputs, &entry).is_ok();
         if !is_done {
             return false;
@@ -79,7 +87,7 @@ fn does<P: Run>(replay: &mut Replay<P>, inputs: &Inputs<'_, P>, lines: &str) -> 
     rest.is_empty()
 }
 
-// Does a step, or asks the ledger: whether the ledger does, says or refuses what the step wants.
+// Does a step of a row, or asks the ledger: true if the ledger does, says or refuses what the step wants.
 fn step_holds<P: Run>(replay: &mut Replay<P>, inputs: &Inputs<'_, P>, step: &Step) -> bool {
     match *step {
         Step::Does(lines) => does(replay, inputs, lines),
@@ -92,7 +100,9 @@ fn step_holds<P: Run>(replay: &mut Replay<P>, inputs: &Inputs<'_, P>, step: &Ste
         Step::Next(next) => replay.ledger.next(inputs) == next,
         // The least number over 0: calls are numbered from 1.
         Step::Due(number) => replay.ledger.due_beyond(0) == number,
+        // `returned` answers the call, or says why the ledger refuses that.
         Step::Refuses(call, answer, fault) => { replay.ledger.returned(call, answer) == Err(fault) }
+        // `request` says what a pending call asks; None if the call doesn't pend.
         Step::Asked(call, made_at, nth) => match replay.ledger.request(call) {
             Some(request) => request.made_at == made_at && request.nth == nth,
             None => false,
@@ -110,6 +120,7 @@ fn has_lines<P: Run>(
 ) -> Result<bool, AllocError>
     requires { P.keeps ≡ true }
 {
+    // The text of the journal that is wanted: its first line, and the lines of the steps.
     let mut wanted = Vec::from_slice(alloc, b"orc-journal 2\n")?;
     for step in steps {
         if let Step::Does(lines) = step {
@@ -117,12 +128,14 @@ fn has_lines<P: Run>(
         }
     }
     let mut text = Vec::new(alloc);
+    // False if an entry has no line, since the table of sites lacks its site.
     let whole = write_journal(ledger.journal(), answers, &mut text)?;
     Ok(whole && text.as_slice() == wanted.as_slice())
 }
 
 // The first of these steps that doesn't hold, from 0, or 0 if no run can begin; the number of steps if all hold, but the journal has other lines than
-// their entries. None if the steps and the journal hold. In contracts `P` stands for the run; the caller picks it.
+// their entries. None if the steps and the journal hold. The clauses ask that graph, answers and limit are those of the run `P`, and that it keeps
+// its journal.
 fn wrong_step<P: Run>(
     alloc: Global,
     graph: &Graph,
@@ -135,6 +148,7 @@ fn wrong_step<P: Run>(
     requires keeps { P.keeps ≡ true }
 {
     let inputs = Inputs::new(graph, answers);
+    // A run that begins: token 1 on the main term.
     let Ok(mut replay) = Replay::<P>::begin(alloc, graph) else {
         return Some(0);
     };
@@ -145,12 +159,13 @@ fn wrong_step<P: Run>(
     }
     match has_lines(alloc, &replay.ledger, answers, steps) {
         Ok(true) => None,
+        // The journal has other lines, or memory was refused.
         _ => Some(steps.len()),
     }
 }
 
-// The first step of a row that doesn't hold, from 0, or the number of steps if only the journal is another one; 0 also where no graph of the program
-// is made. None if the row holds.
+// The first step of a row that doesn't hold, from 0, or the number of steps if only the journal is another one; 0 also where source or script isn't
+// accepted, or no graph of the program is made. None if the row holds.
 fn fault_of(alloc: Global, row: &Row) -> Option<usize> {
     let Ok(loaded) = load(alloc, row.source.as_bytes(), row.script.as_bytes()) else {
         return Some(0);
@@ -158,10 +173,11 @@ fn fault_of(alloc: Global, row: &Row) -> Option<usize> {
     let Ok(graph) = Graph::build(alloc, &loaded.program) else {
         return Some(0);
     };
+    // `Brand` is a fresh name for the run, for contracts alone.
     wrong_step::<Brand>(alloc, &graph, &loaded.answers, row.steps)
 }
 
-/// Whether the ledger does what all these rows say.
+/// Whether the ledger does what all these rows say: no row has a step that fails.
 pub(crate) fn hold(alloc: Global, rows: &[Row]) -> bool {
     for row in rows {
         if fault_of(alloc, row).is_some() {
@@ -182,10 +198,13 @@ pub(crate) const WAITS: [Row; 4] = [
         source: "def g(a) = Add(a, x) <x< 1\ng(x) <x< 10",
         script: "",
         steps: &[
+            // Token 1 opens cell 1, with 2 on `g(x)`, 3 on 10; 2 goes on as 4 on the body, which opens cell 2, with 5 on `Add`, 6 on 1.
             Step::Does("open 1 1 2 3\ndef 2 4\nopen 4 2 5 6\n"),
             Step::Waits(5),
+            // Token 6 binds cell 2, the inner x, to 1.
             Step::Does("bind 6 2 1\n"),
             Step::Waits(5),
+            // Token 3 binds cell 1, which is a, to 10. So both operands have values: call 1 gives 11, on which token 7 stands.
             Step::Does("bind 3 1 10\ncall 5 1 Add(10, 1)\nreturn 1 7 11\npublish 7 11\n"),
             Step::Halted(true),
         ],
@@ -195,10 +214,13 @@ pub(crate) const WAITS: [Row; 4] = [
         source: "(Add(x, 1) <x< stop) ; 7",
         script: "",
         steps: &[
+            // Token 1 enters the left side of the `;` as 2, which opens cell 1, with 3 on `Add(x, 1)` and 4 on `stop`.
             Step::Does("other 1 2\nopen 2 1 3 4\n"),
             Step::Waits(3),
+            // Token 5 is on the 7. The otherwise has the number 1: the mark of the token that entered its left side.
             Step::Does("end 4\nlost 1\nvoid 3\nright 1 5\n"),
             Step::Halted(false),
+            // Nothing is left after that.
             Step::Does("publish 5 7\n"),
             Step::Halted(true),
         ],
@@ -207,12 +229,14 @@ pub(crate) const WAITS: [Row; 4] = [
     Row {
         source: "x <x< (1 | 2)",
         script: "",
+        // Token 2 is on the left x, 4 on the 1, 5 on the 2, which the bind drops.
         steps: &[Step::Does("open 1 1 2 3\nfork 3 4 5\nbind 4 1 1\npublish 2 1\n")],
     },
     // The same program: here the value of the right token, 5, is bound.
     Row {
         source: "x <x< (1 | 2)",
         script: "",
+        // Token 2 is on the left x, 4 on the 1, which the bind drops, and 5 on the 2.
         steps: &[Step::Does("open 1 1 2 3\nfork 3 4 5\nbind 5 1 2\npublish 2 2\n")],
     },
 ];
@@ -225,16 +249,21 @@ pub(crate) const CALLS: [Row; 6] = [
         script: "",
         steps: &[
             Step::Does("other 1 2\nseq 2 3\ncall 3 1 Rwait(3)\n"),
+            // Call 1 was made at time 0. Its place is 1, since no script answers `Rwait`.
             Step::Asked(1, 0, 1),
+            // Time is 0, and the signal is due at 3.
             Step::Refuses(1, SIGNAL, ReturnFault::Wrong),
             Step::Due(None),
             Step::Next(Next::Ticks(3)),
             Step::Does("tick 3\n"),
             Step::Due(Some(1)),
             Step::Next(Next::Work),
+            // `Rwait` gives a signal, never a number.
             Step::Refuses(1, Answer::Value(Value::Number(5)), ReturnFault::Wrong),
+            // Token 4 is on the signal, which the `>>` takes: token 5 is on `Ift(false)`, which halts. So the 9 runs.
             Step::Does("return 1 4 signal\nsend 4 5 signal\ncall 5 2 Ift(false)\n"),
             Step::Does("return 2 halt\nright 1 6\npublish 6 9\n"),
+            // Call 1 was answered above.
             Step::Refuses(1, SIGNAL, ReturnFault::Gone),
             Step::Halted(true),
         ],
@@ -244,6 +273,7 @@ pub(crate) const CALLS: [Row; 6] = [
         source: "x <x< (Rwait(0) | 1)",
         script: "",
         steps: &[
+            // Token 4 makes call 1, and 5 on the value 1 binds cell 1: that cancels the call.
             Step::Does("open 1 1 2 3\nfork 3 4 5\ncall 4 1 Rwait(0)\nbind 5 1 1\ncancel 1\n"),
             Step::Refuses(1, SIGNAL, ReturnFault::Gone),
             Step::Does("publish 2 1\n"),
@@ -255,8 +285,10 @@ pub(crate) const CALLS: [Row; 6] = [
         source: "x <x< (1 | Add(2, 3))",
         script: "",
         steps: &[
+            // Token 4 is on the value 1, and 5 makes call 1, whose answer is due at once.
             Step::Does("open 1 1 2 3\nfork 3 4 5\ncall 5 1 Add(2, 3)\n"),
             Step::Due(Some(1)),
+            // Token 4 binds cell 1, which drops the right side with the call.
             Step::Does("bind 4 1 1\ncancel 1\n"),
             Step::Due(None),
             Step::Does("publish 2 1\n"),
@@ -268,12 +300,15 @@ pub(crate) const CALLS: [Row; 6] = [
         source: "Flip() | Flip() | Flip() | Flip()",
         script: "Flip() = 1 then halt then 3 after 2",
         steps: &[
+            // The four calls are at tokens 6, 7, 5 and 3, from left to right.
             Step::Does("fork 1 2 3\nfork 2 4 5\nfork 4 6 7\n"),
             Step::Does("call 6 1 Flip()\ncall 7 2 Flip()\ncall 5 3 Flip()\ncall 3 4 Flip()\n"),
             Step::Asked(2, 0, 2),
             Step::Asked(4, 0, 4),
+            // Call 2 halts, and call 3 gives 3 only at time 2.
             Step::Refuses(2, Answer::Value(Value::Number(1)), ReturnFault::Wrong),
             Step::Refuses(3, Answer::Value(Value::Number(3)), ReturnFault::Wrong),
+            // Calls 1 and 2 are answered at time 0, 3 and 4 at time 2.
             Step::Does("return 2 halt\nreturn 1 8 1\npublish 8 1\n"),
             Step::Next(Next::Ticks(2)),
             Step::Does("tick 2\nreturn 4 9 3\nreturn 3 10 3\npublish 10 3\npublish 9 3\n"),
@@ -287,6 +322,7 @@ pub(crate) const CALLS: [Row; 6] = [
         script: "Flip(_) = 1 then 2",
         steps: &[
             Step::Does("fork 1 2 3\ncall 2 1 Flip(1)\ncall 3 2 Flip(2)\n"),
+            // Both calls were made at time 0, each as the first with its argument.
             Step::Asked(1, 0, 1),
             Step::Asked(2, 0, 1),
             Step::Refuses(2, Answer::Value(Value::Number(2)), ReturnFault::Wrong),
@@ -298,17 +334,20 @@ pub(crate) const CALLS: [Row; 6] = [
         source: "A() | A()",
         script: "A() = never then 1",
         steps: &[
+            // Call 1 is never answered, call 2 gives 1 at once.
             Step::Does("fork 1 2 3\ncall 2 1 A()\ncall 3 2 A()\n"),
             Step::Due(Some(2)),
             Step::Does("return 2 4 1\npublish 4 1\n"),
+            // Call 1 still pends, and is never due: nothing comes any more, but the run hasn't halted.
             Step::Next(Next::Quiet),
             Step::Halted(false),
         ],
     },
 ];
 
-// Moves the token in slot 0 until the ledger refuses a move, `limit` times at most. Gives how many entries the journal has then, and the reason,
-// Limit if no move was refused. None if the ledger can't begin, or no token is in slot 0 any more.
+// Moves the token in slot 0 until the ledger refuses a move, `limit` times at most: in these programs the token's successors stay in that slot. Gives
+// how many entries the journal has then, and the reason of the refusal, Limit if no move was refused. None if the ledger can't begin, or no token is
+// in slot 0 any more.
 fn refused_at<P: Run>(
     alloc: Global,
     graph: &Graph,
@@ -326,9 +365,11 @@ fn refused_at<P: Run>(
         return None;
     }
     let mut ledger = Ledger::<P>::begin(alloc, true, limit, graph.root()).ok()?;
+    // Lists that `advance` writes over; they aren't read here.
     let mut scopes = Vec::new(alloc);
     let mut cancelled = Vec::new(alloc);
     for _entry in 0..limit {
+        // None: slot 0 has no token.
         let token = ledger.held(0)?;
         if let Err(fault) = ledger.advance(&inputs, 0, token, &mut scopes, &mut cancelled) {
             return Some((ledger.entries(), fault));
@@ -337,8 +378,8 @@ fn refused_at<P: Run>(
     Some((ledger.entries(), LedgerFault::Limit))
 }
 
-// After how many entries, and why, the ledger refuses a move of the program of this source, without a script; `limit` is its journal's. None also if
-// no graph of the program is made.
+// After how many entries, and why, the ledger refuses a move of the program of this source, without a script; `limit` is the most entries of its
+// journal. None if the source isn't accepted, no graph of the program is made, or `refused_at` gives None.
 fn refused(alloc: Global, source: &[u8], limit: usize) -> Option<(usize, LedgerFault)> {
     let loaded = load(alloc, source, b"").ok()?;
     let graph = Graph::build(alloc, &loaded.program).ok()?;
@@ -350,12 +391,15 @@ fn refused(alloc: Global, source: &[u8], limit: usize) -> Option<(usize, LedgerF
 // group, by two entries each. The third, the second again, is cut by its journal's limit.
 const LIMITS: [(&[u8], usize, usize, LedgerFault); 3] = [
     (
+        // A `def` and a `seq` for each of 4,096 left sides of a `>x>`, and one `def` more: 8,193 entries.
         b"def f() = f() >> 1\nf()",
         100_000,
         8_193,
         LedgerFault::Full,
     ),
+    // A `def` and an `other` for each of 1,023 groups, and one `def` more: 2,047 entries.
     (b"def f() = f() ; 1\nf()", 100_000, 2_047, LedgerFault::Full),
+    // The limit of 100 entries comes before any other.
     (b"def f() = f() ; 1\nf()", 100, 100, LedgerFault::Limit),
 ];
 
@@ -374,6 +418,7 @@ pub(crate) fn limits_refuse(alloc: Global) -> bool {
 // it.
 const EARLY: [(&[u8], &[u8], Stop); 3] = [
     (
+        // The `lost` at entry 2 comes before token 3, in the right side, has made its `end`: the side still has a member (Live).
         b"stop <x< stop",
         b"orc-journal 2\nopen 1 1 2 3\nlost 1\nend 2\n",
         Stop {
@@ -382,6 +427,7 @@ const EARLY: [(&[u8], &[u8], Stop); 3] = [
         },
     ),
     (
+        // The `right` at entry 2 comes before token 2, in the left side, has made its `end`.
         b"stop ; 1",
         b"orc-journal 2\nother 1 2\nright 1 3\npublish 3 1\n",
         Stop {
@@ -390,6 +436,7 @@ const EARLY: [(&[u8], &[u8], Stop); 3] = [
         },
     ),
     (
+        // The tick at entry 3 comes before token 3, on `stop`, has made its `end`: no tick comes next (Time).
         b"Rwait(1) | stop",
         b"orc-journal 2\nfork 1 2 3\ncall 2 1 Rwait(1)\ntick 1\n",
         Stop {
@@ -409,7 +456,7 @@ pub(crate) fn marks_move_first(alloc: Global) -> bool {
     true
 }
 
-// Programs, scripts, journals that the rules allow, how many entries these have, and the states to which they lead.
+// Programs, scripts, journals that the rules allow, how many entries each journal has, and the state to which it leads: in each row nothing is left.
 const WRITTEN: [(&[u8], &[u8], &[u8], usize, State); 3] = [
     // Each of the two values goes through the `>x>`, and is published with 10 added.
     (
@@ -437,7 +484,7 @@ const WRITTEN: [(&[u8], &[u8], &[u8], usize, State); 3] = [
     ),
 ];
 
-/// Whether each journal of `WRITTEN` is replayed to its end, with so many entries and to its state.
+/// Whether the ledger does each journal of `WRITTEN` to its end, with so many entries and to its state.
 pub(crate) fn are_replayed(alloc: Global) -> bool {
     for (source, script, journal, entries, state) in WRITTEN.iter() {
         if replay_text(alloc, source, script, journal) != Ok((*entries, *state)) {

@@ -16,7 +16,8 @@ use orc_indexes::{Chains, push_within, reserve};
 use std::alloc::{AllocError, Global};
 use std::marker::Model;
 
-/// The open groups, found by their numbers. Number 0 is the program's own group, which has no record here. The number of a group that is gone is
+/// The open groups, found by their numbers. A *group* is a right side of a `<x<` or a left side of a `;` that runs; its *members* are the tokens,
+/// pending calls and groups directly in it. Number 0 is the program's own group, which has no record here. The number of a group that is gone is
 /// given out again, so that all numbers stay below `MOST_GROUPS`.
 pub struct Groups {
     // The open groups, in no order.
@@ -29,7 +30,7 @@ pub struct Groups {
     hints: Vec<usize>,
     // The numbers that were given out and that no open group has now; the last one is given out next.
     free: Vec<u32>,
-    // The places in `items` of the groups in each group. They are hints.
+    // The places in `items` of the groups in each group. They are hints: some may be missing or wrong.
     chains: Chains,
     // How many of the open groups have no members.
     empty: usize,
@@ -63,7 +64,7 @@ impl Model for Groups {
     ghost invariant = { λ g. AreNumbered g.items.items g.places.items g.free.items × (length g.sizes.items ≡ length g.places.items) × (length g.places.items ≤ vec_capacity g.free + 1) × (g.empty ≡ empty_in g.sizes.items g.items.items) };
 }
 
-// How many members the group with this number has; 0 for a number that was never given out.
+// How many members the group with this number has, by the list `sizes`; 0 for a number that was never given out.
 #[inline(always)]
 fn size_at(sizes: &Vec<u32>, number: u32) -> u32
     ensures { result ≡ size_of sizes.now.items number }
@@ -74,7 +75,7 @@ fn size_at(sizes: &Vec<u32>, number: u32) -> u32
     }
 }
 
-// Writes how many members the group with this number has. For a number that was never given out nothing changes.
+// Writes into `sizes` how many members the group with this number has. For a number that was never given out nothing changes.
 #[inline(always)]
 fn set_size(sizes: &mut Vec<u32>, number: u32, size: u32)
     ensures { sizes.new.items ≡ slice_set sizes.old.items number size }
@@ -84,7 +85,7 @@ fn set_size(sizes: &mut Vec<u32>, number: u32, size: u32)
     }
 }
 
-// What a group with this number adds to `empty`: 1 if it has no members, else 0.
+// What an open group with this number adds to `empty`, the count of open groups without members: 1 if it has no members, else 0.
 fn none_at(sizes: &Vec<u32>, number: u32) -> usize
     ensures { result ≡ is_none (size_of sizes.now.items number) }
 {
@@ -94,7 +95,7 @@ fn none_at(sizes: &Vec<u32>, number: u32) -> usize
     }
 }
 
-// Writes where the group with this number is among the items. For a number that was never given out nothing changes.
+// Writes into `places` where the group with this number is in the list of open groups, from 0. For a number that was never given out nothing changes.
 fn set_place(places: &mut Vec<usize>, number: u32, place: usize)
     ensures { places.new.items ≡ slice_set places.old.items number place }
 {
@@ -103,21 +104,22 @@ fn set_place(places: &mut Vec<usize>, number: u32, place: usize)
     }
 }
 
-// Where the group with this number is among the items, if it is open; None for a number that was never given out.
+// Where the group with this number is in the list of open groups, from 0, if it is open; else any place. None for a number that was never given out.
 fn place_at(places: &Vec<usize>, number: u32) -> Option<usize>
     ensures { result ≡ slice_get places.now.items number }
 {
     places.get(number as usize).copied()
 }
 
-// The group at a place among the items, from 0; None past the end.
+// The group at a place of the list of open groups, from 0; None past the end.
 fn group_in(items: &Vec<Group>, place: usize) -> Option<Group>
     ensures { result ≡ slice_get items.now.items place }
 {
     items.get(place).copied()
 }
 
-// Where the open group with this number is among the items; None if no open group has it.
+// Where the open group with this number is among the items, from 0; None if no open group has this number. `lead` asks that `places` leads to each
+// group: else one could be missed.
 fn place_of(items: &Vec<Group>, places: &Vec<usize>, number: u32) -> Option<usize>
     requires lead { LeadTo items.now.items places.now.items }
     ensures found { MatchOption result ((k : ℕ) (g : Its) → slice_get items.now.items k ≡ Some g → g.number ≡ number → ⊥) (λ k. (g : Its) × (slice_get items.now.items k ≡ Some g) × (g.number ≡ number)) }
@@ -132,7 +134,8 @@ fn place_of(items: &Vec<Group>, places: &Vec<usize>, number: u32) -> Option<usiz
     }
 }
 
-// How many open groups have this number: 0 or 1, and 0 for number 0. Not inlined, since only a group's first join and its last leave need it.
+// How many open groups have this number: 0 or 1, and 0 for number 0. `lead` asks that `places` leads to each group, `once` that no two have one
+// number. Not inlined, since only a group's first join and its last leave need it.
 #[cold]
 #[inline(never)]
 fn count_at(items: &Vec<Group>, places: &Vec<usize>, number: u32) -> usize
@@ -146,7 +149,8 @@ fn count_at(items: &Vec<Group>, places: &Vec<usize>, number: u32) -> usize
     }
 }
 
-// If `asked`, how many open groups have this number, 0 or 1; else 0. `join` subtracts that from `empty`, and `leave` adds it.
+// If `asked`, how many open groups have this number, 0 or 1; else 0. `join` subtracts that from `empty`, the count of open groups without members,
+// and `leave` adds it: so the program's own group isn't counted.
 #[inline(always)]
 fn count_if(asked: bool, items: &Vec<Group>, places: &Vec<usize>, number: u32) -> usize
     requires lead { LeadTo items.now.items places.now.items }
@@ -160,7 +164,8 @@ fn count_if(asked: bool, items: &Vec<Group>, places: &Vec<usize>, number: u32) -
     }
 }
 
-// Adds a number that was never given out, with an item in each list, and notes it as free. If memory is refused, the contents of the lists stay.
+// Adds a number that was never given out, with an item in each list by numbers, and puts it into `free`, the list of the numbers that no open group
+// has. If memory is refused, the contents of the lists stay. `none` asks that no number is free, `few` that one more is below `MOST_GROUPS`.
 fn add_number(
     places: &mut Vec<usize>,
     sizes: &mut Vec<u32>,
@@ -193,7 +198,7 @@ fn add_number(
     Ok(())
 }
 
-// Takes a number that no group has. There has to be one.
+// Takes the last number out of `free`, the list of the numbers that no open group has. There has to be one.
 fn take_free(free: &mut Vec<u32>) -> u32
     requires { 1 ≤ vec_len free.old }
     ensures taken { free.old.items ≡ free.new.items ++ result ∷ [] }
@@ -206,8 +211,8 @@ fn take_free(free: &mut Vec<u32>) -> u32
     }
 }
 
-// Removes the group at this place among the items, and gives it; the last one takes its place. Those before it stay where they are (`before`), so a
-// loop can go on.
+// Removes the group at this place of `items`, the list of open groups, and gives that group; the last one takes its place. `places` leads to each
+// group before and after (`lead`), so that groups are found by their numbers. Those before it stay where they are (`before`), so a loop can go on.
 fn remove_at(
     items: &mut Vec<Group>,
     places: &mut Vec<usize>,
@@ -224,11 +229,13 @@ fn remove_at(
     ensures rest { (w : Its → ℕ) → weight w items.new.items + w result ≡ weight w items.old.items }
 {
     let group = items.swap_remove(place);
-    // The list is shorter by one now, so its length is where the last group was.
+    // `chains` lists the places of the groups in each group: the place goes, and the last place becomes `place`. The list of groups is shorter by one
+    // now, so its length is where the last group was.
     chains.swap_take(place, items.len());
     match group_in(items, place) {
         // The removed group was the last itself.
         None => group,
+        // The last group is at `place` now: `places` has to lead there.
         Some(moved) => {
             set_place(places, moved.number, place);
             group
@@ -264,14 +271,14 @@ impl Groups {
         })
     }
 
-    /// How many groups are open, the program's own left out.
+    /// How many groups (right sides of a `<x<`, left sides of a `;`) are open, the program's own left out.
     pub fn len(&self) -> usize
         ensures { result ≡ length self.now.items }
     {
         self.items.len()
     }
 
-    /// How many of the open groups have no members, the program's own left out.
+    /// How many of the open groups have no members (no token, no pending call and no group directly in them), the program's own left out.
     #[inline(always)]
     pub fn empty(&self) -> usize
         ensures { result ≡ empty_in self.now.sizes self.now.items }
@@ -279,7 +286,7 @@ impl Groups {
         self.empty
     }
 
-    /// The open groups, in no order.
+    /// The open groups, in no order. An item's index is its place, not its number.
     pub fn items(&self) -> &Vec<Group>
         ensures { result.now.items ≡ self.now.items }
     {
@@ -294,14 +301,16 @@ impl Groups {
         self.items[place]
     }
 
-    /// Writes the places of the groups directly in a group over `places`, each once. They are hints: some may be missing or wrong.
+    /// Writes the places, in the list of open groups, of the groups directly in the group with the number `parent` over `places`, each once. They are
+    /// hints: some may be missing or wrong, so the caller tests each.
     pub(crate) fn list(&self, parent: u32, places: &mut Vec<usize>)
         ensures once { (k : ℕ) → weight (is_this k) places.new.items ≤ 1 }
     {
         self.chains.list(parent, places);
     }
 
-    /// How many members are counted for the group with this number; 0 for a number that was never given out.
+    /// How many members (tokens, pending calls and groups directly in it) are counted for the group with this number; 0 for a number that was never
+    /// given out.
     #[inline(always)]
     pub fn size(&self, number: u32) -> u32
         ensures { result ≡ size_of self.now.sizes number }
@@ -317,6 +326,7 @@ impl Groups {
         ensures sizes { (i : ℕ) → size_of self.new.sizes i ≡ size_of self.old.sizes i }
         ensures room { OnOk result (1 ≤ self.new.room) }
     {
+        // Room for the group in the list, and for its place in the lists of the groups in each group.
         reserve(&mut self.items)?;
         if self.chains.reserve().is_err() {
             return Err(AllocError);
@@ -333,8 +343,8 @@ impl Groups {
         Ok(())
     }
 
-    /// The step into the side of the group with this number, as `open` was told; 0 for a number that was never given out. A hint: nothing is
-    /// promised.
+    /// The step into the side of the group with this number, as `open` was told; 0 for a number that was never given out. The step is a hint: nothing
+    /// is promised, and callers test it.
     pub fn hint(&self, number: u32) -> usize {
         match self.hints.get(number as usize) {
             Some(step) => *step,
@@ -342,9 +352,9 @@ impl Groups {
         }
     }
 
-    /// Opens a group, and gives its number, which was free: from 1, below `MOST_GROUPS`. `outer` is the step around it. There has to be room
-    /// (`reserve`). The sizes stay: it is the caller who counts the group as a member of its parent. `hint`, the step into the side, and `parent`,
-    /// the number of the group around it, only make later searches short.
+    /// Opens a group for `side`, and gives its number, which was free: from 1, below `MOST_GROUPS`. `outer` is the number of the step around the
+    /// side's whole term. There has to be room (`reserve`). The sizes stay: it is the caller who counts the group as a member of its parent. `hint`,
+    /// the step into the side, and `parent`, the number of the group around this one, only make later searches short.
     pub fn open(&mut self, side: Side, outer: usize, hint: usize, parent: u32) -> u32
         requires room { 1 ≤ self.old.room }
         ensures items { self.new.items ≡ self.old.items ++ record { side = side; outer = outer; number = result } ∷ [] }
@@ -353,6 +363,7 @@ impl Groups {
         ensures sizes { self.new.sizes ≡ self.old.sizes }
     {
         let number = take_free(&mut self.free);
+        // The group comes last in the list: its place is the length before.
         let place = self.items.len();
         set_place(&mut self.places, number, place);
         // `hints` is a list by numbers as `places` is, so the same function writes it.
@@ -367,12 +378,13 @@ impl Groups {
         );
         // Notes for later searches that this place has a group directly in `parent`.
         self.chains.put(place, parent);
-        // Nothing in this table says that the members of the group that had the number before are gone, so its size is asked.
+        // The new group may have no members, so it may count as empty. Nothing in this table says that the members of the group that had the number
+        // before are gone, so its size is asked.
         self.empty += none_at(&self.sizes, number);
         number
     }
 
-    /// Counts one more member of the group with this number, which is open or the program's own.
+    /// Counts one more member of the group with this number, which is open or the program's own (`open`).
     #[inline(always)]
     pub fn join(&mut self, number: u32)
         requires open { IsOpen self.old.items number }
@@ -383,7 +395,7 @@ impl Groups {
     {
         let size = size_at(&self.sizes, number);
         set_size(&mut self.sizes, number, size + 1);
-        // With its first member it isn't empty any more.
+        // With its first member the group isn't empty any more: if it is open, it leaves the count of the empty ones.
         self.empty -= count_if(size == 0, &self.items, &self.places, number);
     }
 
@@ -396,11 +408,12 @@ impl Groups {
     {
         let size = size_at(&self.sizes, number);
         set_size(&mut self.sizes, number, size.saturating_sub(1));
-        // Without its last member it is empty.
+        // Without its last member the group is empty: if it is open, it comes to the count of the empty ones.
         self.empty += count_if(size == 1, &self.items, &self.places, number);
     }
 
-    /// Removes the group at this place among `items`, which has to be there; the last one takes its place. Its number is free then.
+    /// Removes the group at this place among `items`, which has to be there; the last one takes its place. The removed group's number is free then.
+    /// The sizes stay.
     pub(crate) fn remove(&mut self, place: usize) -> Group
         requires there { place < length self.old.items }
         ensures is { slice_get self.old.items place ≡ Some result }
@@ -409,28 +422,31 @@ impl Groups {
         ensures sizes { self.new.sizes ≡ self.old.sizes }
     {
         let group = remove_at(&mut self.items, &mut self.places, &mut self.chains, place);
-        // `add_number` has made room for it.
+        // `add_number` has made room in `free` for each number.
         push_within(&mut self.free, group.number);
         // The group isn't open any more, so it doesn't count among the open ones without members.
         self.empty -= none_at(&self.sizes, group.number);
         group
     }
 
-    /// The open group with this number; None where there is none, as for 0.
+    /// The open group with this number; None if no open group has it, as for 0, the program's own group.
     pub fn get(&self, number: u32) -> Option<Group>
         ensures { MatchOption result ((g : Its) → IsIn g self.now.items → g.number ≡ number → ⊥) (λ g. IsIn g self.now.items × (g.number ≡ number)) }
     {
+        // None: no open group has this number.
         let place = place_of(&self.items, &self.places, number)?;
         group_in(&self.items, place)
     }
 
-    /// Removes the open group with this number, and gives it; None, and nothing changes, where there is none. The sizes stay.
+    /// Removes the open group with this number, and gives it; None, and nothing changes, where no open group has this number. The sizes stay: the
+    /// caller counts one member less for the group around it.
     pub fn take(&mut self, number: u32) -> Option<Group>
         ensures group { MatchOption result ((g : Its) → IsIn g self.old.items → g.number ≡ number → ⊥) (λ g. IsIn g self.old.items × (g.number ≡ number)) }
         ensures one { (g : Its) → IsIn g self.old.items → g.number ≡ number → (w : Its → ℕ) → weight w self.new.items + w g ≡ weight w self.old.items }
         ensures none { IfNone result (self.new.items ≡ self.old.items) }
         ensures sizes { self.new.sizes ≡ self.old.sizes }
     {
+        // None: no open group has this number.
         let place = place_of(&self.items, &self.places, number)?;
         Some(self.remove(place))
     }

@@ -63,25 +63,28 @@ impl Model for Pending {
     ghost invariant = { λ p. ArePlaced p.items.items p.places.items × HaveNotes p.dues p.items.items };
 }
 
-// A call and its place.
+// A pending call, and its place in the list of pending calls, from 0.
 #[derive(Clone, Copy)]
 struct Spot {
+    // Where the call is in the list, from 0.
     place: usize,
     call: Call,
 }
 
-// When a call is due, in logical time; None if it never is.
+// When a call is due, in logical time: when it was made, and the delay of its answer. None if the call is never answered.
 fn due_of(call: Call) -> Option<u64>
     ensures { result ≡ due_of call }
 {
     due_time(call.found, call.made_at)
 }
 
-// The place of the call with this number, if it pends (else any place); None for 0 and for a number that wasn't given out.
+// The place, in the list of pending calls, of the call with this number, by the table `places`; if the call doesn't pend any more, the answer may be
+// any place. None for 0 and for a number that no call was given.
 fn place_at(places: &Vec<usize>, number: u64) -> Option<usize>
     ensures there { IfSome result (λ k. (1 ≤ number) × (slice_get places.now.items (number - 1) ≡ Some k)) }
     ensures none { IfNone result (1 ≤ number → slice_get places.now.items (number - 1) ≡ None) }
 {
+    // Numbers count from 1, so 0 is no call's.
     if number == 0 {
         return None;
     }
@@ -91,7 +94,8 @@ fn place_at(places: &Vec<usize>, number: u64) -> Option<usize>
     }
 }
 
-// Writes the place of the call with this number. If the number wasn't given out, nothing changes.
+// Writes into `places` that the call with this number, 1 at least, is at `place` in the list of pending calls. If no call was given the number,
+// nothing changes.
 fn set_place(places: &mut Vec<usize>, number: u64, place: usize)
     requires { 1 ≤ number }
     ensures { places.new.items ≡ slice_set places.old.items (number - 1) place }
@@ -101,7 +105,7 @@ fn set_place(places: &mut Vec<usize>, number: u64, place: usize)
     }
 }
 
-// The call at a place; None past the end.
+// The call at a place of the list of pending calls, from 0; None past the end.
 fn call_at(items: &Vec<Call>, place: usize) -> Option<Call>
     ensures there { IfSome result (λ c. slice_get items.now.items place ≡ Some c) }
     ensures none { IfNone result (slice_get items.now.items place ≡ None) }
@@ -112,13 +116,15 @@ fn call_at(items: &Vec<Call>, place: usize) -> Option<Call>
     }
 }
 
-// The call with this number, and its place; None if it doesn't pend.
+// The call with this number, and its place; None if the call doesn't pend. The clause `none` promises that only if `places` leads to each call
+// (`ArePlaced`).
 fn find(items: &Vec<Call>, places: &Vec<usize>, number: u64) -> Option<Spot>
     ensures found { IfSome result (λ s. (slice_get items.now.items s.place ≡ Some s.call) × (s.call.number ≡ number)) }
     ensures none { IfNone result (ArePlaced items.now.items places.now.items → (k : ℕ) (c : Its) → slice_get items.now.items k ≡ Some c → c.number ≡ number → ⊥) }
 {
     let place = match place_at(places, number) {
         Some(place) => place,
+        // None: no call was given this number.
         None => return None,
     };
     let call = match call_at(items, place) {
@@ -133,8 +139,8 @@ fn find(items: &Vec<Call>, places: &Vec<usize>, number: u64) -> Option<Spot>
     }
 }
 
-// Removes the call at this place among the items, and gives it; the last one takes its place. Those before it stay where they are (`before`), so a
-// loop can go on.
+// Removes the call at this place of `items`, the list of pending calls, and gives that call; the last one takes its place. `places` leads to each
+// call before and after (`ArePlaced`), so that calls are found by their numbers. Those before it stay where they are (`before`), so a loop can go on.
 fn remove_at(
     items: &mut Vec<Call>,
     places: &mut Vec<usize>,
@@ -151,12 +157,15 @@ fn remove_at(
     ensures rest { (w : Its → ℕ) → weight w items.new.items + w result ≡ weight w items.old.items }
     ensures others { (c : Its) → IsIn c items.new.items → IsIn c items.old.items × (c.number ≡ result.number → ⊥) }
 {
+    // The last call comes to `place`.
     let call = items.swap_remove(place);
-    // The list is shorter by one now, so its length is where the last call was.
+    // `chains` lists the places of a group's calls: the place goes, and the last place becomes `place`. The list of calls is shorter by one now, so
+    // its length is where the last call was.
     chains.swap_take(place, items.len());
     match call_at(items, place) {
         // The removed call was the last itself.
         None => call,
+        // The last call is at `place` now: `places` has to lead there.
         Some(moved) => {
             set_place(places, moved.number, place);
             call
@@ -164,7 +173,7 @@ fn remove_at(
     }
 }
 
-// Takes the note of when this call is due out of `dues`, if it has one.
+// Takes the note of when this call is due out of `dues`, if the call is ever due. Other calls keep their notes.
 fn forget(dues: &mut Dues, call: Call)
     ensures { (t k : ℕ) → IsNoted dues.old t k → IsNoted dues.new t k ⊎ (k ≡ call.number) }
 {
@@ -173,7 +182,8 @@ fn forget(dues: &mut Dues, call: Call)
     }
 }
 
-// Removes the calls inside the right side of a cell, at any depth, from the lists and from their groups. It looks at each call.
+// Removes the calls inside the right side of a `<x<`, whose cell has the number `cell`, at any depth, from the lists and from their groups. The
+// function looks at each call. `placed` and `noted` ask and promise that calls are found by number, and that each is noted with its due time.
 fn drop_inside(
     items: &mut Vec<Call>,
     places: &mut Vec<usize>,
@@ -192,12 +202,14 @@ fn drop_inside(
     ensures groups { groups.new.items ≡ groups.old.items }
     ensures sizes { HaveLeft groups.old.sizes groups.new.sizes (calls_in steps.now.items items.old.items) (calls_in steps.now.items items.new.items) }
 {
+    // The place that is looked at.
     let mut i = 0;
     while i < items.len() {
         let step = items[i].step;
         if steps.is_inside(step, cell) {
             let gone = remove_at(items, places, chains, i);
             forget(dues, gone);
+            // The group that the call was in has one member less.
             groups.leave(steps.group_at(gone.step));
             // The last call has come to place `i`, and is looked at next.
         } else {
@@ -214,6 +226,7 @@ fn is_due(items: &Vec<Call>, places: &Vec<usize>, time: u64, number: u64) -> boo
 {
     match find(items, places, number) {
         None => false,
+        // The call pends, but its due time may differ from that of a note.
         Some(spot) => match due_of(spot.call) {
             // The call is never due: it pends until it is cancelled.
             None => false,
@@ -222,7 +235,9 @@ fn is_due(items: &Vec<Call>, places: &Vec<usize>, time: u64, number: u64) -> boo
     }
 }
 
-// The least due time of the pending calls; None if none is ever due. Notes before it whose calls are gone are dropped, so the loop ends.
+// The least due time of the pending calls; None if none is ever due. The notes in `dues` are looked at by time. Those before the answer whose calls
+// are gone are dropped, so the loop ends. The clauses ask that `places` leads to each call, and that each call is noted with its due time: else one
+// could be missed.
 fn next_due(items: &Vec<Call>, places: &Vec<usize>, dues: &mut Dues) -> Option<u64>
     requires placed { ArePlaced items.now.items places.now.items }
     requires noted { HaveNotes dues.old items.now.items }
@@ -231,6 +246,7 @@ fn next_due(items: &Vec<Call>, places: &Vec<usize>, dues: &mut Dues) -> Option<u
 {
     // The earliest note that is left: a time, and the number of a call.
     while let Some((time, number)) = dues.first() {
+        // The note's call still pends: its time is the least.
         if is_due(items, places, time, number) {
             return Some(time);
         }
@@ -240,7 +256,8 @@ fn next_due(items: &Vec<Call>, places: &Vec<usize>, dues: &mut Dues) -> Option<u
 }
 
 // The least number over `beyond` whose call is due at exactly this time; None if there is none. Notes in between whose calls are gone are dropped, so
-// the loop ends.
+// the loop ends. The clauses ask that `places` leads to each call, and that each call is noted with its due time; `fits` that `beyond + 1` doesn't
+// overflow.
 fn due_beyond(
     items: &Vec<Call>,
     places: &Vec<usize>,
@@ -256,6 +273,7 @@ fn due_beyond(
 {
     // The least number over `beyond` that is noted with this time.
     while let Some(number) = dues.first_at(time, beyond + 1) {
+        // The note's call still pends: its number is the least.
         if is_due(items, places, time, number) {
             return Some(number);
         }
@@ -270,6 +288,7 @@ impl Pending {
         ensures items { IfOk result (λ p. p.items ≡ []) }
         ensures made { IfOk result (λ p. p.made ≡ 0) }
     {
+        // The lists of the calls of each group, which are only hints.
         let chains = Chains::begin(alloc)?;
         Ok(Pending {
             items: Vec::new(alloc),
@@ -279,23 +298,23 @@ impl Pending {
         })
     }
 
-    /// How many calls pend.
+    /// How many calls pend: they were made and have no answer yet.
     pub fn len(&self) -> usize
         ensures { result ≡ length self.now.items }
     {
         self.items.len()
     }
 
-    /// The number that the next call gets; the first call gets 1.
+    /// The number that the next call gets in the journal; the first call gets 1.
     pub fn next_number(&self) -> u64
         ensures { result ≡ self.now.made + 1 }
     {
-        // A slice has fewer than 2^63 items, so one more fits.
+        // `places` has an item for each number that was given out. A slice has fewer than 2^63 items, so one more fits.
         let places = self.places.as_slice();
         places.len() as u64 + 1
     }
 
-    /// The pending call with this number, if there is one.
+    /// The pending call with this number, its number in the journal, from 1. None if no such call pends.
     pub fn get(&self, number: u64) -> Option<Call>
         ensures { MatchOption result (weight (has_number number) self.now.items ≡ 0) (λ c. IsIn c self.now.items × (c.number ≡ number)) }
     {
@@ -316,14 +335,15 @@ impl Pending {
         self.items.try_reserve(1)?;
         self.places.try_reserve(1)?;
         self.chains.reserve()?;
+        // A call that is never answered has no due time, and no note.
         if let Some(time) = due_of(call) {
             self.dues.note(time, call.number)?;
         }
         Ok(())
     }
 
-    /// Adds a call, for which `reserve` was called; its number has to be `next_number`. `group` is a hint for later searches: it is the caller who
-    /// counts the call as a member of its group.
+    /// Adds a call, for which `reserve` was called; its number has to be `next_number`. `group` is the number of the group in which the call pends, a
+    /// hint for later searches: it is the caller who counts the call as a member there.
     pub fn add(&mut self, call: Call, group: u32)
         requires number { call.number ≡ self.old.made + 1 }
         requires room { 1 ≤ self.old.room }
@@ -331,6 +351,7 @@ impl Pending {
         ensures made { self.new.made ≡ self.old.made + 1 }
         ensures added { (w : Its → ℕ) → weight w self.new.items ≡ weight w self.old.items + w call }
     {
+        // The call comes last: its place is the length before.
         let place = self.items.len();
         push_within(&mut self.items, call);
         push_within(&mut self.places, place);
@@ -338,7 +359,7 @@ impl Pending {
         self.chains.put(place, group);
     }
 
-    /// Makes room for the number of a call that won't pend. The error is refused memory. The calls stay either way.
+    /// Makes room for the number of a call that won't pend, since it is answered at once. The error is refused memory. The calls stay either way.
     pub fn reserve_number(&mut self) -> Result<(), AllocError>
         ensures items { self.new.items ≡ self.old.items }
         ensures made { self.new.made ≡ self.old.made }
@@ -356,12 +377,12 @@ impl Pending {
         ensures items { self.new.items ≡ self.old.items }
         ensures made { self.new.made ≡ self.old.made + 1 }
     {
-        // No item has this number, so the place is never used.
+        // No pending call has this number, so the place 0 is never used.
         push_within(&mut self.places, 0);
     }
 
-    /// Gives the next `count` numbers to calls that don't pend: those of a sub-run, all answered. The error is refused memory, and then nothing
-    /// changes.
+    /// Gives the next `count` numbers to calls that don't pend: those of a sub-run (a call of a definition that was run by itself), all answered. The
+    /// error is refused memory, and then nothing changes.
     pub fn skip_numbers(&mut self, count: u64) -> Result<(), AllocError>
         ensures items { self.new.items ≡ self.old.items }
         ensures made { OnOk result (self.new.made ≡ self.old.made + count) }
@@ -371,11 +392,12 @@ impl Pending {
             // No memory has room for so many.
             return Err(AllocError);
         };
-        // No item has these numbers, so the places 0 are never used.
+        // No pending call has these numbers, so the places 0 are never used.
         self.places.resize(len, 0)
     }
 
-    /// Removes the pending call with this number, and gives it; None, and nothing changes, where there is none.
+    /// Removes the pending call with this number, and gives it; None, and nothing changes, where no such call pends. The number stays given out
+    /// (`made`).
     pub fn take(&mut self, number: u64) -> Option<Call>
         ensures made { self.new.made ≡ self.old.made }
         ensures taken { (w : Its → ℕ) → weight w self.new.items ≡ weight (but (is_numbered number) w) self.old.items }
@@ -397,21 +419,23 @@ impl Pending {
         }
     }
 
-    /// Writes the places of the calls in a group over `places`, each once. They are hints: some may be missing or wrong.
+    /// Writes the places, in the list of pending calls, of the calls in the group with this number over `places`, each once. They are hints: some may
+    /// be missing or wrong, so the caller tests each.
     pub(crate) fn list(&self, group: u32, places: &mut Vec<usize>)
         ensures once { (k : ℕ) → weight (is_this k) places.new.items ≤ 1 }
     {
         self.chains.list(group, places);
     }
 
-    /// The calls, in no order.
+    /// The calls that pend, in no order. An item's index is its place.
     pub(crate) fn items(&self) -> &Vec<Call>
         ensures { result.now.items ≡ self.now.items }
     {
         &self.items
     }
 
-    /// Removes the calls inside the right side of a cell, at any depth, from the table and from their groups. It looks at each call.
+    /// Removes the calls inside the right side of a `<x<`, whose cell has the number `cell`, at any depth, from the table and from their groups. The
+    /// function looks at each call.
     pub(crate) fn drop_inside(&mut self, groups: &mut Groups, steps: &Steps, cell: u64)
         ensures made { self.new.made ≡ self.old.made }
         ensures rest { (w : Its → ℕ) → weight w self.new.items ≡ weight (but (λ (k : Its). stands_inside cell steps.now.items k.step) w) self.old.items }
@@ -429,7 +453,8 @@ impl Pending {
         );
     }
 
-    /// Removes the calls with these numbers, which have to be those inside the right side of a cell, from the table and from their groups.
+    /// Removes the calls with these numbers, which have to be those inside the right side of a `<x<`, whose cell has the number `cell`, from the
+    /// table and from their groups. `steps` tells in which group a call is.
     pub(crate) fn drop_listed(
         &mut self,
         groups: &mut Groups,
@@ -451,8 +476,8 @@ impl Pending {
         }
     }
 
-    /// The least due time of the pending calls, in logical time; None if none is ever due. Notes before it whose calls are gone are dropped: hence
-    /// `&mut`.
+    /// The least due time of the pending calls, in logical time; None if none is ever due. Notes before that time whose calls are gone are dropped:
+    /// hence `&mut`. The calls stay.
     pub fn next_due(&mut self) -> Option<u64>
         ensures items { self.new.items ≡ self.old.items }
         ensures made { self.new.made ≡ self.old.made }
@@ -462,14 +487,14 @@ impl Pending {
     }
 
     /// The least number over `beyond` whose call is due at exactly this time; None if there is none. With `beyond` 0 it is the first such call. Notes
-    /// in between whose calls are gone are dropped: hence `&mut`.
+    /// in between whose calls are gone are dropped: hence `&mut`. The calls stay.
     pub fn due_beyond(&mut self, time: u64, beyond: u64) -> Option<u64>
         ensures items { self.new.items ≡ self.old.items }
         ensures made { self.new.made ≡ self.old.made }
         ensures due { MatchOption result ((k : ℕ) → IsDueBeyond self.old.items beyond time k → ⊥) (IsLeastBeyond self.old.items beyond time) }
     {
+        // No number over `beyond` was given out. With the test `beyond + 1` doesn't overflow below.
         if beyond >= self.places.len() as u64 {
-            // No number over it was given out. So `beyond + 1` doesn't overflow below.
             return None;
         }
         due_beyond(&self.items, &self.places, &mut self.dues, time, beyond)

@@ -4,7 +4,7 @@
 
 use orc_rules::value::{Found, Value};
 
-/// What a token is on.
+/// What a token is on. A token marks a part of the program's term that runs.
 #[derive(Clone, Copy)]
 pub enum Standing {
     /// The node of the program with this number, in the scope with this number; scope 0 has no names.
@@ -13,14 +13,15 @@ pub enum Standing {
     On(Value),
 }
 
-/// A token.
+/// A token: it marks a part of the program's term that runs.
 #[derive(Clone, Copy)]
 pub struct Token {
     /// The token's mark in the journal, from 1. In a slot that is free it is 0.
     pub serial: u64,
-    /// What it is on.
+    /// What the token is on: a node, or a value.
     pub standing: Standing,
-    /// The innermost step around the token, which it took last; 0 is the program as a whole.
+    /// The number of the innermost step around the token (the entry into a side or into the left side of a `>x>`), which it took last; 0 is the
+    /// program as a whole.
     pub step: usize,
 }
 
@@ -29,19 +30,19 @@ pub struct Token {
 pub struct Call {
     /// The call's number in the journal, from 1.
     pub number: u64,
-    /// What the table of sites says of it: an answer after a delay from `made_at` on, or none ever.
+    /// What the table of sites says of the call: an answer after a delay from `made_at` on, or none ever.
     pub found: Found,
-    /// When it was made, in logical time.
+    /// When the call was made, in logical time.
     pub made_at: u64,
-    /// The innermost step around the call, which was that of the token that made it; 0 is the program as a whole.
+    /// The number of the innermost step around the call, which was that of the token that made it; 0 is the program as a whole.
     pub step: usize,
     /// The place of its `call` entry in the journal, from 0; cancels count.
     pub row: usize,
-    /// Which call it is of its site with the same arguments, from 1; 1 where no script answers the site.
+    /// Which call of its site with the same arguments this one is, from 1; 1 where no script answers the site.
     pub nth: u64,
 }
 
-/// What a step enters.
+/// What a step enters: a left or right side of a term. A step is the record of such an entry.
 #[derive(Clone, Copy)]
 pub enum Frame {
     /// The left side of a `>x>`: the number of its name `x`, the node of its right side, and the scope in which the whole `f >x> g` is.
@@ -52,14 +53,14 @@ pub enum Frame {
     OtherwiseLeft(u64),
 }
 
-/// One step inwards from another one.
+/// The entry into a side or into the left side of a `>x>`: one step inwards from another one.
 #[derive(Clone, Copy)]
 pub struct Step {
     /// What the step enters.
     pub entered: Frame,
-    /// The number of the step around it, which is less than its own; 0 is the program as a whole.
+    /// The number of the step around this one, which is less than its own; 0 is the program as a whole.
     pub outer: usize,
-    /// The number of the group of a token whose innermost step this is; the program's own is 0.
+    /// The number of the group (the innermost open side) of a token whose innermost step this is; the program's own group is 0.
     pub group: u32,
     /// How many left sides of a `>x>` are around a token whose innermost step this is, out to the innermost right side of a cell.
     pub depth: u32,
@@ -67,7 +68,7 @@ pub struct Step {
     pub published: bool,
 }
 
-/// A side that is open.
+/// A side that is open: a branch that ends as a whole.
 #[derive(Clone, Copy)]
 pub enum Side {
     /// The right side of this cell.
@@ -76,12 +77,12 @@ pub enum Side {
     Left(u64, u32, usize),
 }
 
-/// An open group.
+/// An open group: a side that runs, with its members, the tokens, pending calls and inner groups directly in it.
 #[derive(Clone, Copy)]
 pub struct Group {
-    /// The side whose members it has.
+    /// The side whose members the group has.
     pub side: Side,
-    /// The step around the whole `f <x< g` or `f ; g`, not the one into the side.
+    /// The number of the step around the whole `f <x< g` or `f ; g`, not the one into the side.
     pub outer: usize,
     /// The group's number, from 1; 0 is the program's own group, which has no record.
     pub number: u32,

@@ -11,8 +11,9 @@ use orc_indexes::{push_within, reserve};
 use std::alloc::{AllocError, Global};
 use std::marker::Model;
 
-/// The steps of a run, numbered from 1; 0 is the program as a whole. A publication costs the same however many otherwises are around a token: each
-/// step notes what takes it, and an otherwise is marked only once.
+/// The steps of a run, numbered from 1; 0 is the program as a whole. A step is the entry into the right side of a `<x<`, the left side of a `;`, or
+/// the left side of a `>x>`. A publication costs the same however many otherwises (`f ; g`) are around a token: each step notes what takes it, and an
+/// otherwise is marked only once.
 #[derive(Drop)]
 pub struct Steps {
     // Step n is item n - 1.
@@ -35,7 +36,7 @@ impl Model for Steps {
     ghost invariant = { λ s. AreLinked s.items.items s.takers.items };
 }
 
-// Whether what a step enters is the left side of an otherwise, which passes publications on.
+// Whether what a step enters is the left side of an otherwise (`f ; g`), which passes publications on.
 fn is_try(entered: Frame) -> bool
     ensures { result ≡ tries entered }
 {
@@ -45,7 +46,7 @@ fn is_try(entered: Frame) -> bool
     }
 }
 
-// Whether what a step enters is the right side of this cell.
+// Whether what a step enters is the right side of the `<x<` whose cell has the number `cell`.
 fn is_right_side_of(entered: Frame, cell: u64) -> bool
     ensures { result ≡ aids cell entered }
 {
@@ -56,7 +57,7 @@ fn is_right_side_of(entered: Frame, cell: u64) -> bool
 }
 
 impl Steps {
-    /// No steps.
+    /// No steps: the program has entered no side yet.
     pub fn new(alloc: Global) -> Steps
         ensures { result.items ≡ [] }
     {
@@ -66,7 +67,7 @@ impl Steps {
         }
     }
 
-    /// How many steps there are.
+    /// How many steps there are; the last one has this number.
     pub fn len(&self) -> usize
         ensures count { result ≡ length self.now.items }
         ensures fits { result < 2 ^ 63 }
@@ -85,11 +86,13 @@ impl Steps {
         self.items.get(step - 1).copied()
     }
 
-    /// The number of the group of a token whose innermost step this is; 0, the program's own, for step 0 and past the last one.
+    /// The number of the group (the innermost right side of a `<x<` or left side of a `;`) of a token whose innermost step has the number `step`; 0,
+    /// the program's own, for step 0 and past the last one.
     #[inline(always)]
     pub fn group_at(&self, step: usize) -> u32
         ensures { result ≡ group_at self.now.items step }
     {
+        // Step 0 is the program as a whole, which has no item.
         if step == 0 {
             return 0;
         }
@@ -99,12 +102,13 @@ impl Steps {
         }
     }
 
-    /// How many left sides of a `>x>` are around a token whose innermost step this is, out to the innermost right side of a cell; 0 past the last
-    /// step.
+    /// How many left sides of a `>x>` are around a token whose innermost step has the number `step`, out to the innermost right side of a cell; 0
+    /// past the last step.
     #[inline(always)]
     pub fn depth_at(&self, step: usize) -> u32
         ensures { result ≡ depth_at self.now.items step }
     {
+        // Step 0 is the program as a whole: no side is around it.
         if step == 0 {
             return 0;
         }
@@ -114,12 +118,14 @@ impl Steps {
         }
     }
 
-    /// The nearest step outwards, this one included, that enters no otherwise, and so takes a publication; 0 where there is none.
+    /// The number of the nearest step from step `from` outwards, that one included, that enters no otherwise, and so takes a publication; 0 where
+    /// there is none.
     #[inline(always)]
     pub fn taker(&self, from: usize) -> usize
         requires { from ≤ length self.now.items }
         ensures { result ≡ taker_at self.now.items from }
     {
+        // Step 0 is the program as a whole: it publishes the value, and no step takes it.
         if from == 0 {
             return 0;
         }
@@ -132,11 +138,13 @@ impl Steps {
         ensures items { self.new.items ≡ self.old.items }
         ensures room { OnOk result (HasRoom self.new) }
     {
+        // Both lists grow by one item with each step.
         reserve(&mut self.items)?;
         reserve(&mut self.takers)
     }
 
-    /// Adds a step that has not published; its number is the new `len`. There has to be room for it (`reserve`).
+    /// Adds a step that has not published (`unmarked`), inside an earlier step or none (`within`); its number is the new `len`. There has to be room
+    /// for it (`reserve`).
     #[inline(always)]
     pub fn push(&mut self, step: Step)
         requires room { HasRoom self.old }
@@ -144,7 +152,8 @@ impl Steps {
         requires unmarked { step.published ≡ false }
         ensures items { self.new.items ≡ self.old.items ++ step ∷ [] }
     {
-        // An otherwise leaves publications to what takes them around it; any other step takes them itself.
+        // An otherwise leaves publications to the step that takes them around it; any other step takes them itself, under the number that it gets
+        // here.
         let taker = if is_try(step.entered) {
             self.taker(step.outer)
         } else {
@@ -154,7 +163,8 @@ impl Steps {
         push_within(&mut self.items, step);
     }
 
-    /// Removes the last step; there has to be one. The caller sees to it that no token, call or group is in it any more. Its room is kept.
+    /// Removes the last step; there has to be one. The caller sees to it that no token, call or group is in that step any more. The step's room is
+    /// kept.
     #[inline(always)]
     pub fn drop_last(&mut self)
         requires { 1 ≤ length self.old.items }
@@ -165,8 +175,8 @@ impl Steps {
         let _step = self.items.pop();
     }
 
-    /// Marks as published each otherwise that a publication passes on its way from this step to what takes it. It stops at the first that is marked,
-    /// since those around that one are marked, too.
+    /// Marks as published each otherwise (`f ; g`) that a publication passes on its way from step `from` outwards to what takes the publication:
+    /// their right sides never run. The loop stops at the first otherwise that is marked, since those around that one are marked, too.
     pub fn leave(&mut self, from: usize)
         requires { from ≤ length self.old.items }
         ensures { self.new.items ≡ left_from self.old.items from }
@@ -174,6 +184,7 @@ impl Steps {
         let mut at = from;
         while at != 0 {
             let mut step = self.items[at - 1];
+            // The step takes the publication, or it was marked before, and so were those around it.
             if !is_try(step.entered) || step.published {
                 return;
             }
@@ -183,7 +194,8 @@ impl Steps {
         }
     }
 
-    // Whether a token with this innermost step is inside the right side of a cell, at any depth.
+    // Whether a token whose innermost step has the number `from` is inside the right side of the `<x<` whose cell has the number `cell`, at any
+    // depth.
     pub(crate) fn is_inside(&self, from: usize, cell: u64) -> bool
         ensures { result ≡ stands_inside cell self.now.items from }
     {
@@ -192,6 +204,7 @@ impl Steps {
         let mut left = from;
         while left > 0 {
             let last = match self.at(at) {
+                // The step with the number `at`. None for 0: all steps around the token were looked at.
                 Some(last) => last,
                 None => return false,
             };
@@ -204,7 +217,8 @@ impl Steps {
         false
     }
 
-    // Whether a side is inside the right side of a cell, or is that right side itself. `outer` is the step around the side's whole term.
+    // Whether a side is inside the right side of the `<x<` whose cell has the number `cell`, or is that right side itself. `outer` is the number of
+    // the step around the side's whole term.
     pub(crate) fn is_side_inside(&self, outer: usize, side: Side, cell: u64) -> bool
         ensures { result ≡ side_inside cell self.now.items outer side }
     {

@@ -18,18 +18,20 @@ use orc_indexes::{Chains, Note, Parking, reserve};
 use std::alloc::{AllocError, Global};
 use std::marker::Model;
 
-/// The tokens in slots. A slot whose token has serial 0 is free, and is used again: a token is found by its slot, and its serial tells whether
-/// it is still the one that was put there.
+/// The tokens in slots. A token marks a part of the program's term that runs, and its serial is its mark in the journal, from 1. A slot whose token
+/// has serial 0 is free, and is used again: a token is found by its slot, and its serial tells whether it is still the one that was put there.
 pub struct Tokens {
+    // The slots, from 0: the token in each, or what `nobody` gives for a free one.
     slots: Vec<Token>,
     // The first of the list of free slots: the slot that became free last, or `NO_SLOT`. The `step` of a free slot names the next slot of that list.
     // It isn't proved that the slots of the list are free, so each is tested when it is taken.
     free: usize,
     // How many slots hold a token.
     count: usize,
-    // Which slots hold a parked token, and which tokens are noted with each cell.
+    // Which slots hold a parked token (one that is known to wait: its flag is set), and which tokens are noted with each cell, since they wait for
+    // it.
     parking: Parking,
-    // The slots of the tokens in each group. They are hints.
+    // The slots of the tokens in each group. They are hints: some may be missing or wrong.
     chains: Chains,
 }
 
@@ -59,10 +61,10 @@ impl Model for Tokens {
     ghost invariant = { λ t. (t.count ≡ length (live t.slots.items)) × AreHeld t.slots.items t.parking.flags };
 }
 
-// No slot has this number.
+// No slot has this number: it ends the list of free slots.
 const NO_SLOT: usize = usize::MAX;
 
-// What a free slot holds: the serial 0, and in `step` the next slot of the list of free ones, `free`. Its standing is never read.
+// What a free slot holds: the serial 0, and in `step` the next slot of the list of free ones, `free`. The `standing` of a free slot is never read.
 fn nobody(free: usize) -> Token
     ensures { result.serial ≡ 0 }
 {
@@ -73,7 +75,7 @@ fn nobody(free: usize) -> Token
     }
 }
 
-// Writes what is in the slot with this number, if there is such a slot; else nothing changes.
+// Writes `token` into the slot with this number, if there is such a slot; else nothing changes.
 #[inline(always)]
 fn put(slots: &mut Vec<Token>, slot: usize, token: Token)
     ensures items { slots.new.items ≡ slice_set slots.old.items slot token }
@@ -85,13 +87,15 @@ fn put(slots: &mut Vec<Token>, slot: usize, token: Token)
     }
 }
 
-// Takes the slot that became free last from the list of free ones, and gives it.
+// Takes the slot that became free last from the list of free ones, and gives it; None if no slot is free. `free` is the first of that list, and
+// becomes the next one.
 #[inline(always)]
 fn free_slot(slots: &Vec<Token>, free: &mut usize) -> Option<usize>
     ensures { IfSome result (λ slot. (free : Its) × (slice_get slots.now.items slot ≡ Some free) × (free.serial ≡ 0)) }
 {
     let slot = *free;
     match slots.get(slot) {
+        // The slot is free: its `step` names the next free slot.
         Some(token) if token.serial == 0 => {
             *free = token.step;
             Some(slot)
@@ -101,7 +105,7 @@ fn free_slot(slots: &Vec<Token>, free: &mut usize) -> Option<usize>
     }
 }
 
-// Whether the token of a note is still in its slot.
+// Whether the token of a note (a slot and a serial) is still in its slot. The slot may be free by now, or hold another token.
 fn is_there(slots: &Vec<Token>, note: Note) -> bool
     ensures { result ≡ false → (t : Its) → slice_get slots.now.items note.slot ≡ Some t → t.serial ≡ note.serial → ⊥ }
 {
@@ -111,7 +115,8 @@ fn is_there(slots: &Vec<Token>, note: Note) -> bool
     }
 }
 
-// Clears the flag that says that a note's token is parked, if that token is still in its slot.
+// Clears the flag that says that a note's token is parked, if that token is still in its slot. The clauses promise that no flag is newly set, and
+// that the note's token isn't parked any more.
 fn rouse(slots: &Vec<Token>, parking: &mut Parking, note: Note)
     ensures flags { (k : ℕ) → is_set parking.new.flags k ≡ true → is_set parking.old.flags k ≡ true }
     ensures gone { (t : Its) → slice_get slots.now.items note.slot ≡ Some t → t.serial ≡ note.serial → is_set parking.new.flags note.slot ≡ true → ⊥ }
@@ -123,7 +128,8 @@ fn rouse(slots: &Vec<Token>, parking: &mut Parking, note: Note)
     parking.clear(note.slot);
 }
 
-// Takes out all notes of a cell, and clears the flags of the tokens that they name: these tokens aren't parked any more.
+// Takes out all notes of the cell with this number, and clears the flags of the tokens that the notes name: these tokens aren't parked (known to
+// wait) any more. Notes of other cells stay.
 fn wake(slots: &Vec<Token>, parking: &mut Parking, cell: u64)
     ensures flags { (k : ℕ) → is_set parking.new.flags k ≡ true → is_set parking.old.flags k ≡ true }
     ensures gone { (k : ℕ) (t : Its) → IsHeld slots.now.items k t → is_set parking.new.flags k ≡ true → IsNoted parking.old cell k t.serial → ⊥ }
@@ -134,7 +140,8 @@ fn wake(slots: &Vec<Token>, parking: &mut Parking, cell: u64)
     }
 }
 
-// Notes a token with each of these cells. The error is refused memory: then some of the notes may be there.
+// Notes the token with this serial in this slot with each of these cells, for which it waits. Flags stay. The error is refused memory: then some of
+// the notes may be there.
 fn note_all(
     parking: &mut Parking,
     slot: usize,
@@ -152,7 +159,7 @@ fn note_all(
 }
 
 impl Tokens {
-    /// One token, in slot 0, in the program's own group. The error is refused memory.
+    /// One token, which is put into slot 0, in the program's own group; it isn't parked. The error is refused memory.
     pub fn begin(alloc: Global, token: Token) -> Result<Tokens, AllocError>
         requires { 1 ≤ token.serial }
         ensures items { IfOk result (λ t. t.items ≡ token ∷ []) }
@@ -174,14 +181,14 @@ impl Tokens {
         })
     }
 
-    /// The slots; one with serial 0 is free.
+    /// The content of each slot, from slot 0 on; a slot whose serial is 0 is free.
     pub fn slots(&self) -> &[Token]
         ensures { result.now ≡ self.now.items }
     {
         &self.slots
     }
 
-    /// How many tokens there are.
+    /// How many tokens there are: slots that aren't free.
     #[inline(always)]
     pub fn len(&self) -> usize
         ensures { result ≡ length (live self.now.items) }
@@ -189,14 +196,14 @@ impl Tokens {
         self.count
     }
 
-    /// How many slots there are.
+    /// How many slots there are, the free ones too.
     pub(crate) fn slot_count(&self) -> usize
         ensures { result ≡ length self.now.items }
     {
         self.slots.len()
     }
 
-    /// What is in this slot, which has to be there; its serial is 0 if the slot is free.
+    /// What is in the slot with this number, from 0, which has to be there; the serial is 0 if the slot is free.
     #[inline(always)]
     pub(crate) fn at(&self, slot: usize) -> Token
         requires { slot < length self.now.items }
@@ -205,7 +212,7 @@ impl Tokens {
         self.slots[slot]
     }
 
-    /// The token with this serial, which isn't 0, if it is in this slot; None if it isn't there any more.
+    /// The token with this serial (its mark in the journal), which isn't 0, if it is in this slot; None if the token isn't there any more.
     #[inline(always)]
     pub fn get(&self, slot: usize, serial: u64) -> Option<Token>
         requires { 1 ≤ serial }
@@ -214,6 +221,7 @@ impl Tokens {
     {
         match self.slots.get(slot) {
             Some(token) if token.serial == serial => Some(*token),
+            // The slot is free, holds another token, or isn't there.
             _ => None,
         }
     }
@@ -240,7 +248,8 @@ impl Tokens {
         self.chains.reserve()
     }
 
-    /// Puts a token of this group into a free slot or a new one, and gives the slot. There has to be room (`reserve`).
+    /// Puts a token into a free slot or a new one, and gives the slot; `group` is the number of the token's group, a hint for later searches. There
+    /// has to be room (`reserve`). `parked` promises that no token is known to wait afterwards that wasn't before.
     #[inline(always)]
     pub fn add(&mut self, token: Token, group: u32) -> usize
         requires room { 1 ≤ self.old.room }
@@ -250,7 +259,7 @@ impl Tokens {
         ensures added { (w : Its → ℕ) → weight w (live self.new.items) ≡ weight w (live self.old.items) + w token }
         ensures parked { StayParked self.old self.new }
     {
-        // The slot that the token gets if none is free.
+        // The slot that the token gets if none is free: one behind the last.
         let end = self.slots.len();
         self.count += 1;
         match free_slot(&self.slots, &mut self.free) {
@@ -267,7 +276,8 @@ impl Tokens {
         }
     }
 
-    /// Replaces the token in this slot, which has to hold one, by another one, which is in this group. The new token isn't known to wait.
+    /// Replaces the token in this slot, which has to hold one, by another one; `group` is the number of the new token's group, a hint for later
+    /// searches. The new token isn't known to wait.
     #[inline(always)]
     pub fn replace(&mut self, slot: usize, token: Token, group: u32)
         requires held { (t : Its) × IsHeld self.old.items slot t }
@@ -282,15 +292,16 @@ impl Tokens {
         self.chains.put(slot, group);
     }
 
-    /// Writes the slots of a group's tokens over `slots`, each once. They are hints: some may be missing or wrong.
+    /// Writes the slots of the tokens in the group with this number over `slots`, each once. They are hints: some may be missing or wrong, so the
+    /// caller tests each.
     pub(crate) fn list(&self, group: u32, slots: &mut Vec<usize>)
         ensures once { (k : ℕ) → weight (is_this k) slots.new.items ≤ 1 }
     {
         self.chains.list(group, slots);
     }
 
-    /// Removes the token in this slot, which has to hold one. The slot is free then. A token that is parked afterwards was so before, and has kept
-    /// its notes.
+    /// Removes the token in this slot, which has to hold one. The slot is free then. A token that is parked afterwards (known to wait) was so before,
+    /// and has kept its notes: that is the clause `parked`.
     #[inline(always)]
     pub fn remove(&mut self, slot: usize)
         requires { (t : Its) × IsHeld self.old.items slot t }
@@ -308,7 +319,7 @@ impl Tokens {
         self.count -= 1;
     }
 
-    /// Whether each token is known to wait. The contract promises it of `true` alone.
+    /// Whether each token is parked: known to wait for a cell. The contract promises that of `true` alone.
     pub fn all_wait(&self) -> bool
         ensures { result ≡ true → (k : ℕ) (t : Its) → IsHeld self.now.items k t → is_set self.now.parked.flags k ≡ true }
     {
@@ -316,8 +327,9 @@ impl Tokens {
         self.parking.len() == self.count
     }
 
-    /// Notes that the token with this serial, which has to be in this slot, waits until one of these cells is bound or lost (`wake`). The error is
-    /// refused memory, and then the token isn't known to wait.
+    /// Parks the token with this serial, which has to be in this slot: notes that it waits until one of these cells is bound or lost (`wake`). The
+    /// error is refused memory, and then the token isn't newly known to wait. `parked` promises that a token that is parked afterwards was so before,
+    /// or is this one, noted with each of the cells.
     pub fn park(&mut self, slot: usize, serial: u64, cells: &Vec<u64>) -> Result<(), AllocError>
         requires { (t : Its) × IsHeld self.old.items slot t × (t.serial ≡ serial) }
         ensures items { self.new.items ≡ self.old.items }
@@ -331,7 +343,8 @@ impl Tokens {
         Ok(())
     }
 
-    /// Forgets of each token that waits for this cell that it waits: the cell has been bound or lost.
+    /// Forgets of each token that waits for this cell that it waits: the cell has been bound or lost, so the token has to be looked at again. The
+    /// tokens stay in their slots; `parked` promises that no token is parked for this cell any more.
     pub fn wake(&mut self, cell: u64)
         ensures items { self.new.items ≡ self.old.items }
         ensures parked { StayBut cell self.old self.new }
