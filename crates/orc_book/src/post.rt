@@ -408,8 +408,9 @@ pub(crate) fn out_in<J: Naming>(posts: &Vec<Post<J>>, number: u32) -> usize
     }
 }
 
-/// Takes a pass out of the post of the group with this `number`, if one is held and the passes there and the tokens that are out are together more
-/// than `members`, how many members the group has. Else None, and nothing changes. No other post changes (`Changes`).
+/// Takes a pass that no member needs out of the post of the group with this `number`; None, and nothing changes, if there is none. Each of the
+/// group's `members` (a token, a pending call or a group right inside it) needs one pass, and workers hold those of the tokens that are out. So a
+/// pass is spare if the passes in the post and the tokens that are out are together more than `members`. No other post changes (`Changes`).
 pub(crate) fn spare_at<J: Naming>(
     posts: &mut Vec<Post<J>>,
     number: u32,

@@ -104,6 +104,8 @@ fn replay_named<P: Run + Naming>(
     requires table { words.table.shared.table_id ≡ P.table }
     requires words { words.table.shared.table_id.words ≡ 2 * MOST_GROUPS }
 {
+    // Each group has a word, which counts its passes; `supply` has all passes, idle. `begin` makes a book whose first token is out, and takes that
+    // token's pass from the supply. None is refused memory.
     let (groups, supply) = words.named::<P>();
     let inputs = Inputs::new(graph, answers);
     let setup = Setup {

@@ -114,7 +114,8 @@ fn occurs(picture: &Picture, sign: Sign) -> bool {
 }
 
 impl Legend {
-    /// A legend whose first line of letters is this far down, in pixels, on a sheet of this width, in parts.
+    /// A legend that begins at the left margin, 12 pixels across. Its first line of letters is this far down, in pixels, on a sheet of this width, in
+    /// parts.
     pub(crate) fn new(down: u64, width: u64) -> Legend {
         Legend {
             across: 12 * PARTS,

@@ -424,8 +424,8 @@ where
 
     // Does the jobs in batches, without the first `done` ones, the samples. While threads do a batch, this one merges the results of the jobs before
     // it. `mean` is how many entries the sub-runs so far have had on average, and each batch gives the next one its own. The function goes on as long
-    // as batches are worth it (`trial_of`), no job has won a race, and the limit has room for the next batch. Gives how the last batch has gone; the
-    // error is why the run stops.
+    // as batches are worth it (`trial_of`), no job has won a race, and the limit has room for the next batch. Gives how the last batch has gone in
+    // which no job won a race, or Good with `mean` if there was none; the error is why the run stops.
     fn run_batches(
         &self,
         scheduler: &mut Scheduler<P>,

@@ -69,7 +69,7 @@ impl Scene<'_, '_> {
         page.note("");
         page.say_number("call ", number, ", ");
         self.call(page, call.entry);
-        // The place of the call in the checker's list, from 0.
+        // The checker has taken the same entries, so its list has the same calls, call 1 first: this one is always found there, at this place from 0.
         let at = (number as usize).saturating_sub(1);
         if let Some(kept) = self.replay.marked.calls().get(at) {
             self.silence(page, call, kept.called(), lines);

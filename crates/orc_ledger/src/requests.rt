@@ -32,8 +32,8 @@ use orc_rules::entry::Entry;
 use orc_rules::value::Args;
 use orc_tables::{Call, Standing, Token};
 
-// Writes the entry of a call, and counts in `counts` a call of the site with the number `site` with these arguments, if a script answers the site.
-// `token` is the mark of the token that makes the call, `call` the call's number. Where memory is refused nothing changes.
+// Writes the entry of a call. If a script answers the site, it counts the call too, since the script may answer the next one with these arguments
+// otherwise. `token` is the mark of the token that makes the call, `call` the call's number. Where memory is refused nothing changes.
 fn write_call<P: Run>(
     journal: &mut Log<P>,
     counts: &mut Counts,

@@ -245,6 +245,7 @@ impl<R: Threads + Sync> Tester<'_, '_, R> {
                 Ok(text)
             }
             Counterexample::Schedule(_) => {
+                // `found` has only the case and the number of the way, so `details_of_schedule` searches the way again for the schedule.
                 let text = self.details_of_schedule(test, script, lines, number, claim)?;
                 Ok(text)
             }

@@ -172,6 +172,7 @@ impl Calls<'_, '_> {
             if page.len() == 0 {
                 page.say("orc: calls that no line answers\n");
             }
+            // `say_word` writes the name between two texts, of which the first is empty: `note` has written it.
             page.note("in case ");
             page.say_word("", name, " no line answers ");
             page.say(text.as_str());

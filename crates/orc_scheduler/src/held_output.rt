@@ -1,4 +1,5 @@
-//! The publication that a sub-run holds back if a `>x>` or a side encloses its call: the value goes to that part, and the program doesn't publish it.
+//! The publication that a sub-run (the run of one call of a definition, apart from the run that makes the call) holds back if a `>x>` or a side
+//! encloses its call: the value goes to that part, and the program doesn't publish it.
 
 /// The value that a sub-run holds back, and whether the sub-run can still replace its call.
 #[derive(Clone, Copy)]
@@ -26,7 +27,7 @@ impl Holding {
         self.is_on = true;
     }
 
-    /// Whether what the run publishes is held back.
+    /// Whether what this run publishes is held back: only a sub-run does so, and only if a `>x>` or a side encloses its call.
     #[inline(always)]
     pub(crate) fn is_on(&self) -> bool {
         self.is_on

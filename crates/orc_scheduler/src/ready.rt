@@ -42,7 +42,7 @@ pub struct Ready {
 pub(crate) enum Drawn {
     /// The token of this handle, which is in the queue no more.
     Token(Handle),
-    /// The call with this number.
+    /// The call with this number (not its place among the due ones): its turn answers it, if it isn't gone by then.
     Call(u64),
 }
 

@@ -292,8 +292,9 @@ impl Tokens {
         self.chains.put(slot, group);
     }
 
-    /// Writes the slots of the tokens in the group with this number over `slots`, each once. They are hints: some may be missing or wrong, so the
-    /// caller tests each.
+    /// Writes the slots of the tokens in the group with this number over `slots`, each once. They are hints, since nothing else is proved of chains:
+    /// some may be missing, as where memory is refused, or wrong. So the caller tests each slot, and compares how many members it has found with the
+    /// group's size.
     pub(crate) fn list(&self, group: u32, slots: &mut Vec<usize>)
         ensures once { (k : ℕ) → weight (is_this k) slots.new.items ≤ 1 }
     {
