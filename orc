@@ -123,7 +123,8 @@ states() {
 }
 
 # ways LANES: reads what `states` writes, and estimates the seconds that are left from what the proved crates took for their weight. That is the work that
-# is left, divided by the lanes, or the longest chain of crates up to the program if that takes longer. It writes nothing if no crate is proved yet.
+# is left, divided by the lanes, or the longest chain of crates up to the program if that takes longer. It writes nothing before a twentieth of the
+# weights is proved: at first the preview takes processors, too, and one crate says little of all.
 # ways: reads lines 'CRATE WEIGHT', and writes each crate behind the weight of the longest chain from it to the program.
 ways() {
     awk -v lanes="${1:-0}" '
@@ -150,7 +151,8 @@ ways() {
         }
         END {
             if (!lanes) { for (crate in own) print way(crate), crate; exit }
-            if (!took) exit
+            for (crate in own) total += own[crate]
+            if (!took || weight * 20 < total) exit
             for (crate in own) {
                 whole = own[crate] * took / weight
                 own[crate] = state[crate] == "proved" ? 0 : whole
