@@ -25,7 +25,7 @@ impl Model for Due {
 }
 
 impl Due {
-    /// The empty set: no node waits for a call.
+    /// The empty set: no node is noted.
     pub(crate) fn new(alloc: Global) -> Due
         ensures { result ≡ [] }
     {
@@ -66,7 +66,7 @@ impl Due {
         self.put(time, node).map_err(|_| RuleFault::Memory)
     }
 
-    /// The earliest due time that is noted, with the node that waits for the call. None where nothing is noted.
+    /// The earliest due time that is noted, with the node that was noted with it, which may wait no more. None where nothing is noted.
     pub(crate) fn first(&self) -> Option<(u64, u32)>
         ensures { MatchOption result (self.now ≡ []) (IsFirst self.now) }
     {

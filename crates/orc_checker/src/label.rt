@@ -70,9 +70,9 @@ impl Marked {
         }
     }
 
-    /// The label of an entry, which is what those outside see of the step (`Silent`: that something happened), whether the entry is allowed or not.
-    /// None for a move of marks (`end`, `fork`, `seq`, `other`), which uses no rule of Orc, or a tick. Only a `call` has errors: Cancel where a
-    /// cancel is due, Mark where there is no such token, Memory.
+    /// The label of an entry, which is what those outside see of the step (`Silent`: a rule was used, but nothing can be seen of it), whether the
+    /// entry is allowed or not. None for a move of marks (`end`, `fork`, `seq`, `other`), which uses no rule of Orc, or a tick. Only a `call` has
+    /// errors: Cancel where a cancel is due, Mark where there is no such token, Memory.
     fn label(&self, alloc: Global, entry: &Entry) -> Result<Option<Label>, RuleFault>
         ensures { IfOk result (λ label. (x : Context) (l : Listing) (p : Place) → Spells x (code l) self.now p → IsLabel p entry.now label) }
     {
@@ -103,8 +103,8 @@ impl Marked {
     }
 
     /// Applies one entry and gives its label, which is what those outside see of the step; None for a move of marks (`end`, `fork`, `seq`, `other`)
-    /// or a tick. `answers` is the table of what sites answer. After a RuleFault nothing has changed. The fault names a condition that the entry
-    /// breaks, not always the first such one.
+    /// or a tick. `answers` is the table of what sites answer. After a RuleFault nothing has changed. Each fault but Memory names a condition that
+    /// the entry breaks, not always the first such one, as with `step`.
     pub fn apply(
         &mut self,
         alloc: Global,

@@ -50,7 +50,7 @@ pub enum Next {
     Publish(Value),
     /// It calls the site of this number.
     Call(u32, Args),
-    /// It waits until cells are bound or lost: `awaited` gives the cell for each position of the token's call or variable.
+    /// It waits until cells are bound or lost: `awaited` gives the cell for each position of the token's call or variable that has one.
     Wait,
 }
 

@@ -214,10 +214,11 @@ impl Marked {
         }
     }
 
-    /// `bind S C V`: token `s` publishes `v` from the right side of cell `c`'s pruning. The cell becomes `v`, the right side is dropped, and the
-    /// cancels of its calls are due. The errors: Cancel where a cancel is due, Mark where there is no token `s` or no open cell `c`, Form where the
-    /// token doesn't stand on `v` or anything else takes its publication, and Memory. `Applies` promises that the entry leads from the old state to
-    /// the new one. After an error nothing has changed, and the error is Memory or names a condition that the entry breaks.
+    /// `bind S C V`: token `s` publishes `v` from the right side of cell `c`'s pruning. The cell becomes `v`, the right side is dropped, and, where
+    /// the journal records cancels, those of its calls are due. The errors: Cancel where a cancel is due, Mark where there is no token `s` or no open
+    /// cell `c`, Form where the token doesn't stand on `v` or anything else takes its publication, and Memory. `Applies` promises that the entry
+    /// leads from the old state to the new one. After an error nothing has changed, and the error is Memory or names a condition that the entry
+    /// breaks.
     pub(crate) fn bind(
         &mut self,
         program: &Program,
@@ -270,7 +271,7 @@ impl Marked {
             halted,
         );
         bind_cell(&mut self.cells, c, Bound::Is(v));
-        // The cancels of the calls that were dropped are due now, that of the least call first.
+        // The cancels of the calls that were dropped are due now, that of the least call first. No cancel is due if the journal doesn't record them.
         self.rest.set_cancels(calls);
         Ok(())
     }

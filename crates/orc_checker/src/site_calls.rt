@@ -113,7 +113,7 @@ impl Marked {
     }
 
     /// Where call `k` pends: its node in the marked term, and what is kept of it. None if there was no such call, or it has returned or been dropped
-    /// with a side of a pruning or otherwise.
+    /// with the right side of a pruning, by a `bind`.
     pub(crate) fn find_call(&self, k: u64) -> Option<Pending>
         ensures there { IfSome result (λ w. at self.now.nodes w.parent w.at (AtLeaf (Waits k))) }
         ensures call { IfSome result (λ w. IsCall self.now.rest k w.called) }

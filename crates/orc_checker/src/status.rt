@@ -15,7 +15,8 @@ use crate::marked::Marked;
 use orc_term::flags::flag_at;
 
 impl Marked {
-    /// Whether the whole marked term has halted: nothing in it can call or publish any more. A flag of that is kept, so nothing is searched.
+    /// Whether the whole marked term has halted: no call pends in it, no token waits, and no step is left but moves of marks and `lost`. A flag of
+    /// that is kept, so nothing is searched.
     pub fn has_halted(&self) -> bool
         ensures { (x : Context) (l : Listing) (p : Place) → Spells x (code l) self.now p → result ≡ has_halted (erase p.marked) }
     {

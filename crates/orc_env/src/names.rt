@@ -34,7 +34,7 @@ pub struct Scope {
 }
 
 // What a meaning has become by now. For a cell (the variable of an opened `f <x< g`) it is what the table `cells` has at the cell's number, or the
-// cell itself if the table has no such place; a cell that isn't bound stands in the table as itself. A value and void stay as they are.
+// cell itself if the table has no such place; a cell that is neither bound nor lost stands in the table as itself. A value and void stay as they are.
 fn current(cells: &[Bound], bound: Bound) -> Bound
     ensures { result ≡ current cells.now bound }
 {

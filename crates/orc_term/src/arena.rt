@@ -31,8 +31,8 @@ pub enum Single {
     /// `f ; g`, whose part f was entered and hasn't published: the mark of the token that entered it, which is the otherwise's number, the node of
     /// the program for g, and g's scope.
     Entered(u32, u32, u32),
-    /// A node that means just its part: an otherwise whose left side has published, a pruning whose right side has published or halted (its cell is
-    /// bound or lost), or node 0.
+    /// A node that means just its part: an otherwise whose left side has published, a pruning whose right side was dropped by `bind` or `lost` (its
+    /// cell is bound or lost), or node 0.
     Passed,
 }
 

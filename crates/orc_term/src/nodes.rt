@@ -301,8 +301,8 @@ impl Nodes {
         &self.restless
     }
 
-    /// A bound on how many nodes are one below another under node 0: the greatest rank, since each node has a greater rank than its parent. None if
-    /// memory or a rank was refused, until the ranks are renewed.
+    /// A bound on how many nodes are one below another under node 0: the greatest rank, since each node has a greater rank than its parent. None
+    /// where the ranks aren't kept, as after memory or a rank was refused, until they are renewed.
     pub fn levels_below(&self) -> Option<usize>
         ensures { IfSome result (AreLevelsAtMost self.now.items) }
     {

@@ -74,7 +74,7 @@ pub fn entry_of(marked: &Marked, program: &Program, token: u64) -> Option<Entry>
 }
 
 // Whether a call of a site with these operands can go on in the scope with this number, which says what variables mean: all are values, or one is
-// void, that is, will never have a value.
+// void, that is, a variable whose cell was lost.
 fn is_callable(marked: &Marked, operands: &[Operand], scope: usize) -> bool {
     let mut waits = false;
     for operand in operands {

@@ -53,7 +53,7 @@ fn is_due_at(called: Called, answer: Answer, time: u64) -> bool
 }
 
 /// Whether the table's answer to call `k`, from 1, is this one, whenever it is due; false if there is no such call. By `Says` the answer holds at
-/// each place, a term with its calls and the time, that `marked` describes.
+/// each place, a term with its calls and the time, that `marked` describes and in which no mark, call or cell is twice.
 pub(crate) fn is_answer(marked: &Marked, k: u64, answer: Answer) -> bool
     ensures { Says marked.now result (λ x p. IsAnswer x p k answer) }
 {
@@ -64,7 +64,7 @@ pub(crate) fn is_answer(marked: &Marked, k: u64, answer: Answer) -> bool
 }
 
 /// Whether the table's answer to call `k`, from 1, is this one, and due now; false if there is no such call. By `Says` the answer holds at each
-/// place, a term with its calls and the time, that `marked` describes.
+/// place, a term with its calls and the time, that `marked` describes and in which no mark, call or cell is twice.
 pub(crate) fn is_due(marked: &Marked, k: u64, answer: Answer) -> bool
     ensures { Says marked.now result (λ x p. IsDue x.sites p.calls k answer p.now) }
 {

@@ -86,7 +86,7 @@ fn part_at(nodes: &[Slot], name: Name, at: usize) -> Option<Part>
     }
 }
 
-/// The first node of the marked term that has the name. None if none has it. The function looks at each node.
+/// The first node of the marked term that has the name. None if none has it. The function looks at each node up to that one.
 pub(crate) fn find(marked: &Marked, name: Name) -> Option<Part>
     ensures has { IfSome result (λ f. Has marked.now.nodes name f) }
     ensures none { IfNone result (HasNone marked.now.nodes name) }

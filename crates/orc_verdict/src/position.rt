@@ -23,7 +23,7 @@ pub(crate) enum Standing {
     Nothing,
     /// `stop`.
     Stop,
-    /// An operand: a value, a cell that has no value yet, void (a cell that will never have one), or the name of a variable.
+    /// An operand: a value, a cell that is neither bound nor lost, void (the cell was lost), or the name of a variable that the scope doesn't have.
     On(Param),
     /// A call of this site: whether an argument is void, and whether the arguments are the values that the entry names.
     Site(u32, bool, bool),
@@ -61,8 +61,8 @@ fn are_these(marked: &Marked, operands: &[Operand], args: &[Value], scope: usize
     }
 }
 
-/// Whether some operand is void in this scope: a variable that will never get a value. The scope, by its number, says what variables mean. The
-/// contract asks that each scope extends one of a lower number (`AreOrdered`), as the scopes of a run do.
+/// Whether some operand is void in this scope: a variable whose cell was lost. The scope, by its number, says what variables mean. The contract asks
+/// that each scope extends one of a lower number (`AreOrdered`), as the scopes of a run do.
 fn some_void(marked: &Marked, operands: &[Operand], scope: usize) -> bool
     ensures { AreOrdered marked.now.scopes → result ≡ has_void (map (close_param (env_of marked.now.cells marked.now.scopes scope)) (map param_of operands.now)) }
 {
@@ -216,7 +216,7 @@ fn on_value(value: Value, standing: Standing) -> bool
     }
 }
 
-/// Whether the token whose `standing` this is stands on void, a variable that will never have a value, or on a call of a site with a void argument.
+/// Whether the token whose `standing` this is stands on void, a variable whose cell was lost, or on a call of a site with a void argument.
 fn on_void(standing: Standing) -> bool
     ensures { result ≡ is_void standing }
 {

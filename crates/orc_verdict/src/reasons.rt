@@ -65,7 +65,8 @@ fn asks_for(entry: &Entry) -> Asked
 }
 
 /// Whether the token with the mark `s` is there. A mark is that of a token, whose node has no parts, or the number of an otherwise, whose node has
-/// one. By `Says` the answer holds at each place, a term with its calls and the time, that `marked` describes.
+/// one. By `Says` the answer holds at each place, a term with its calls and the time, that `marked` describes and in which no mark, call or cell is
+/// twice.
 fn has_token(marked: &Marked, s: u64) -> bool
     ensures { Says marked.now result (λ x p. HasToken p s) }
 {
@@ -76,7 +77,7 @@ fn has_token(marked: &Marked, s: u64) -> bool
 }
 
 /// Whether the otherwise with the mark `s` is there; false where a token has the mark. By `Says` the answer holds at each place, a term with its
-/// calls and the time, that `marked` describes.
+/// calls and the time, that `marked` describes and in which no mark, call or cell is twice.
 fn has_otherwise(marked: &Marked, s: u64) -> bool
     ensures { Says marked.now result (λ x p. HasOther p s) }
 {
@@ -86,7 +87,8 @@ fn has_otherwise(marked: &Marked, s: u64) -> bool
     }
 }
 
-/// Whether call `k`, by its number, pends. By `Says` the answer holds at each place, a term with its calls and the time, that `marked` describes.
+/// Whether call `k`, by its number, pends. By `Says` the answer holds at each place, a term with its calls and the time, that `marked` describes and
+/// in which no mark, call or cell is twice.
 fn has_call(marked: &Marked, k: u64) -> bool
     ensures { Says marked.now result (λ x p. HasCall p k) }
 {
@@ -96,7 +98,8 @@ fn has_call(marked: &Marked, k: u64) -> bool
     }
 }
 
-/// Whether cell `c`, by its number, is there. By `Says` the answer holds at each place, a term with its calls and the time, that `marked` describes.
+/// Whether cell `c`, by its number, is there. By `Says` the answer holds at each place, a term with its calls and the time, that `marked` describes
+/// and in which no mark, call or cell is twice.
 fn has_cell(marked: &Marked, c: u64) -> bool
     ensures { Says marked.now result (λ x p. HasCell p c) }
 {
@@ -296,7 +299,7 @@ fn left_has_halted(marked: &Marked, kind: Kind) -> bool
 }
 
 /// Whether the right side of the pruning of cell `c` has halted; false where there is no such pruning. By `Says` the answer holds at each place, a
-/// term with its calls and the time, that `marked` describes.
+/// term with its calls and the time, that `marked` describes and in which no mark, call or cell is twice.
 fn right_is_over(marked: &Marked, c: u64) -> bool
     ensures { Says marked.now result (λ x p. IsRightOver p c) }
 {
@@ -307,7 +310,7 @@ fn right_is_over(marked: &Marked, c: u64) -> bool
 }
 
 /// Whether the left side of otherwise `s` has halted; false where there is no such otherwise. By `Says` the answer holds at each place, a term with
-/// its calls and the time, that `marked` describes.
+/// its calls and the time, that `marked` describes and in which no mark, call or cell is twice.
 fn left_is_over(marked: &Marked, s: u64) -> bool
     ensures { Says marked.now result (λ x p. IsLeftOver p s) }
 {
