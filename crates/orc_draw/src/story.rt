@@ -117,7 +117,7 @@ pub(crate) struct Story<'a> {
     calls: u64,
     // Whether all calls are shown, also those of built-in sites that take no time.
     is_whole: bool,
-    // How often each site was called with the same arguments: the table's answer to a call may depend on that.
+    // How often each site of the script was called with the same arguments: the table's answer to a call may depend on that.
     counts: Counts,
     // Which tokens there are, on which part of the program each one stands, and in which step.
     trail: Trail,

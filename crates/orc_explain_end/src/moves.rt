@@ -148,7 +148,7 @@ impl Moves {
     }
 
     // Looks at each side that hasn't ended: right sides of prunings by their cells, and left sides of otherwises by their marks. Of a side that has
-    // ended or was dropped the term says nothing (None). The error is refused memory.
+    // ended, has published or was dropped the term says nothing (None). The error is refused memory.
     fn add_sides(&mut self, replay: &Replay) -> Result<(), AllocError> {
         let mut cell: u64 = 0;
         for _cell in &replay.cells {

@@ -398,7 +398,7 @@ const CLAIM_WAYS: [Way; 30] = [
 /// What may stand at the places where a line begins or ends: at the first place, a piece that passes the test; then the walk goes on at the second
 /// place. `Else` takes no piece.
 const LINE_WAYS: [Way; 7] = [
-    // The lines that begin sections; any other line is a claim.
+    // The lines that begin sections; any other line without a `=` is a claim.
     (Place::Line, Test::Word(b"given"), Next::To(Place::LineEnd)),
     (Place::Line, Test::Word(b"always"), Next::To(Place::LineEnd)),
     (Place::Line, Test::Word(b"case"), Next::To(Place::CaseName)),
@@ -577,7 +577,7 @@ impl Walk {
     // Goes on by an entry of the tables whose test the piece that is looked at passes: behind the piece, unless the test leaves it for the next
     // place, and to the place that `next` says.
     fn step(&mut self, line: &mut Line, test: Test, next: Next) {
-        // What may follow at a place that the walk leaves without a piece is said together with what may follow at the next one.
+        // What may follow at a place that the walk leaves by `Else`, without a piece, is said together with what may follow at the next one.
         self.before = match test {
             Test::Else => Some(self.place),
             _ => None,
@@ -596,8 +596,8 @@ impl Walk {
         }
     }
 
-    /// What may follow where the walk ended, in words, in two parts: what may follow at the place before, empty if the walk came here over a piece,
-    /// and what may follow at this place.
+    /// What may follow where the walk ended, in words, in two parts: what may follow at the place before, empty unless the walk came here by
+    /// `Test::Else`, and what may follow at this place.
     pub(crate) fn wanted(&self) -> (&'static str, &'static str) {
         let before = match self.before {
             Some(place) => wanted(place),

@@ -271,7 +271,7 @@ impl<'a> Line<'a> {
     }
 
     // Goes on behind the patterns of a line and their brackets. The error is Patterns behind `MOST_ARGUMENTS` of them and a comma; else it says what
-    // had to stand at the piece that is looked at.
+    // is wrong at the piece that is looked at.
     fn patterns(&mut self) -> Result<(), Wrong> {
         self.want(b"(", Wrong::Bracket)?;
         if self.is_here(b")") {

@@ -1,6 +1,6 @@
 //! Cases with too many ways (T6). A way is one choice among all that the case's services may do. A test without a case has one that is called
 //! `given`. Functions take a case by its place in the test, from 0; the `case` of a service is None if it stands below `given`, where it is one of
-//! all cases.
+//! each case that has no service of its own with the same name and patterns.
 
 use crate::script::Line;
 use crate::test_place::span_of;

@@ -461,8 +461,8 @@ impl<'a> Around<'_, 'a> {
         }
     }
 
-    // A hint where a closing bracket was expected. If the bracket was opened in an earlier line, or a `def` stands at the place, the hint says where
-    // it was opened. `otherwise` has the words for a bracket that was opened in the same line.
+    // A hint where a closing bracket was expected. If the bracket was opened in an earlier line, or the text ends or a `def` stands at the place, the
+    // hint says where it was opened. `otherwise` has the words for a bracket that was opened in the same line, unless a `,` stands at the place.
     fn close(&self, otherwise: &'static str) -> Hint<'a> {
         if let Some(open) = self.open_bracket() {
             if self.is_line_since(open) || self.here() == b"def".as_slice() {

@@ -86,7 +86,7 @@ impl Watch {
         match self.place {
             // What is named wasn't in the term before this entry, which makes it: from here on it has a node.
             None if is_brought(self.named, entry) => self.place = place_of(marked, self.named),
-            // What is named was at that node, and isn't any more: this entry took it away.
+            // What is named was at that node, and isn't any more: this entry took it away, or, if its fate is known already, an earlier one did.
             Some(place) if !stands_at(marked, place, self.named) => {
                 if let Fate::Nothing = self.fate {
                     self.fate = self.ended_by(marked, place, entry, number);

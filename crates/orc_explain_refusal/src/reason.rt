@@ -131,7 +131,7 @@ impl Refused<'_> {
         let mut cells: u64 = 0;
         for place in 0..MOST_ARGUMENTS {
             if marked.awaited(self.program, mark, place).is_some() {
-                // The argument at this place is a cell without a value.
+                // The argument at this place, or the variable on which the token stands (place 0), is a cell without a value.
                 cells = cells.saturating_add(1);
             }
         }

@@ -84,7 +84,8 @@ impl Way {
         Ok(way)
     }
 
-    // Notes the numbers of the nodes from node `from` up to the whole, node 0, or to the highest level that is shown. The error is refused memory.
+    // Notes the numbers of the nodes from node `from` up to node 0, which is above the whole term, or to the highest level that is shown. The error
+    // is refused memory.
     fn climb(&mut self, marked: &Marked, spent: &Spent, from: usize) -> Result<(), AllocError> {
         let mut place = from;
         let mut levels: usize = 0;
