@@ -167,7 +167,7 @@ impl Tables {
 
     // Adds the state that `from` becomes once as much time has passed as the pending call that is due first has left; nothing if no call will be
     // answered, or one is due at once. Only called where nothing can happen before. `AreKnown` asks that all numbers in the tables are of something.
-    // The error is refused memory, or a count past its type.
+    // The error is refused memory.
     fn wait(&mut self, alloc: Global, sieve: &Sieve, from: Key) -> Result<(), AllocError>
         requires all { AreKnown self.old }
         requires from { IsKnown self.old from }

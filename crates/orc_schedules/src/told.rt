@@ -16,7 +16,7 @@ pub struct Told {
 }
 
 impl Hashed for Told {
-    // The hash by which an equal end is looked for, of the state's number and the list's. The seed, 1, is arbitrary.
+    // The hash by which an equal end is looked for, of the number of the end's status and the list's. The seed, 1, is arbitrary.
     fn hash(&self) -> u64 {
         mix(mix(1, self.end.status() as u64), self.seen as u64)
     }

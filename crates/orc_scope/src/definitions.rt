@@ -54,8 +54,8 @@ fn parameters_fault<'a>(
     while at < parameters.len() {
         let name = parameters[at];
         let before = looking.scope.find(name.text);
-        // Of the two faults of this parameter the one that stands first: its name came before, or it is the one behind the last allowed. Parameters
-        // are counted from 1.
+        // Of the two faults of this parameter, which stand at one place, the one of the lower number: its name came before (C5), or it is the one
+        // behind the last allowed (C8). Parameters are counted from 1.
         let own = lesser(
             repeated(FaultKind::ParameterTwice, before, name.span),
             number_fault(at + 1, name.span),

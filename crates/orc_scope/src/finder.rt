@@ -244,9 +244,9 @@ impl<'a> Looking<'a> {
         }
     }
 
-    // The least fault of the parts on the stack, whose nodes these are: the one that stands first. None where they have none. `room`, how many more
-    // nodes the written-out terms may have, is then smaller by the number of nodes of the terms of these parts, down to 0. `IsFit` asks that each
-    // task can make its scope.
+    // The least fault of the parts on the stack, whose nodes these are: the one that stands first, and of those at one place the one of the lowest
+    // number. None where they have none. `room`, how many more nodes the written-out terms may have, is then smaller by the number of nodes of the
+    // terms of these parts, down to 0. `IsFit` asks that each task can make its scope.
     fn find(&mut self, known: &Known, nodes: &[Node<'a>]) -> Result<Option<ScopeFault>, AllocError>
         requires { IsFit self.old }
         ensures least { IfOk result (λ least. IsLeast least (looks (known_of known.now) (waiting self.old) (reverse (map item nodes.now)))) }
@@ -262,7 +262,7 @@ impl<'a> Looking<'a> {
             };
             count -= 1;
             let node = nodes[count];
-            // Of two faults `lesser` gives the one that stands first.
+            // Of two faults `lesser` gives the one that stands first, and of two at one place, as these are, the one of the lower number.
             let own = lesser(
                 number_fault(number, node.span),
                 node_fault(known, &self.scope, node.part),

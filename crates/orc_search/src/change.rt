@@ -201,7 +201,7 @@ fn part(terms: &Terms, change: Change, stays: bool, at: usize) -> Option<usize>
 }
 
 // One step for the term of the number `at`: what it becomes if the images of its parts are kept, and otherwise a part whose image is wanted first,
-// the left one before the right one. The error is refused memory. The contract speaks of what the term becomes alone.
+// the left one before the right one. The error is refused memory. The contract promises nothing of a part that is wanted.
 fn step(terms: &mut Terms, alloc: Global, change: Change, at: usize) -> Result<Progress, AllocError>
     ensures progress { IfOk result (λ s. ProgressIs (smalls terms.old) (smalls terms.new) change at s) }
     ensures kept { Extends (smalls terms.old) (smalls terms.new) }
@@ -225,8 +225,8 @@ fn step(terms: &mut Terms, alloc: Global, change: Change, at: usize) -> Result<P
 }
 
 // One step of the whole change, for the term `at`, which was taken from the end of `todo`: its image is kept, and handed back; or the term goes back
-// to `todo`, and behind it the part that is wanted first, and the answer is None. The error is refused memory. The contract speaks of the image
-// alone.
+// to `todo`, and behind it the part that is wanted first, and the answer is None. The error is refused memory. The contract promises nothing of
+// `todo`, nor that the image is kept.
 fn advance(
     terms: &mut Terms,
     alloc: Global,

@@ -149,7 +149,7 @@ fn call(alloc: Global, site: u32, args: &[Value], rest: Found) -> Result<Becomin
 }
 
 // The step of a call of a site that isn't made yet, after the calls `made`: it is made if all parameters are values, ends silently if one is void,
-// and waits otherwise. The error is refused memory, or that it has more than `MOST_ARGUMENTS` parameters.
+// and waits otherwise. The error is refused memory, that it has more than `MOST_ARGUMENTS` parameters, or that it is the call 2^64 of its kind.
 fn asked(
     alloc: Global,
     source: &Source,
@@ -197,7 +197,7 @@ fn returned(alloc: Global, waiting: &Waiting) -> Result<Option<Becoming>, AllocE
 }
 
 // What the term of the number `at` does by itself, after the calls `made`. The error is refused memory, a call with more than `MOST_ARGUMENTS`
-// parameters, or that there is no such term.
+// parameters, 2^64 calls, or that there is no such term.
 fn own_of(
     terms: &Terms,
     alloc: Global,
@@ -373,7 +373,8 @@ fn turned(
 
 /// The step by itself of the part at `spot`, after the calls `made`: what is seen of the step, and the number of the part after it; None if the part
 /// has none. `spot` has the part's number and its depth. `IsReady` asks that `source` has the right number for the small term of each node of the
-/// program. The error is refused memory, or a call with more than `MOST_ARGUMENTS` parameters. The terms that were there stay, also after an error.
+/// program. The error is refused memory, a call with more than `MOST_ARGUMENTS` parameters, or 2^64 calls. The terms that were there stay, also after
+/// an error.
 pub(crate) fn own_step(
     terms: &mut Terms,
     alloc: Global,

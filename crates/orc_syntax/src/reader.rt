@@ -449,8 +449,8 @@ impl<'a> Reader<'a> {
         }
     }
 
-    // Takes a comma behind a whole expression, all of whose operators are joined: another argument has to come. The errors: Wanted where no call is
-    // open, with what could come instead, and Memory.
+    // Takes a comma behind a whole expression, all of whose operators are joined: another argument has to come. The errors: Wanted where what waits
+    // innermost is no call, with what could come instead, and Memory.
     #[inline(always)]
     #[tactic(auto, using(crate::proofs::Views::stacks))]
     fn another(&mut self) -> Result<Mode<'a>, StepError>

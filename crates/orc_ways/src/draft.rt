@@ -88,7 +88,8 @@ impl<'a> Draft<'a> {
         }
     }
 
-    // Begins the section `given` at the line of this number; false if there was one, and then nothing changes. `IsPlaced` promises just that.
+    // Begins the section `given` at the line of this number; false if there was one, and then nothing changes. After true `IsPlaced` says what the
+    // draft is; after false it says nothing of the draft.
     fn begin_given(&mut self, number: usize) -> bool
         ensures { IsPlaced (with_given (draft_of self.old) number) (draft_of self.new) result }
     {
@@ -100,7 +101,8 @@ impl<'a> Draft<'a> {
         true
     }
 
-    // Begins the section `always`; false if there was one, and then nothing changes. `IsPlaced` promises just that.
+    // Begins the section `always`; false if there was one, and then nothing changes. After true `IsPlaced` says what the draft is; after false it
+    // says nothing of the draft.
     fn begin_always(&mut self) -> bool
         ensures { IsPlaced (with_always (draft_of self.old)) (draft_of self.new) result }
     {
@@ -240,7 +242,7 @@ impl<'a> Draft<'a> {
             sites: self.test.sites.as_slice(),
             line: tokens.as_slice(),
         };
-        // What the line is: a section's beginning, a service or a claim. None if it is none of these.
+        // What the line is: without a token, a section's beginning, a service or a claim. None if it is none of these.
         let Some(kind) = scope.kind(alloc)? else {
             return Ok(LineEnd::NoLine);
         };

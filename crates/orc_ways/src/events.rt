@@ -81,8 +81,8 @@ impl Scope<'_, '_> {
         }
     }
 
-    // Reads a call of the site that `token` names, and what becomes of it, from the `tokens` behind that name. None if the name is reserved, or
-    // brackets with slots don't follow. The error is refused memory.
+    // Reads a call of the site that `token` names, and what becomes of it, from the `tokens` behind that name. None if `token` is no name or a
+    // reserved one, or brackets with slots don't follow. The error is refused memory.
     #[tactic(auto, unfolding(crate::specs::Claims::call_at))]
     fn call<'t, 'b>(
         self,

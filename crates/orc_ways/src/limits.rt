@@ -18,5 +18,6 @@ pub const MOST_ALTERNATIVES: usize = 64;
 /// The greatest N of `in each of N calls`: the most calls that take alternatives of their own.
 pub const MOST_CALLS: usize = 4;
 
-/// The most ways of a case. A way takes one alternative of each line of a service, and one number of each range of delays.
+/// The most ways of a case. A way takes one alternative of each line of a service, or one for each of its N calls, and one number of each range of
+/// delays in what it takes.
 pub const MOST_WAYS: u64 = 1_000_000;

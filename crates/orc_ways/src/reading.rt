@@ -19,8 +19,8 @@ use orc_rules::limits::LONGEST_SOURCE;
 use orc_site::split_line;
 use std::alloc::{AllocError, Global};
 
-// The draft (what the lines say of a test) that all lines of a text make. The faults are T1 (no line of a test) and T4 (not allowed there) of the
-// first line that has one, and refused memory.
+// The draft (what the lines say of a test) that all lines of a text make. The faults are T1 (no line of a test, or one that names one site too many)
+// and T4 (not allowed there) of the first line that has one, and refused memory.
 fn read_draft<'a>(alloc: Global, text: &'a [u8]) -> Result<Draft<'a>, TestFault>
     requires { length text.now ≤ LONGEST_SOURCE }
     ensures read { IfOk result (λ d. read_text text.now ≡ says (draft_of d)) }

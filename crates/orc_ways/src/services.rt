@@ -79,7 +79,8 @@ fn delayed<'t, 'a>(answer: Answer, tokens: &'t [Token<'a>]) -> Option<(Reply, &'
     }
 }
 
-// Reads one answer with its delay, or `never`, which has none. Gives this reply, and the tokens behind it. None if neither comes first.
+// Reads one answer with its delay, or `never`, which has none. Gives this reply, and the tokens behind it. None if neither comes first, or if the
+// answer's `after` has no delay.
 #[tactic(auto, unfolding(crate::specs::Lines::reply_at))]
 fn reply<'t, 'a>(tokens: &'t [Token<'a>]) -> Option<(Reply, &'t [Token<'a>])>
     ensures { Gives (λ x. (x.0, tokens_of x.1.now)) result (reply_at (tokens_of tokens.now)) }
@@ -96,7 +97,7 @@ fn reply<'t, 'a>(tokens: &'t [Token<'a>]) -> Option<(Reply, &'t [Token<'a>])>
 }
 
 // Reads one answer and the `then` behind it, if there is one. Gives the answer with its delay, true if no `then` follows, and the tokens that are
-// left. None if no answer comes first.
+// left. None if no answer comes first, or its `after` has no delay.
 fn reply_step<'t, 'a>(tokens: &'t [Token<'a>]) -> Option<(Reply, bool, &'t [Token<'a>])>
     ensures { Gives (λ x. (x.0, x.1, tokens_of x.2.now)) result (reply_step (tokens_of tokens.now)) }
 {
@@ -106,7 +107,7 @@ fn reply_step<'t, 'a>(tokens: &'t [Token<'a>]) -> Option<(Reply, bool, &'t [Toke
 }
 
 // Reads a history: one to `MOST_ANSWERS` answers with `then` between them, for the first call, the second one and so on. Gives the answers, and the
-// tokens behind them. None for more, or if no answer comes first. The error is refused memory.
+// tokens behind them. None for more, or if no answer comes first or behind a `then`. The error is refused memory.
 fn history<'t, 'a>(
     alloc: Global,
     tokens: &'t [Token<'a>],
@@ -147,7 +148,7 @@ fn more_alternatives<'t, 'a>(tokens: &'t [Token<'a>]) -> (bool, &'t [Token<'a>])
 }
 
 // Reads one alternative, which is a history (answers with `then` between them), and the `|` behind it, if there is one. Gives the history, true if no
-// `|` follows, and the tokens that are left. None if no answer comes first. The error is refused memory.
+// `|` follows, and the tokens that are left. None if the tokens don't begin with a history (`history`). The error is refused memory.
 fn alternative_step<'t, 'a>(
     alloc: Global,
     tokens: &'t [Token<'a>],

@@ -87,7 +87,7 @@ impl Scope<'_, '_> {
         ensures { result ≡ variable_in (tokens_of self.entry.line.now) name.now }
     {
         if is_variable_name(name) {
-            // The name stands in the line, so it has a place.
+            // None where the line hasn't this name: a service's patterns are read in a scope without a line, in which no name is a variable.
             let at = place_in(self.line, name)?;
             // The cast loses nothing: `Scope` says that places in the line fit 32 bits.
             Some(Slot::Variable(at as u32))
