@@ -63,7 +63,7 @@ fn write_answered<P: Run>(
     ensures refused { OnErr result ((journal.new ≡ journal.old) × (counts.new ≡ counts.old)) }
     ensures why { IfErr result (λ fault. fault ≡ LedgerFault.Memory) }
 {
-    // The journal's length before both entries, to which it is cut if one is refused.
+    // The journal's length before both entries, to which it is cut if the answer's entry or the counting is refused.
     let entries = journal.len();
     if journal
         .push_call(inputs.answers, token, call, site, args.as_slice())

@@ -89,7 +89,7 @@ impl<P: Run> Ledger<P> {
         let params = inputs.graph.params(definition as usize);
         let operands = inputs.graph.operands(list as usize);
         // Writes a scope for each parameter over `added`, and gives the number that the innermost one will have in `self.scopes`. The error is
-        // refused memory.
+        // refused memory, or a number of over 32 bits, which counts as that.
         let fitted = parameter_scopes(&self.scopes, &self.cells, params, operands, scope, added)?;
         // None: there are more or fewer operands than parameters, or an operand isn't bound.
         let Some(newest) = fitted else {

@@ -157,7 +157,7 @@ impl<P: Run> Ledger<P> {
     {
         // A left side of a `>x>` is no group: the new token is in the group of the old one.
         let group = self.steps.group_at(token.step);
-        // In how many left sides of a `>x>` the token is.
+        // In how many left sides of a `>x>` the token is, out to the innermost right side of a `<x<`.
         let depth = self.steps.depth_at(token.step);
         // Asked before `within`, so that `depth + 1` doesn't overflow.
         if depth as usize >= MOST_FRAMES {
@@ -220,7 +220,7 @@ impl<P: Run> Ledger<P> {
         // Room for the step into the left side, and for the group that the left side is.
         self.steps.reserve()?;
         self.groups.reserve()?;
-        // In how many left sides of a `>x>` the token is: a `;` adds none.
+        // In how many left sides of a `>x>` the token is, out to the innermost right side of a `<x<`: a `;` adds none.
         let depth = self.steps.depth_at(token.step);
         // The mark by which the journal names the token on f.
         let mark = self.next_mark;
@@ -288,7 +288,7 @@ impl<P: Run> Ledger<P> {
         self.within(1, 1, 0)?;
         // A scope keeps the number of the one that it extends in 32 bits. A longer number counts as refused memory.
         let outer = outer_number(scope)?;
-        // Room for the token on g, the scope of f, the step into g, the cell and the group: nothing is refused once the entry is written.
+        // Room for the token on g, the scope of f, the step into g, the cell and the group: once the entry is written, only the claim can be lost.
         self.tokens.reserve()?;
         reserve(&mut self.scopes)?;
         self.steps.reserve()?;

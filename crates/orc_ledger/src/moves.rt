@@ -252,8 +252,8 @@ impl<P: Run> Ledger<P> {
         ensures why { IfErr result (λ fault. IsHindered P.listing self.old token fault) }
     {
         match inputs.graph.body(definition as usize) {
-            // No such definition. `def` asks the limits first, so the definition is looked for before: a call that can't be made waits, and is never
-            // refused.
+            // No such definition. `def` asks the limits first, so the definition is looked for before: a call of a definition that isn't there waits,
+            // and is never refused.
             None => Ok(Moved::Waits),
             Some(_) => {
                 // `def` answers false where the operands don't fit the parameters.

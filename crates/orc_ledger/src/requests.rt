@@ -85,8 +85,8 @@ impl<P: Run> Ledger<P> {
     }
 
     // The record of the call that a token makes next, of a site with these arguments: its number, the table's answer, the place of its entry (`row`),
-    // which is the next one in the journal, and which call with these arguments it is (`nth`). The function looks into the counts of calls once, and
-    // changes nothing.
+    // which is the next one in the journal, and which call with these arguments it is (`nth`; 1 where no script answers the site). The function looks
+    // into the counts of calls once at most, and changes nothing.
     #[inline(always)]
     pub(crate) fn next_call(
         &self,

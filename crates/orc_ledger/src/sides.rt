@@ -78,7 +78,7 @@ fn write_bind<P: Run, C: Claim>(
 }
 
 impl<P: Run> Ledger<P> {
-    /// How many sides are open groups: right sides of a `<x<` whose cell has no value yet, and left sides of a `;` that haven't been closed.
+    /// How many sides are open groups: right sides of a `<x<` whose cell is neither bound nor lost, and left sides of a `;` that haven't ended.
     pub fn side_count(&self) -> usize
         ensures { result ≡ length self.now.groups }
     {

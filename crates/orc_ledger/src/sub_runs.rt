@@ -35,9 +35,9 @@ use std::marker::{Model, PhantomData};
 pub struct SubRunTask {
     /// The number of the definition that is called.
     pub definition: u32,
-    /// The values with which the definition is called, one for each parameter.
+    /// The values with which the definition is called, one for each operand: in a checked program one for each parameter.
     pub args: Args,
-    /// Whether the whole run publishes what the call publishes: nothing around the call takes it.
+    /// True only if nothing is around the call, so that the whole run publishes what the call publishes. False also inside the left side of a `;`.
     pub is_outermost: bool,
 }
 
@@ -324,9 +324,9 @@ impl<P: Run> Ledger<P> {
     }
 
     /// Turns a ledger that has run this task into the task's result, for the enclosing run `W`. None if the enclosing run could affect an entry: time
-    /// has passed, a call was cancelled, or a site was called that a script answers. None also if something is left of the run (a token, a pending
-    /// call, an open side), with one exception: a run that has published nothing may have one token left, in slot `last`, on a value that it would
-    /// publish next.
+    /// has passed, a call was cancelled, or a site was called that a script answers; or if that isn't known, since a part was merged into a journal
+    /// that isn't kept. None also if something is left of the run (a token, a pending call, an open side), with one exception: a run that has
+    /// published nothing may have one token left, in slot `last`, on a value that it would publish next.
     pub fn into_sub_run<W: Run>(
         self,
         inputs: &Inputs<'_, P>,

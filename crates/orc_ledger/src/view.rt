@@ -12,7 +12,7 @@ use orc_tables::{Standing, Token};
 
 impl<P: Run> Ledger<P> {
     /// What a token does next: a move of marks (an entry that uses no rule of Orc), another entry, or to wait. The function looks at the token's node
-    /// and, for a call or a variable, at the scopes in which its names lie; for a value at what takes it. Nothing is allocated.
+    /// and, for a call of a site or a variable, at the scopes in which its names lie; for a value at what takes it. Nothing is allocated.
     pub fn what(&self, inputs: &Inputs<'_, P>, token: &Token) -> Action
         ensures { result ≡ what_of (code P.listing) (definitions P.listing) self.now token.now }
     {

@@ -33,8 +33,8 @@ impl<P: Run> Ledger<P> {
     }
 
     /// Writes the numbers of the cells for which a token waits over `listed`: the unbound cell of its variable, or each one among the arguments of
-    /// its call of a site, in their order, as often as it stands there. A token that waits for no cell has none. The only fault is `Memory`, and what
-    /// is listed is then not known.
+    /// its call of a site, in their order, as often as it stands there. A token at any other node, or on a value, has none. A call with a void
+    /// argument doesn't wait, but its unbound cells are listed, too. The only fault is `Memory`, and what is listed is then not known.
     pub fn awaited(
         &self,
         inputs: &Inputs<'_, P>,
@@ -63,7 +63,7 @@ impl<P: Run> Ledger<P> {
 
     /// Lists the cells for which a token waits, as `awaited` does, and parks the token, which is in the slot `slot`: it is noted as one that waits,
     /// and `next` need not look at it until one of these cells is bound or lost. A token that can move isn't parked. For contracts nothing changes
-    /// (`same`): the notes aren't in the records. The only fault is `Memory`; what is listed is then not known, and the token isn't parked.
+    /// (`same`): the notes aren't in the records. The only fault is `Memory`; what is listed is then not known, and the token isn't newly parked.
     pub fn park(
         &mut self,
         inputs: &Inputs<'_, P>,

@@ -8,7 +8,7 @@ use std::alloc::AllocError;
 #[derive(Clone, Copy, Debug, PartialEq, Eq)]
 pub enum LedgerFault {
     /// There would be over `MOST_TOKENS` tokens and pending calls, `MOST_GROUPS` groups (with the program's own), or `MOST_FRAMES` left sides of a
-    /// `>x>` around a token.
+    /// `>x>` around a token, counted out to the innermost right side of a `<x<`.
     Full,
     /// The journal has as many entries as its limit, cancels not counted.
     Limit,

@@ -476,8 +476,8 @@ impl Pending {
         }
     }
 
-    /// The least due time of the pending calls, in logical time; None if none is ever due. Notes before that time whose calls are gone are dropped:
-    /// hence `&mut`. The calls stay.
+    /// The least due time of the pending calls, in logical time; None if none is ever due. Notes whose calls are gone are dropped, up to the first
+    /// one whose call pends: hence `&mut`. The calls stay.
     pub fn next_due(&mut self) -> Option<u64>
         ensures items { self.new.items ≡ self.old.items }
         ensures made { self.new.made ≡ self.old.made }

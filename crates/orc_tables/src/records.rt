@@ -20,8 +20,7 @@ pub struct Token {
     pub serial: u64,
     /// What the token is on: a node, or a value.
     pub standing: Standing,
-    /// The number of the innermost step around the token (the entry into a side or into the left side of a `>x>`), which it took last; 0 is the
-    /// program as a whole.
+    /// The number of the innermost step around the token (the entry into a side or into the left side of a `>x>`); 0 is the program as a whole.
     pub step: usize,
 }
 

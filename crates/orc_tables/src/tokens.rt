@@ -320,7 +320,7 @@ impl Tokens {
         self.count -= 1;
     }
 
-    /// Whether each token is parked: known to wait for a cell. The contract promises that of `true` alone.
+    /// Whether each token is parked: known to wait. The contract promises that of `true` alone.
     pub fn all_wait(&self) -> bool
         ensures { result ≡ true → (k : ℕ) (t : Its) → IsHeld self.now.items k t → is_set self.now.parked.flags k ≡ true }
     {
