@@ -50,11 +50,11 @@ fn reserve_all<P: Run, J: Naming>(
 impl<P: Run + Naming> Book<P> {
     /// Binds the cell that takes what this token publishes: the records of all tokens, calls and groups inside the cell's right side go. A *pass*
     /// counts one member of a group in the group's word, an atomic counter. The token's pass wins the mark that its group is killed, a bit of that
-    /// word. That pass is added to `leave`, which the caller is to leave, with the passes that the book held for records that went. The word of a
-    /// group that went stands for a killed one until its last pass is left. Refused as Gone if the token isn't out with a worker or the mark was set
-    /// already, as Wrong if the token does something else next, as Full, Limit or Memory if the ledger refuses the entry for that or memory is
-    /// refused. The pass of a refused token has won the mark only if the fault is Memory. `cancelled` is lent: after an Ok it holds the numbers of
-    /// the calls that went, in rising order, and else any numbers.
+    /// word. That pass is added to `leave`, which the caller is to leave, with the passes that the book held for tokens and calls that went. The word
+    /// of a group that went stands for a killed one until its last pass is left, and holds the group's pass to the enclosing one until then. Refused
+    /// as Gone if the token isn't out with a worker or the mark was set already, as Wrong if the token does something else next, as Full, Limit or
+    /// Memory if the ledger refuses the entry for that or memory is refused. The pass of a refused token has won the mark only if the fault is
+    /// Memory. `cancelled` is lent: after an Ok it holds the numbers of the calls that went, in rising order, and else any numbers.
     ///
     /// In the contract `marks` has, by slots, the serials of the kept tokens, `HaveDied` says that each word stands for what it did, or for a killed
     /// group if its group went, `GivesUp` that just the passes which the book and the token give up are added, `IsUnkept` that `t` is the token's
@@ -124,7 +124,7 @@ impl<P: Run + Naming> Book<P> {
             Ok(_bound) => {
                 stands(&self.ledger);
                 // What was in the cell's right side has gone from the records. `bury_missing` notes that the words of its groups stand for killed
-                // ones; `settle_all` moves the passes that the book held for it to `leave`.
+                // ones, and puts each such group's pass into its word; `settle_all` moves the passes held for tokens and calls to `leave`.
                 bury_missing(&self.ledger, &mut self.posts, &mut self.words);
                 settle_all(&self.ledger, &mut self.posts, leave);
                 leave.push_reserved(pass);

@@ -68,7 +68,7 @@ impl Keeping {
         self.links.get((place - 1) as usize).copied()
     }
 
-    // The place of a cell's first link; 0 where no token has ever waited for it.
+    // The place of a cell's first link; 0 where the cell's chain is empty.
     fn head_at(&self, cell: usize) -> u32 {
         match self.heads.get(cell) {
             Some(head) => *head,

@@ -86,8 +86,8 @@ impl<P: Run + Naming> Book<P> {
         })
     }
 
-    /// A law, for the prover alone: the passes fit the records. Each token is kept or out, and of each other record of a group the book holds one
-    /// pass to that group. Each group has a word of its own: it stands for that group, and no other word does.
+    /// A law, for the prover alone: the passes fit the records. Each token is kept or out, and of each record of a group, but the tokens that are
+    /// out, the book holds one pass to that group. Each group has a word of its own: it stands for that group, and no other word does.
     pub fn holds(&self)
         ensures passes { AreHeld self.now.posts self.now.ledger }
         ensures words { AreNamed self.now.ledger self.now.posts self.now.stands }

@@ -25,8 +25,8 @@ struct Opened<P: Naming> {
     pass: Pass<P>,
 }
 
-// Lets an idle pass, one that names no group, open a word that is free in the book. The fault is Full or Memory if no word is free, as
-// `WordTable::next` says, and Live if a pass still names the word.
+// Lets an idle pass, one that names no group, open a word that is free in the book. The fault is Full if no word is free, Memory if
+// `WordTable::next` gives none though one is free, and Live if a pass still names the word.
 fn open_word<P: Naming>(
     words: &WordTable<P>,
     groups: &Groups<P>,

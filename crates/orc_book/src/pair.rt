@@ -31,8 +31,8 @@ fn leave_one<P: Run + Naming, R: Wait>(
     }
 }
 
-// Closes the group whose last pass was left. The group's pass to the one that encloses it is added to `more`. False if the book refuses: then `last`
-// is dropped, and the group's word is never free again.
+// Closes the group whose last pass was left. The group's pass to the one that encloses it, if the book holds one, is added to `more`; if a right side
+// starts its token has that pass, and is dropped here. False if the book refuses: then `last` is dropped, and the group's word is never free again.
 fn close<P: Run + Naming, R: Wait>(
     rt: &R,
     book: &Mutex<Book<P>>,

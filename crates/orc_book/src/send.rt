@@ -29,7 +29,7 @@ pub(crate) struct Fed {
     pub name: u32,
     /// The node of the right side.
     pub right: u32,
-    /// The ledger's number of the scope in which the right side is read: it says what each variable means there.
+    /// The ledger's number of the scope of the whole `f >x> g`: it says what each variable but x means in the right side.
     pub scope: usize,
     /// The ledger's number of the step that encloses the `>x>`. A *step* enters the left side of a `>x>` or a `;`, or the right side of a `<x<`.
     pub outer: usize,

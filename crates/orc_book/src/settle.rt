@@ -30,8 +30,8 @@ fn is_there<P: Run>(ledger: &Ledger<P>, number: u32) -> bool
 }
 
 // If the ledger has the group with this number no more, notes that the group's word stands for a killed one. If the enclosing group has a pass too
-// many, the word holds that pass from then on, as the killed group's. By `AreLoose` the book has a pass for each member, or too many; `StayLoose`
-// says that this is still so.
+// many, the word holds that pass from then on, as the killed group's. By `AreLoose` the book has a pass for each member that isn't a token out with
+// a worker, or too many; `StayLoose` says that this is still so.
 fn bury_one<P: Run, J: Naming>(
     ledger: &Ledger<P>,
     posts: &mut Vec<Post<J>>,
@@ -80,7 +80,7 @@ fn next_empty<P: Run>(ledger: &Ledger<P>, from: u32, to: u32) -> u32
 
 // Buries each group that the ledger has no more: notes that its word stands for a killed one. A group that has members is there; `next_empty` asks
 // that first and passes over most groups, since that is faster than to look at words and posts. `posts` are few enough for a `u32`. By `AreLoose`
-// they have a pass for each member of a group, or too many; `StayLoose` says that this is still so.
+// they have a pass for each member of a group that isn't a token out with a worker, or too many; `StayLoose` says that this is still so.
 pub(crate) fn bury_missing<P: Run, J: Naming>(
     ledger: &Ledger<P>,
     posts: &mut Vec<Post<J>>,
@@ -124,8 +124,8 @@ fn next_unsettled<P: Run, J: Naming>(
     to
 }
 
-// Fits each post to its group's members. By `AreLoose` it has a pass for each, or too many, and those that are too many go to `leave`. Of a group
-// without members no token is kept or out. `next_unsettled` passes over posts that fit, which is faster.
+// Fits each post to its group's members. By `AreLoose` it has a pass for each that isn't a token out with a worker, or too many, and those that are
+// too many go to `leave`. Of a group without members no token is kept or out. `next_unsettled` passes over posts that fit, which is faster.
 pub(crate) fn settle_all<P: Run, J: Naming>(
     ledger: &Ledger<P>,
     posts: &mut Vec<Post<J>>,

@@ -28,8 +28,8 @@ impl<P: Run + Naming> Book<P> {
     /// token is gone, and its pass is to be left by the caller.
     ///
     /// Refused as Gone where the token isn't out with a worker, as Wrong where it doesn't stand at the call of the sub-run, or the sub-run may have
-    /// published something and the token is inside a side or a `>x>`, so that its publications aren't the program's, as Limit where the limit has no
-    /// room for all of the entries, and as Memory. Then nothing has changed.
+    /// published something and the token is inside a side or the left side of a `>x>` (outside of them all its publications are the program's), as
+    /// Limit where the limit has no room for all of the entries, and as Memory. Then nothing has changed.
     ///
     /// In the contract `KeepsWords` says that each word stands for what it did and the same tokens are kept, `IsUnkept` that `t` is the token's
     /// record and the book doesn't keep the token, `StandsFor` that the token stands at the call of the sub-run.

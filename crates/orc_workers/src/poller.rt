@@ -29,7 +29,7 @@ pub(crate) enum Polled {
     Answered(Answer),
     /// The call has no answer yet, and says when it is due.
     Waits(Due),
-    /// The call is due and has no answer, so its site is to blame.
+    /// The call is due and has no answer: its site is to blame if the call still pends.
     Late,
 }
 

@@ -22,7 +22,7 @@ impl<P: Run + Naming, C: Drop> Shared<P, C> {
         match self.book.next(inputs) {
             // Time has gone on, and a call is due now. The worker takes it when it looks again.
             Ok(Next::Ticked) => OutsideWork::None,
-            // Something comes before time can go on: a token or a call is with another worker.
+            // Something comes before time can go on: another worker has a token or a call, or is about to close a group.
             Ok(Next::Work) => OutsideWork::Rest,
             // Nothing can come any more, though the term hasn't halted: the run ends so.
             Ok(Next::Quiet) => {

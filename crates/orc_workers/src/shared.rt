@@ -296,7 +296,7 @@ impl<P: Run + Naming, C: Drop> Shared<P, C> {
     }
 }
 
-/// The reason why a run stops if the book refuses a move of a token that still has its record.
+/// The reason why a run stops if the book refuses a move of a token that still has its record, an answer, a tick or the close of a group.
 pub(crate) fn stop_of(why: BookFault) -> Stop {
     match why {
         BookFault::Full => Stop::Refused(LedgerFault::Full),

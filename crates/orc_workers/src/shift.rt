@@ -114,7 +114,7 @@ impl<'h, P: Run + Naming, R: Wait, S: Sites, G: Gate> Shift<'h, P, R, S, G> {
     }
 
     // Reads, without the lock, whether the run has stopped. Once it reads so it always does, and the worker polls no waiting call any more. By the
-    // clause a false answer means that the cell of the reason wasn't bound when it was read.
+    // clause a false answer means that `why`, the worker's reader, has read no reason yet.
     fn finds_end(&mut self) -> bool
         ensures { result ≡ false → has_read self.new.why ≡ None }
     {
@@ -163,7 +163,7 @@ impl<'h, P: Run + Naming, R: Wait, S: Sites, G: Gate> Shift<'h, P, R, S, G> {
     }
 
     // Puts all its tokens into its queue, and takes out the one that has waited longest in the queue, which moves next. If others have stolen them
-    // all, the worker has none then.
+    // all, or steal all the time that it tries, the worker has none then.
     fn take_oldest(&mut self) {
         self.share(0);
         if let Some(token) = self.queue.oldest() {
