@@ -22,7 +22,7 @@ use crate::text::{push_answers, push_call, push_end, push_halts};
 use orc_ways::test::{Service, ServiceLine};
 use std::alloc::{AllocError, Global};
 
-/// A line of a service, which is in the script of each way. A way is one choice among what the services of a case may do.
+/// A line of a service, which is in the script of each way. A way is one choice of each line of a case's services.
 #[derive(Drop)]
 pub(crate) struct Line {
     /// What stands before its `=`, such as `Pay(_, 1)`.

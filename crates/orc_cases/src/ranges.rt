@@ -212,7 +212,7 @@ fn is_same_answer(a: Answer, b: Answer) -> bool
     }
 }
 
-// The delay of what the table says (`found`), if that is this answer; None for another answer, for `never`, and where there is nothing.
+// The delay of what a choice has for a call (`found`), if that is this answer; None for another answer, for `never`, and where there is nothing.
 fn delay_among(answer: Answer, found: Option<Found>) -> Option<u64>
     ensures { result ≡ delay_among answer found }
 {

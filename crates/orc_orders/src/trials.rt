@@ -84,7 +84,7 @@ pub fn state_at(end: End) -> State
     match end {
         End::Halted => State::Halted,
         End::Quiet => State::Quiet,
-        // The run was cut by a limit or by refused memory: something could still happen.
+        // The run was cut by a limit or by refused memory: it isn't known to have ended by itself.
         End::Limit | End::Full | End::Memory => State::Running,
     }
 }

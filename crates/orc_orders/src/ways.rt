@@ -189,7 +189,7 @@ pub fn try_ways<'t, 'a, R: Threads + Sync>(
     }
     // How many of the scripts were tried.
     let mut next = 0;
-    // How many ways the next batch has. The first way alone shows how long the runs are.
+    // How many ways the next batch has at most. The first way alone shows how long the runs are.
     let mut number = 1;
     let mut threads = 1;
     // Each round tries one way at least, so the loop ends.
@@ -207,7 +207,7 @@ pub fn try_ways<'t, 'a, R: Threads + Sync>(
         next += number;
         // One way at least for each worker.
         number = BATCH.max(workers);
-        // Several threads only where the next batch is likely to have `WORTH` entries or more.
+        // Several threads only where a batch of so many ways is likely to have `WORTH` entries or more, even if fewer ways are left.
         threads = if mean.saturating_mul(number as u64) < WORTH {
             1
         } else {

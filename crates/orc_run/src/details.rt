@@ -89,8 +89,7 @@ impl<R: Threads + Sync> Tester<'_, '_, R> {
             .get(claim..claim.saturating_add(1))
             .unwrap_or(&[]);
         let scripts = case.scripts.as_slice();
-        // Whether the claim fails, for each way that was tried. `Ways::failing_ranges` then writes the lines.
-        // The same claim and ways as in the trials, but this claim alone.
+        // Whether the claim fails, for each way that was tried: all but the claims is as in the trials. `Ways::failing_ranges` then writes the lines.
         let fails = failing_ways(
             self.rt,
             self.alloc,

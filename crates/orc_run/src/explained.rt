@@ -50,7 +50,7 @@ fn fault_of(fault: RunFault) -> Option<Fault> {
         // `Explained::refusal` explains it, which has the journal.
         RunFault::Check(_) => None,
         RunFault::Engine(EngineFault::Range) => Some(Fault::Range),
-        // Memory was refused to a run, or to a search through runs.
+        // Memory was refused to a run, to a search through runs, or to what a test tries (`NO_MEMORY`).
         RunFault::Engine(EngineFault::Memory) => Some(Fault::Run),
         RunFault::Engine(EngineFault::Broken) => Some(Fault::Broken),
         // Doesn't come: no command line has sites of its own.

@@ -71,7 +71,7 @@ impl fmt::Display for RunFault {
 impl Error for RunFault {}
 
 impl RunFault {
-    /// The process's status at this fault: that of the fault which it has, and 6 where the output failed.
+    /// The process's status at this fault: that of the fault which it has, and 6 where the output failed or memory for its text was refused.
     pub fn status(&self) -> u8
         ensures { result ≡ status self.now }
     {

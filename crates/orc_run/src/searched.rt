@@ -70,9 +70,9 @@ impl<'w> Way<'w> {
         })
     }
 
-    // Searches the schedules of the way (all orders that the rules leave free), through `most` states (terms without numbers) at most, for a run that
-    // breaks a claim; that none does is said of runs of at most `limit` entries. `explorer` is that of this way's program (`Explores`), before and
-    // after: it keeps what one search has found out for the next claim. The error is refused memory.
+    // Searches the schedules of the way (all orders that the rules leave free), through `most` states at most, for a run that breaks a claim; that
+    // none does is said of runs of at most `limit` entries. `explorer` is that of this way's program (`Explores`), before and after: it keeps what
+    // one search has found out for the next claim. The error is refused memory.
     fn search_on(
         &self,
         alloc: Global,
