@@ -33,8 +33,8 @@ pub(crate) fn deal<'j, P: Run>(
     Ok(worker_queues)
 }
 
-/// The place of a job that has won a race: the call yields a value, or may, so that the jobs behind it are in vain. If several win at the same time
-/// it may be the place of any of them: it only saves work, and no result depends on it.
+/// The place of a job that has won a race: the call yields a value, or may, so that the jobs behind it may be in vain. If several win at the same
+/// time it may be the place of any of them: it only saves work, and no result depends on it.
 #[derive(Drop)]
 pub(crate) struct Won {
     // The place of a job that has won; `usize::MAX` for none.

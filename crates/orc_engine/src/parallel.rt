@@ -77,7 +77,7 @@ pub(crate) struct WorkerThreads<'c, R> {
 /// How an attempt to run calls of definitions side by side has gone.
 #[derive(Clone, Copy)]
 enum Trial {
-    /// Too few tokens were runnable, or one of the calls has won a race: it has yielded a value, or may have, so that the others are in vain.
+    /// Too few tokens were runnable, or one of the calls has won a race: it yields a value, or may, so that those behind it may be in vain.
     Few,
     /// More sub-runs stopped at their limit than gave a result.
     Long,
@@ -107,7 +107,7 @@ struct Tally {
     long: usize,
     // The entries of all sub-runs that gave a result.
     entries: usize,
-    // Whether a job has won a race: its call yields a value, or may, so that the jobs behind it are in vain.
+    // Whether a job has won a race: its call yields a value, or may, so that the jobs behind it may be in vain.
     is_won: bool,
 }
 
@@ -355,8 +355,8 @@ where
     }
 
     // Does the jobs, each of which runs one call, and merges their results. If `mean`, the average of entries so far, is 0, samples come first, and
-    // the `first` of these before the other samples. If a sample wins a race, which makes the jobs behind it vain, its result is merged, and the run
-    // makes the other calls itself. The error is why the run stops.
+    // the `first` of these before the other samples. If a sample wins a race, so that the jobs behind it may be in vain, the results up to its own
+    // are merged, and the run makes the other calls itself. The error is why the run stops.
     fn run_jobs(
         &self,
         scheduler: &mut Scheduler<P>,
@@ -458,7 +458,7 @@ where
             let batch = &mut behind[..count];
             self.run_beside(scheduler, limit, before, batch)?;
             let tally = tally_of(batch);
-            // A job has won a race: those behind it are in vain.
+            // A job has won a race: those behind it may be in vain.
             if tally.is_won {
                 break;
             }
@@ -504,8 +504,8 @@ where
         taken
     }
 
-    // Has the threads do the jobs, each job once and with `limit` entries at most, but none behind a job that is known to have won a race, and so
-    // made it vain. If memory for the queues is refused it does none.
+    // Has the threads do the jobs, each job once and with `limit` entries at most, but none behind a job that is known to have won a race: it may be
+    // in vain. If memory for the queues is refused it does none.
     fn run_all(&self, limit: usize, jobs: &mut [SubRunJob<P>])
         requires limit { (1 ≤ limit) × (limit ≤ MOST_ENTRIES) }
     {
@@ -602,7 +602,7 @@ fn take_one<P: Run>(
     ensures spread { IfOk result (λ _. HasSpread scheduler.old.ledger (deque_len scheduler.old.ready.handles) scheduler.new.ledger (deque_len scheduler.new.ready.handles)) }
     ensures stops { IfErr result (λ stop. Stops P.listing scheduler.new.ledger stop) }
 {
-    // A job whose sub-run is not over (Nothing, or Long) changes nothing: the run makes its call itself.
+    // A job whose result was merged already has Nothing left. Else, if the sub-run is not over (Nothing, or Long), the run makes the call itself.
     let SubRunResult::Over(part) = job.take() else {
         return Ok(());
     };

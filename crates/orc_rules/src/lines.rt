@@ -15,12 +15,13 @@ use std::collections::HashMap;
 use std::hash::{BuildHasherDefault, FoldHasher};
 use std::marker::Model;
 
-/// A line of a script: calls that match the patterns get the answers in their order. A pattern is a value, or None for `_`, which matches any.
+/// A line of a script: of the calls that match the patterns, those with the same arguments get the answers in their order. A pattern is a value, or
+/// None for `_`, which matches any.
 #[derive(Drop)]
 pub struct Line {
     /// One pattern for each argument.
     pub patterns: Vec<Option<Value>>,
-    /// The answers to the first such call, the second and so on; after the last one it comes again and again.
+    /// The answers to the first call of the site with the same arguments, the second and so on; after the last one it comes again and again.
     pub answers: Vec<Found>,
 }
 

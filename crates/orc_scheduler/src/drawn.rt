@@ -28,8 +28,8 @@ pub(crate) fn is_at_script(graph: &Graph, answers: &Answers, token: &Token) -> b
 }
 
 impl<P: Run> Scheduler<P> {
-    /// The turn that the order (`--order`) draws: a token moves, or a due call is answered, and the run is nearer its end. It `Rests` if no token is
-    /// runnable and no due call is left to be drawn. The error is why the run stops.
+    /// The turn that the order (`--order`) draws: a token moves or is found gone, or a due call is answered, and the run is nearer its end. It
+    /// `Rests` if no token is runnable and no due call is left to be drawn. The error is why the run stops.
     #[cold]
     #[inline(never)]
     pub(crate) fn drawn_turn(&mut self, inputs: &Inputs<'_, P>) -> Result<Turn, Stop>

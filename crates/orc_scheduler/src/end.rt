@@ -20,8 +20,8 @@ use orc_rules::program::Program;
 impl<P: Run> Scheduler<P> {
     /// The result of a run that stops for this reason. None if only a journal can show how the run ended, and the run keeps none.
     ///
-    /// The fault is Memory if memory was refused for the result, Broken if the reason is Broken or the records contradict it, and Site if the reason
-    /// is Site. If `go` gave the reason, and the scope check accepted the program, no fault but Memory comes.
+    /// The fault is Memory if memory was refused for the result, Broken if the reason is Broken or Unclaimed or the records contradict it, and Site
+    /// if the reason is Site. If `go` gave the reason, and the scope check accepted the program, no fault but Memory comes.
     pub fn finish(
         mut self,
         program: &Program,
@@ -47,8 +47,8 @@ impl<P: Run> Scheduler<P> {
     }
 
     // How a run has ended that stops for this reason. None if only a journal can show it, and the run keeps none. The fault is Broken if the reason
-    // is Broken or the records contradict it, and Site if the reason is Site. By *sound* such a fault means that the reason wasn't true of the run,
-    // or that the scope check doesn't accept the program.
+    // is Broken or Unclaimed or the records contradict it, and Site if the reason is Site. By *sound* such a fault means that the reason wasn't true
+    // of the run, or that the scope check doesn't accept the program.
     fn end(
         &mut self,
         program: &Program,
@@ -66,7 +66,7 @@ impl<P: Run> Scheduler<P> {
             Stop::Refused(LedgerFault::Memory) => Ok(Some(End::Memory)),
             Stop::Refused(LedgerFault::Full) => self.crowded(inputs),
             Stop::Refused(LedgerFault::Limit) => self.cut(program, inputs),
-            // Only a call that several workers may try to make has this fault: another one was first. A scheduler makes no such call.
+            // Only a move that asks a claim has this fault, where another worker has won the claim. A scheduler's claims are always got (`Always`).
             Stop::Refused(LedgerFault::Unclaimed) => Err(EngineFault::Broken),
             Stop::Broken => Err(EngineFault::Broken),
             Stop::Site(number) => Err(EngineFault::Site(number)),
@@ -95,7 +95,7 @@ impl<P: Run> Scheduler<P> {
     {
         match self.ledger.next(inputs) {
             Next::Quiet => Ok(Some(End::Quiet)),
-            // Something can come next: a move or an answer now, or a tick to a later time.
+            // Something can come next: a move, a group's end or an answer now, or a tick to a later time. Or the run has halted, which is Work, too.
             Next::Work | Next::Ticks(_) => Err(EngineFault::Broken),
         }
     }

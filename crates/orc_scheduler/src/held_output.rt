@@ -1,5 +1,5 @@
 //! The publication that a sub-run (the run of one call of a definition, apart from the run that makes the call) holds back if a `>x>` or a side
-//! encloses its call: the value goes to that part, and the program doesn't publish it.
+//! encloses its call: what encloses the call gets the value, and the sub-run publishes nothing itself.
 
 /// The value that a sub-run holds back, and whether the sub-run can still replace its call.
 #[derive(Clone, Copy)]

@@ -36,7 +36,8 @@ impl<P: Run> Scheduler<P> {
 
     // Finds work in the ledger: a token that can move, or an open group (of a side) without members, which is to end. Something is left, but the run
     // queue is empty. The contract asks that no call is due, and that the ledger says that there is work: so such a token or group is found. No run
-    // is known to come here, but no contract says that each token that can move is in the queue.
+    // is known to come here but one to which `append_sub_run` was refused memory for the queue; no contract says that each token that can move is in
+    // the queue.
     #[inline(never)]
     fn recover(&mut self, inputs: &Inputs<'_, P>) -> Result<(), Stop>
         requires due { NoneIsDue self.old.ledger }

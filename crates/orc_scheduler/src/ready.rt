@@ -31,7 +31,7 @@ pub(crate) const MOVES: u32 = 64;
 pub struct Ready {
     /// The one that has waited longest is first. A handle may be of a token that is gone.
     pub handles: VecDeque<Handle>,
-    // How many turns there were; none is counted in a run with an order.
+    // How often `take` was called. Turns that answer a call aren't counted, nor is any turn of a run with an order.
     turns: u64,
     // Says whose turn it is in a run with an order (`--order`); None in others.
     order: Option<Order>,

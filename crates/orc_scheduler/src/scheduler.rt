@@ -616,8 +616,9 @@ impl<P: Run> Scheduler<P> {
             .advance(inputs, slot, token, &mut self.scopes, &mut self.cancelled)
     }
 
-    // A token has become two, in these slots: those of the two sides of a `<x<` or a `|`. The right one goes on, so that the group of a `<x<`'s right
-    // side may be gone before the left side opens more; the left one goes into the run queue. The error is refused memory.
+    // A token has become two, in these slots: those of the two sides of a `<x<` (or of a `|`, but `step_at` makes each of those moves before). The
+    // right one goes on, so that the group of a `<x<`'s right side may be gone before the left side opens more; the left one goes into the run queue.
+    // The error is refused memory.
     #[inline(always)]
     fn part(&mut self, left: usize, right: usize) -> Result<Step, Stop>
         ensures same { self.new.ledger ≡ self.old.ledger }

@@ -478,7 +478,8 @@ fn comma(is_first: bool) -> &'static str
     if is_first { "" } else { ", " }
 }
 
-/// The end of the line of a claim that held in each run, with its LF: empty if the claim was put to the test, else a remark that it wasn't.
+/// The end of the line of a claim that held in each run, with its LF: the LF alone if the claim was put to the test, else first a remark that it
+/// wasn't.
 pub fn note(tested: bool) -> &'static str
     ensures { result.now ≡ note tested }
 {
