@@ -78,8 +78,8 @@ const WAITS_FOR_TWO: [Step; 9] = [
 ];
 
 // The program is `(Rwait(3) >> Ift(false)) ; 9`. Call 1, `Rwait(3)`, is due at time 3 and answers a signal. Before that time, and with 5, an answer
-// is refused as Wrong; a second answer is refused as Gone. At time 3 that answer comes before time can go on (`Next::Work`). `Ift(false)` halts, so
-// the otherwise goes to its right side, 9.
+// is refused as Wrong; a second answer is refused as Gone. At time 3 time doesn't go on before the signal is returned (`Next::Work`). `Ift(false)`
+// halts, so the otherwise goes to its right side, 9.
 const IS_DUE: [Step; 13] = [
     Step::Does("other 1 2\nseq 2 3\ncall 3 1 Rwait(3)\n"),
     Step::Refuses(1, SIGNAL, BookFault::Wrong),

@@ -24,7 +24,7 @@ fn scripts_of(alloc: Global, text: &[u8]) -> Result<Vec<u8>, AllocError> {
     let Some(ways) = ways_of(alloc, text)? else {
         return Ok(told);
     };
-    // The scripts of all ways, with no lines behind those of the services.
+    // The scripts of all ways. `b""`: no other lines stand between those of the case's services and the lines `NAME() = halt` of the others.
     let scripts = ways.scripts(alloc, ways.count(), b"")?;
     for (number, script) in scripts.iter().enumerate() {
         told.extend_from_slice(b"way\n")?;

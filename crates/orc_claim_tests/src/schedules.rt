@@ -164,8 +164,8 @@ fn searched_in_turn(
     Ok(Some([first, second, third]))
 }
 
-// One explorer answers what separate searches do (`CLAIMS`): what it keeps of one search doesn't change the next. One run breaks the first claim,
-// since both waits are answered; one the second, since 2 may be published first; and none the third, since there are only two waits.
+// One explorer answers what separate searches do (`CLAIMS`): what it keeps of one search doesn't change the next. Every run breaks the first claim,
+// since both waits are answered; some break the second, since 2 may be published first; and none the third, since there are only two waits.
 #[test]
 fn one_explorer_searches_for_many_claims(rt: HostRuntime) -> Result<(), Fail> {
     let race = load(rt.alloc(), RACE, b"").expect(&rt, "a program");

@@ -135,7 +135,7 @@ impl Journal {
         ensures added { OnOk result (self.new ≡ journal_with self.old (plain kind first second third fourth ∷ [])) }
         ensures refused { OnErr result (self.new ≡ self.old) }
     {
-        // The room for the row comes first, since nothing may be refused once the tables have what the row names.
+        // The room for the row comes first, so that to put it in can't fail. If memory for the tables is refused, no row names what they have more.
         make_room(&mut self.rows)?;
         let row = self.tables.add_plain(kind, first, second, third, fourth)?;
         self.rows.push_reserved(row);
@@ -156,7 +156,7 @@ impl Journal {
         ensures added { OnOk result (self.new ≡ journal_with self.old (given kind first second value ∷ [])) }
         ensures refused { OnErr result (self.new ≡ self.old) }
     {
-        // The room for the row comes first, since nothing may be refused once the tables have what the row names.
+        // The room for the row comes first, so that to put it in can't fail. If memory for the tables is refused, no row names what they have more.
         make_room(&mut self.rows)?;
         let row = self.tables.add_given(kind, first, second, value)?;
         self.rows.push_reserved(row);
@@ -203,7 +203,7 @@ impl Journal {
         ensures added { OnOk result (self.new ≡ journal_with self.old (Call token call site args.now ∷ [])) }
         ensures refused { OnErr result (self.new ≡ self.old) }
     {
-        // The room for the row comes first, since nothing may be refused once the tables have what the row names.
+        // The room for the row comes first, so that to put it in can't fail. If memory for the tables is refused, no row names what they have more.
         make_room(&mut self.rows)?;
         let row = self.tables.add_call(token, call, site, args)?;
         self.rows.push_reserved(row);

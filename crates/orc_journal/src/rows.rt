@@ -121,7 +121,7 @@ fn narrow(parts: Parts) -> Option<Row>
     }
 }
 
-// These values, as many as a call may have, as the arguments of one.
+// These values as the arguments of a call, which are `MOST_ARGUMENTS` at most.
 fn args_of(values: &[Value]) -> Args
     requires { length values.now ≤ MOST_ARGUMENTS }
     ensures { result ≡ values.now }

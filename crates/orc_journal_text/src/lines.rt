@@ -188,7 +188,7 @@ impl<R: Read + Drop> Lines<R> {
         ensures fault { IfErr result (λ f. (f ≡ Text Long) × ((text : List ℕ) (es : List EntryOf) → HasRead answers.now.names text self.old es → HasTooMany answers.now.names text self.old.version)) }
     {
         let Some(behind) = next_entry(self.version, self.pieces.rest(), answers, entry) else {
-            // No whole line of an entry is at the front.
+            // No whole line of an entry of this text's version is at the front.
             return Ok(false);
         };
         let left = behind.len();

@@ -55,7 +55,7 @@ fn is_plain(bytes: &[u8]) -> bool
 
 // The number that the digits at the front spell, as `digits_at` gives it. It is quicker for a number of fewer than `FEW` digits with at least `FEW`
 // bytes from its first digit on: no sum can be too great and no index out of range, so neither is tested. By `Gives` the result is the one that
-// `specs/Reading` defines.
+// the definition `digits_at` in `orc_rules/specs/Digits` gives.
 #[inline(always)]
 fn few_digits_at(bytes: &[u8]) -> Option<(u64, &[u8])>
     ensures { Gives (λ x. (x.0, x.1.now)) result (digits_at bytes.now) }

@@ -249,14 +249,14 @@ impl<P: Run> Log<P> {
         ensures added { OnOk result (self.new ≡ log_with self.old (entry.now ∷ [])) }
         ensures refused { OnErr result (self.new ≡ self.old) }
     {
-        // The run keeps its journal, so the entry is held.
+        // If the run keeps its journal, the entry is held.
         if self.keeps {
             if !has_room(&self.held, 1) {
                 return Err(AllocError);
             }
             return self.held.push(entry);
         }
-        // No memory has room for so many, so this is as if memory were refused.
+        // Only the count could get too great: the entries aren't held. It is answered as if memory were refused.
         if self.passed >= MOST {
             return Err(AllocError);
         }
@@ -287,7 +287,7 @@ impl<P: Run> Log<P> {
         ensures added { OnOk result (self.new ≡ log_with self.old (Call token call site args.now ∷ [])) }
         ensures refused { OnErr result (self.new ≡ self.old) }
     {
-        // The run keeps its journal, so the entry is held.
+        // If the run keeps its journal, the entry is held.
         if self.keeps {
             if !has_room(&self.held, 1) {
                 return Err(AllocError);
@@ -317,7 +317,7 @@ impl<P: Run> Log<P> {
     {
         // The bind and its cancels.
         let more = cancelled.len().saturating_add(1);
-        // The run keeps its journal, so the entries are held.
+        // If the run keeps its journal, the entries are held.
         if self.keeps {
             if !has_room(&self.held, more) {
                 return Err(AllocError);
@@ -377,7 +377,7 @@ impl<P: Run> Log<P> {
         ensures made { OnOk result (calls.new.made ≡ calls.old.made + made) }
         ensures refused { OnErr result ((self.new ≡ self.old) × (calls.new.made ≡ calls.old.made)) }
     {
-        // The run keeps its journal, so the part's entries are held.
+        // If the run keeps its journal, the part's entries are held, too.
         if self.keeps {
             append_held(&mut self.held, &part.held, numbering, calls, made)
         } else {
@@ -455,7 +455,7 @@ impl<P: Run> Log<P> {
     pub fn into_published(self) -> Result<Vec<Value>, AllocError>
         ensures { IfOk result (λ values. values.items ≡ published self.entries) }
     {
-        // The run keeps its journal: the values are read out of the held entries.
+        // If the run keeps its journal, the values are read out of the held entries. Else they were noted when the entries came.
         if self.keeps {
             self.held.published(self.alloc)
         } else {

@@ -186,7 +186,7 @@ pub fn survey<R: Threads + Sync>(
     let mut seen = Outcomes::new(alloc);
     // How many orders were run.
     let mut next = 0;
-    // How many orders the next batch has. The first batch is one run, which shows how long the runs are.
+    // How many orders the next batch has at most. The first batch is one run, which shows how long the runs are.
     let mut batch = 1;
     let mut threads = 1;
     // Each round runs one order at least, so the loop ends.

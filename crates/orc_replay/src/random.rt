@@ -128,8 +128,8 @@ fn value(dice: &mut Dice, names: u32) -> &'static [u8] {
     VALUES[dice.pick(4) as usize % 4]
 }
 
-// A program's text by its seed: a definition `f` and a main expression. signs are taken from a stack, and a sign that stands for an expression pushes
-// one.
+// A program's text by its seed: a definition `f` and a main expression. Signs are taken from a stack, and a sign that stands for an expression
+// pushes the signs of one.
 fn program(alloc: Global, seed: u64) -> Result<Vec<u8>, AllocError> {
     let mut dice = Dice { state: seed };
     let mut text = Vec::from_slice(alloc, b"def f(v1, v2) = (v2 | B(v1) >> v1)\n")?;

@@ -123,7 +123,8 @@ impl<R: Threads + Wait + Sync> Trial<'_, R> {
     }
 
     // Notes in what a run's publications, a line each in `out`, differ from the row. The field `out` has the texts that are right, the values with
-    // blanks between them, or `nothing` if there are none; `each` is what each line has to be. Any will do if the row has neither.
+    // blanks between them, or `nothing` if there are none; `each` is what each line has to be, and `published` how many there are. A field that the
+    // row hasn't asks for nothing.
     fn look_at_values(&mut self, out: &str) -> io::Result<()> {
         let words = out.split_whitespace().collect::<Vec<&str>>(self.alloc)?;
         let mut values = joined(self.alloc, words.as_slice())?;

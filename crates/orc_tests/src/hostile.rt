@@ -197,7 +197,8 @@ fn is_told<R: Threads + Wait + Sync>(
 
 // Programs that halt, with calls of which some may be cancelled.
 const TOLD: [&[u8]; 6] = [
-    // In each of these three x gets the first value, and the other calls are cancelled. In the third all are due at the same time.
+    // In each of these three x gets the first value, and the calls that pend then are cancelled. In the third all four are due at the same time, so
+    // other calls than the first may have been answered before, too.
     b"x <x< (Rwait(2) >> 20 | Rwait(1) >> 10)",
     b"x <x< (Rwait(5) | Rwait(9) | Rwait(7))",
     b"x <x< (Rwait(5) | Rwait(5) | (Rwait(5) | Rwait(5)))",
@@ -292,9 +293,9 @@ const RACES: i64 = 3_200;
 // held call goes on after 2,099 races at least, and, since 3,200 races have 12,800 calls at least, before the run ends.
 const OPENS_AT: u64 = 12_600;
 
-// Whether a run halts and publishes `RACES` alone in which call 1 is in a side that is dropped at once. A group is what runs in one side, and a word
-// is the counter of one group. The call is held while more groups are dropped than there are words, 2,048: their words must become free all the
-// same. A race has at most 25 entries, so the limit of 100,000 isn't reached.
+// Whether the run, whose call 1 is in a side that is dropped at once, halts and publishes `RACES` alone, and the held call 1 doesn't give up. A group
+// is what runs in one side, and a word is the counter of one group. The call is held while more groups are dropped than there are words, 2,048: their
+// words must become free all the same. A race has at most 25 entries, so the limit of 100,000 isn't reached.
 fn takes_no_group<R: Threads + Wait + Sync>(rt: &R, alloc: Global, workers: usize) -> bool {
     let source =
         b"def loop(n) = Lt(n, 3200) >b> (Iff(b) >> n | Ift(b) >> (x <x< (n | Never() | Rwait(5))) >> Add(n, 1) >m> loop(m))
