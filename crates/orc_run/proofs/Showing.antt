@@ -24,6 +24,7 @@ use Rattle.orc_schedules.specs.declared.ended.Ended.{Ended}
 use Rattle.orc_schedules.specs.declared.exploration.Schedules.{Schedules}
 use Rattle.orc_schedules.specs.declared.exploration.Schedules.TheVariants as schedules
 use Rattle.orc_schedules.proofs.Growing.{get_in}
+use Rattle.orc_output.specs.declared.output.WriteFault.{WriteFault}
 use Rattle.orc_run.specs.Searched.{IsUnseen, ended_of, found_of}
 use Rattle.orc_run.specs.Shown.{HasOutcome, HasShown, HasWritten, IsJournalOf, IsNumbered, IsThere, IsUnshownBy, IsUnshownFor, IsUnwrittenBy, LeavesUnseen, LeavesUnshown, LeavesUnwritten, ShowsOutcome, WritesUnseen}
 use Rattle.orc_run.specs.declared.faults.RunFault.TheVariants as fault
@@ -73,6 +74,23 @@ unseen_left l t limit p seen e old new (Err f) end values played unseen ends sho
 -- what is read at a place stands there
 pub there_is : (seen : List Seen) (at n : ℕ) (x : Seen) → at ≡ n → at < length seen → x ≡ slice_index_or seen at x → slice_get seen n ≡ Some x
 there_is seen at n x is inside same = subst (λ (k : ℕ). slice_get seen k ≡ Some x) is (slice_get-get_or seen at x inside ∙ ap Some (sym same))
+
+-- what holds where a run lacks the outcome, and where the output is at fault, holds for each cause for which a run's journal isn't written
+unwritten_by : (number : ℕ) (P : Unshown → Type 0) → ((n : ℕ) → n ≡ number → P (unshown.NoRun n)) → ((w : WriteFault) → P (unshown.Fault (fault.Write w))) → (r : Result Unit Unshown) → IfErr r (IsUnwrittenBy number) → IfErr r P
+unwritten_by number P lacks output (Ok u) why = why
+unwritten_by number P lacks output (Err f) why = go f why
+  where
+    go : (f : Unshown) → IsUnwrittenBy number f → P f
+    go (unshown.NoOutcome n) is = absurd is
+    go (unshown.NoRun n) is = lacks n is
+    go (unshown.Fault (fault.Write w)) is = output w
+    go (unshown.Fault (fault.Engine f)) is = absurd is
+    go (unshown.Fault (fault.Syntax f)) is = absurd is
+    go (unshown.Fault (fault.Scope f)) is = absurd is
+    go (unshown.Fault (fault.Script f)) is = absurd is
+    go (unshown.Fault (fault.Test f)) is = absurd is
+    go (unshown.Fault (fault.Journal f)) is = absurd is
+    go (unshown.Fault (fault.Check f)) is = absurd is
 
 -- ---- of the source
 
@@ -152,20 +170,11 @@ module _ (source script : List ℕ) (orders limit number : ℕ) (l : Listing) (t
 
   -- why the journal of a run isn't written is why the outcome isn't shown to which its order came
   pub unwritten_for : (x : Seen) (r : Result Unit Unshown) → slice_get seen (number - 1) ≡ Some x → IfErr r (IsUnwrittenBy number) → IfErr r (IsUnshownFor source script orders limit number)
-  unwritten_for x (Ok u) there why = why
-  unwritten_for x (Err f) there why = go f why
-    where
-      go : (f : Unshown) → IsUnwrittenBy number f → IsUnshownFor source script orders limit number f
-      go (unshown.NoOutcome n) is = absurd is
-      go (unshown.NoRun n) is = (is, has (ended_of x) (inl (slice_get-map ended_of seen (number - 1) ∙ ap (λ (o : Option Seen). option_map ended_of o) there)))
-      go (unshown.Fault (fault.Write w)) is = tt
-      go (unshown.Fault (fault.Engine f)) is = absurd is
-      go (unshown.Fault (fault.Syntax f)) is = absurd is
-      go (unshown.Fault (fault.Scope f)) is = absurd is
-      go (unshown.Fault (fault.Script f)) is = absurd is
-      go (unshown.Fault (fault.Test f)) is = absurd is
-      go (unshown.Fault (fault.Journal f)) is = absurd is
-      go (unshown.Fault (fault.Check f)) is = absurd is
+  unwritten_for x r there =
+      unwritten_by number (IsUnshownFor source script orders limit number)
+      (λ n is. (is, has (ended_of x) (inl (slice_get-map ended_of seen (number - 1) ∙ ap (λ (o : Option Seen). option_map ended_of o) there))))
+      (λ w. tt)
+      r
 
 -- ---- an outcome to which no order came
 
@@ -181,17 +190,4 @@ real_of l t limit schedules.TooLong e h is = absurd is
 
 -- why the journal of a run isn't written is why the outcome isn't shown for which it was found
 pub unwritten_unshown : (l : Listing) (t : Table) (seen : List Seen) (number : ℕ) (e : Ended) (r : Result Unit Unshown) → IsUnseen seen e → IsEndOfRun l t e → IfErr r (IsUnwrittenBy number) → IfErr r (IsUnshownBy l t seen number)
-unwritten_unshown l t seen number e (Ok u) unseen real why = why
-unwritten_unshown l t seen number e (Err f) unseen real why = go f why
-  where
-    go : (f : Unshown) → IsUnwrittenBy number f → IsUnshownBy l t seen number f
-    go (unshown.NoOutcome n) is = absurd is
-    go (unshown.NoRun n) is = (is, (e, unseen, real))
-    go (unshown.Fault (fault.Write w)) is = tt
-    go (unshown.Fault (fault.Engine f)) is = absurd is
-    go (unshown.Fault (fault.Syntax f)) is = absurd is
-    go (unshown.Fault (fault.Scope f)) is = absurd is
-    go (unshown.Fault (fault.Script f)) is = absurd is
-    go (unshown.Fault (fault.Test f)) is = absurd is
-    go (unshown.Fault (fault.Journal f)) is = absurd is
-    go (unshown.Fault (fault.Check f)) is = absurd is
+unwritten_unshown l t seen number e r unseen real = unwritten_by number (IsUnshownBy l t seen number) (λ n is. (is, (e, unseen, real))) (λ w. tt) r
