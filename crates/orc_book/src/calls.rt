@@ -14,7 +14,7 @@ ghost use Rattle.orc_book.specs.Passes.{in_book};
 ghost use Rattle.orc_book.specs.Refusals.{IsRefusedCall, IsRefusedAnswer};
 
 use crate::book::Book;
-use crate::post::{bring_at, out_in, reserve_at, send_at, take_at};
+use crate::post::{hand_out_at, out_in, put_back_at, reserve_at, take_at};
 use crate::token::{BookFault, Refused, Token, fault_of};
 use orc_ledger::{Action, Inputs, stands};
 use orc_ledger_spec::ReturnFault;
@@ -78,9 +78,9 @@ impl<P: Run + Naming> Book<P> {
         stands(&self.ledger);
         match self.ledger.call(inputs, token.slot, found.its, args) {
             Ok(call) => {
-                // `bring_at` puts the token's pass into the post of its group, for the call, and notes that one token fewer of the group is out. The
-                // token was out, so `found.out` is 1 at least.
-                bring_at(&mut self.posts, found.group, found.out - 1, token.pass);
+                // `put_back_at` puts the token's pass into the post of its group, for the call, and notes that one token fewer of the group is out.
+                // The token was out, so `found.out` is 1 at least.
+                put_back_at(&mut self.posts, found.group, found.out - 1, token.pass);
                 Ok(call.number)
             }
             Err(fault) => Err(Refused {
@@ -117,9 +117,9 @@ impl<P: Run + Naming> Book<P> {
             Ok(Some(slot)) => {
                 // For the prover alone: the number of all tokens, the new one too, is a `usize`, and no more are out. So `out + 1` doesn't overflow.
                 let _tokens = self.ledger.token_count();
-                // The book holds a pass for each pending call. `send_at` takes one out for the new token, and notes that one more of the group's
+                // The book holds a pass for each pending call. `hand_out_at` takes one out for the new token, and notes that one more of the group's
                 // tokens is out.
-                let Some(pass) = send_at(&mut self.posts, group, out + 1) else {
+                let Some(pass) = hand_out_at(&mut self.posts, group, out + 1) else {
                     unreachable!()
                 };
                 Ok(Answered::Token(self.born(slot, pass)))

@@ -13,7 +13,7 @@ ghost use Rattle.orc_book.specs.Refusals.{IsRefusedGroup, IsRefusedHalt};
 ghost use Rattle.orc_book.specs.Words.{Turns, kind_at, owed_at, unused};
 
 use crate::book::Book;
-use crate::post::{out_in, send_at, take_at};
+use crate::post::{hand_out_at, out_in, take_at};
 use crate::token::{BookFault, Refused, Token, fault_of};
 use crate::word_table::Kind;
 use orc_ledger::stands;
@@ -162,9 +162,9 @@ impl<P: Run + Naming> Book<P> {
                 let out = out_in(&self.posts, group);
                 // For the prover alone: the number of all tokens, the new one too, is a `usize`, and no more are out. So `out + 1` doesn't overflow.
                 let _tokens = self.ledger.token_count();
-                // The book held a pass for the group that has ended, a member of the enclosing one. `send_at` takes that pass out for the new token,
-                // and notes that one more of the enclosing group's tokens is out.
-                let Some(pass) = send_at(&mut self.posts, group, out + 1) else {
+                // The book held a pass for the group that has ended, a member of the enclosing one. `hand_out_at` takes that pass out for the new
+                // token, and notes that one more of the enclosing group's tokens is out.
+                let Some(pass) = hand_out_at(&mut self.posts, group, out + 1) else {
                     unreachable!()
                 };
                 Ok(Ended::Token(self.born(slot, pass)))

@@ -11,7 +11,7 @@ ghost use Rattle.orc_book.specs.Words.{OpensWord, HasNoWord};
 
 use crate::book::Book;
 use crate::lookup::Found;
-use crate::post::{bring_at, grow_to, put_at, raise_at, reserve_opening};
+use crate::post::{begin_at, grow_to, put_at, put_back_at, reserve_opening};
 use crate::token::{BookFault, Refused, Token, fault_of};
 use crate::word_table::WordTable;
 use orc_ledger::{Action, Inputs, Moved, stands};
@@ -163,11 +163,11 @@ impl<P: Run + Naming> Book<P> {
                 };
                 let number = self.ledger.group_of_token(&inner);
                 // `grow_to` adds posts up to the new group's, if there is none yet. The post of the token's group gets the pass `same`, for the new
-                // group. `raise_at` gives the new group's post its word, and notes that one token is out. `reserve_opening` has made the room for
+                // group. `begin_at` gives the new group's post its word, and notes that one token is out. `reserve_opening` has made the room for
                 // posts and pass.
                 grow_to(self.alloc, &mut self.posts, number);
                 put_at(&mut self.posts, found.group, same);
-                raise_at(&mut self.posts, number, opened.word, found.group);
+                begin_at(&mut self.posts, number, opened.word, found.group);
                 // The opened word stands for the new group from here on.
                 self.words.open(number);
                 let one = self.born(token.slot, token.pass);
@@ -293,9 +293,9 @@ impl<P: Run + Naming> Book<P> {
                 // Adds posts up to the new group's, if there is none yet; `reserve_opening` has made the room.
                 grow_to(self.alloc, &mut self.posts, number);
                 // In the group around the otherwise one token less is out, and the book holds that token's pass there for the new group.
-                bring_at(&mut self.posts, found.group, found.out - 1, token.pass);
+                put_back_at(&mut self.posts, found.group, found.out - 1, token.pass);
                 // The new group's post gets its word, and notes that one token is out.
-                raise_at(&mut self.posts, number, opened.word, found.group);
+                begin_at(&mut self.posts, number, opened.word, found.group);
                 // The opened word stands for the new group from here on.
                 self.words.open(number);
                 Ok(self.born(token.slot, opened.pass))

@@ -63,14 +63,14 @@ impl<J: Naming> Post<J> {
         self.word
     }
 
-    /// The ledger's number of the group that encloses it, as `new` or `raise` was told last. No contract says that it is right.
+    /// The ledger's number of the group that encloses it, as `new` or `begin` was told last. No contract says that it is right.
     pub(crate) fn parent(&self) -> u32 {
         self.parent
     }
 
     /// Makes this post, which has to have no passes, that of a new group: sets its word and its parent's number, and notes that one token of the
     /// group is out.
-    pub(crate) fn raise(&mut self, word: u32, parent: u32)
+    pub(crate) fn begin(&mut self, word: u32, parent: u32)
         requires { length self.old.passes ≡ 0 }
         ensures { (self.new.word ≡ word) × (self.new.passes ≡ self.old.passes) × (self.new.kept ≡ self.old.kept) × (self.new.out ≡ 1) }
     {
@@ -283,7 +283,12 @@ pub(crate) fn take_at<J: Naming>(posts: &mut Vec<Post<J>>, number: u32) -> Optio
 
 /// For a token that was out and becomes a pending call or a group: puts its pass into the post of the group with this `number`, and sets how many of
 /// the group's tokens are out. No other post changes (`Changes`).
-pub(crate) fn bring_at<J: Naming>(posts: &mut Vec<Post<J>>, number: u32, out: usize, pass: Pass<J>)
+pub(crate) fn put_back_at<J: Naming>(
+    posts: &mut Vec<Post<J>>,
+    number: u32,
+    out: usize,
+    pass: Pass<J>,
+)
     requires there { number < length posts.old.items }
     requires room { 1 ≤ room_at posts.old.items number }
     requires names { group_of pass ≡ Some (word_at posts.old.items number) }
@@ -318,7 +323,7 @@ pub(crate) fn keep_at<J: Naming>(
 
 /// For a token that comes in the place of a call or a group: takes the record's pass out of the post of the group with this `number`, and sets how
 /// many of the group's tokens are out. None, and nothing changes, if no pass is held. No other post changes (`Changes`).
-pub(crate) fn send_at<J: Naming>(
+pub(crate) fn hand_out_at<J: Naming>(
     posts: &mut Vec<Post<J>>,
     number: u32,
     out: usize,
@@ -485,7 +490,7 @@ pub(crate) fn reserve_opening<J: Naming>(
 }
 
 /// Adds posts without passes up to the group with this number, in the room that `reserve_opening` made; none if its post is there. What they have as
-/// word and parent means nothing until `raise_at` sets it.
+/// word and parent means nothing until `begin_at` sets it.
 pub(crate) fn grow_to<J: Naming>(alloc: Global, posts: &mut Vec<Post<J>>, number: u32)
     requires few { length posts.old.items ≤ MOST_GROUPS }
     requires number { number < MOST_GROUPS }
@@ -501,12 +506,12 @@ pub(crate) fn grow_to<J: Naming>(alloc: Global, posts: &mut Vec<Post<J>>, number
 
 /// Makes the post with this number that of a new group: sets its word and its parent's number, and notes that one token of the group is out. No other
 /// post changes (`Becomes`).
-pub(crate) fn raise_at<J: Naming>(posts: &mut Vec<Post<J>>, number: u32, word: u32, parent: u32)
+pub(crate) fn begin_at<J: Naming>(posts: &mut Vec<Post<J>>, number: u32, word: u32, parent: u32)
     requires there { number < length posts.old.items }
     requires empty { held_at posts.old.items number ≡ 0 }
     ensures { (p : Hold) × (q : Hold) × Becomes posts.old.items number p q posts.new.items × (q.word ≡ word) × (q.passes ≡ p.passes) × (q.kept ≡ p.kept) × (q.out ≡ 1) }
 {
     if let Some(post) = posts.get_mut(number as usize) {
-        post.raise(word, parent);
+        post.begin(word, parent);
     }
 }

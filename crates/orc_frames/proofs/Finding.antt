@@ -21,17 +21,17 @@ abbrev pub is_mark : ℕ → Row → ℕ
 is_mark n (stands s t p) = once (mark n) (mark s)
 is_mark n (pends k p) = 0
 
-abbrev pub is_left : ℕ → Numbered → ℕ
-is_left n (right_of d p) = 0
-is_left n (left_of m g p) = once (mark n) (mark m)
+abbrev pub has_published_at : ℕ → Numbered → ℕ
+has_published_at n (right_of d p) = 0
+has_published_at n (left_of m g p) = once (mark n) (mark m)
 
-pub times-marks : (n : ℕ) (p : Path) (m : Marked) → times (mark n) m ≡ weight (is_mark n) (marks p m) + weight (is_left n) (sides p m)
+pub times-marks : (n : ℕ) (p : Path) (m : Marked) → times (mark n) m ≡ weight (is_mark n) (marks p m) + weight (has_published_at n) (sides p m)
 times-marks n p ended = refl
 times-marks n p (token s t) = omega arith
 times-marks n p (in_call j) = refl
-times-marks n p (in_par f g) = omega (arith, times-marks n p f, times-marks n p g, weight-append (is_mark n) (marks p f) (marks p g), weight-append (is_left n) (sides p f) (sides p g))
+times-marks n p (in_par f g) = omega (arith, times-marks n p f, times-marks n p g, weight-append (is_mark n) (marks p f) (marks p g), weight-append (has_published_at n) (sides p f) (sides p g))
 times-marks n p (in_seq f x g) = times-marks n (feeding x g p) f
-times-marks n p (in_opened f d g) = omega (arith, times-marks n p f, times-marks n (aiding d p) g, weight-append (is_mark n) (marks p f) (marks (aiding d p) g), weight-append (is_left n) (sides p f) (sides (aiding d p) g))
+times-marks n p (in_opened f d g) = omega (arith, times-marks n p f, times-marks n (aiding d p) g, weight-append (is_mark n) (marks p f) (marks (aiding d p) g), weight-append (has_published_at n) (sides p f) (sides (aiding d p) g))
 times-marks n p (in_other j f g) = omega (arith, times-marks n (trying j p) f)
 
 pub in_front : {X : Type 0} (x : X) (us vs : List X) → IsIn x us → IsIn x (us ++ vs)

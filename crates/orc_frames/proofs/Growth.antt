@@ -8,7 +8,7 @@ use Rattle.orc_rules.specs.Term.{Term}
 use Rattle.orc_env.specs.Scopes.{Env, close, without}
 use Rattle.orc_indexes.specs.Same.{weight, only, None}
 use Rattle.orc_frames.specs.Spelling.{Path, whole, feeding, seen}
-use Rattle.orc_frames.specs.Paths.{standing, inwards, paths_from, path, is_number, has_left, is_out, entered_out, step_out, tries, is_left}
+use Rattle.orc_frames.specs.Paths.{standing, inwards, paths_from, path, enters_left_of, has_published, is_out, entered_out, step_out, tries, has_published_at}
 use Rattle.orc_tables.specs.Steps.{step_at}
 use Rattle.orc_tables.specs.declared.records.Standing.{Standing}
 use Rattle.orc_tables.specs.declared.records.Standing.TheVariants.{At, On}
@@ -24,44 +24,44 @@ pub both_false : (a b : Bool) → a ≡ false → b ≡ false → (a || b) ≡ f
 both_false a b e f = ap (λ x. x || b) e ∙ f
 
 -- steps that come have not published
-pub left-more : (n : ℕ) (ss ps : List Step) → has_left ps n ≡ false → has_left (ss ++ ps) n ≡ has_left ss n
+pub left-more : (n : ℕ) (ss ps : List Step) → has_published ps n ≡ false → has_published (ss ++ ps) n ≡ has_published ss n
 left-more n [] ps h = h
-left-more n (s ∷ ss) ps h = ap (λ b. (s.published && is_number n s.entered) || b) (left-more n ss ps h)
+left-more n (s ∷ ss) ps h = ap (λ b. (s.published && enters_left_of n s.entered) || b) (left-more n ss ps h)
 
 -- no step's number is n, so it has not published
-pub none-left : (n : ℕ) (ss : List Step) → weight (tries n) ss ≡ 0 → has_left ss n ≡ false
+pub none-left : (n : ℕ) (ss : List Step) → weight (tries n) ss ≡ 0 → has_published ss n ≡ false
 none-left n [] h = refl
-none-left n (s ∷ ss) h = go s.published (is_number n s.entered) h (none-left n ss)
+none-left n (s ∷ ss) h = go s.published (enters_left_of n s.entered) h (none-left n ss)
   where
-    go : (p q : Bool) → cond q 1 0 + weight (tries n) ss ≡ 0 → (weight (tries n) ss ≡ 0 → has_left ss n ≡ false) → ((p && q) || has_left ss n) ≡ false
+    go : (p q : Bool) → cond q 1 0 + weight (tries n) ss ≡ 0 → (weight (tries n) ss ≡ 0 → has_published ss n ≡ false) → ((p && q) || has_published ss n) ≡ false
     go p true h ih = absurd (omega (arith, h))
     go true false h ih = ih (omega (arith, h))
     go false false h ih = ih (omega (arith, h))
 
 -- the one step that enters an otherwise tells whether a publication has left it
-told_by : (n : ℕ) (ss : List Step) (k : ℕ) (p : Step) → slice_get ss k ≡ Some p → is_number n p.entered ≡ true → weight (tries n) ss ≤ 1 → has_left ss n ≡ p.published
+told_by : (n : ℕ) (ss : List Step) (k : ℕ) (p : Step) → slice_get ss k ≡ Some p → enters_left_of n p.entered ≡ true → weight (tries n) ss ≤ 1 → has_published ss n ≡ p.published
 told_by n [] k p got is once = cc got
 told_by n (s ∷ ss) zero p got is once =
     let same : s ≡ p = cc got in
-    go s.published (is_number n s.entered) (ap (λ (z : Step). is_number n z.entered) same ∙ is) once ∙ ap (λ (z : Step). z.published) same
+    go s.published (enters_left_of n s.entered) (ap (λ (z : Step). enters_left_of n z.entered) same ∙ is) once ∙ ap (λ (z : Step). z.published) same
   where
-    go : (b q : Bool) → q ≡ true → cond q 1 0 + weight (tries n) ss ≤ 1 → ((b && q) || has_left ss n) ≡ b
+    go : (b q : Bool) → q ≡ true → cond q 1 0 + weight (tries n) ss ≤ 1 → ((b && q) || has_published ss n) ≡ b
     go true true e h = refl
     go false true e h = none-left n ss (omega (arith, h))
     go b false e h = cc e
-told_by n (s ∷ ss) (suc k) p got is once = go s.published (is_number n s.entered) once (told_by n ss k p got is (omega (arith, once)))
+told_by n (s ∷ ss) (suc k) p got is once = go s.published (enters_left_of n s.entered) once (told_by n ss k p got is (omega (arith, once)))
   where
     some : (xs : List Step) (j : ℕ) → slice_get xs j ≡ Some p → 1 ≤ weight (tries n) xs
     some [] j h = cc h
-    some (x ∷ xs) zero h = let same : x ≡ p = cc h in omega (arith, ap {B = ℕ} (λ b. cond b 1 0) (ap (λ (z : Step). is_number n z.entered) same ∙ is))
+    some (x ∷ xs) zero h = let same : x ≡ p = cc h in omega (arith, ap {B = ℕ} (λ b. cond b 1 0) (ap (λ (z : Step). enters_left_of n z.entered) same ∙ is))
     some (x ∷ xs) (suc j) h = omega (arith, some xs j h)
 
-    go : (b q : Bool) → cond q 1 0 + weight (tries n) ss ≤ 1 → has_left ss n ≡ p.published → ((b && q) || has_left ss n) ≡ p.published
+    go : (b q : Bool) → cond q 1 0 + weight (tries n) ss ≤ 1 → has_published ss n ≡ p.published → ((b && q) || has_published ss n) ≡ p.published
     go b true h ih = absurd (omega (arith, h, some ss k got))
     go true false h ih = ih
     go false false h ih = ih
 
-pub left-told : (n : ℕ) (ss : List Step) (i : ℕ) (p : Step) → step_at ss i ≡ Some p → is_number n p.entered ≡ true → weight (tries n) ss ≤ 1 → has_left ss n ≡ p.published
+pub left-told : (n : ℕ) (ss : List Step) (i : ℕ) (p : Step) → step_at ss i ≡ Some p → enters_left_of n p.entered ≡ true → weight (tries n) ss ≤ 1 → has_published ss n ≡ p.published
 left-told n ss zero p got is once = cc got
 left-told n ss (suc k) p got is once = told_by n ss k p got is once
 
@@ -148,7 +148,7 @@ pub seen-same : (left left' : ℕ → Bool) → ((n : ℕ) → left' n ≡ left 
 seen-same left left' h p = ap (λ (z : ℕ → Bool). seen z p) (λ i n. h n i)
 
 -- whether it was left, from one step on
-pub left-next : (ss : List Step) (k n : ℕ) → k < length ss → has_left (drop k ss) n ≡ (is_left n (slice_get ss k) || has_left (drop (suc k) ss) n)
+pub left-next : (ss : List Step) (k n : ℕ) → k < length ss → has_published (drop k ss) n ≡ (has_published_at n (slice_get ss k) || has_published (drop (suc k) ss) n)
 left-next [] k n lt = absurd (omega (arith, lt))
 left-next (s ∷ ss) zero n lt = refl
 left-next (s ∷ ss) (suc k) n lt = left-next ss k n (omega (arith, lt))

@@ -33,20 +33,20 @@ module _ (code : ℕ → Term) (env : ℕ → Env) where
   path ss i = slice_index_or (paths_from (whole ∷ []) ss) i whole
 
 -- this is the left side of otherwise n
-abbrev pub is_number : ℕ → Frame → Bool
-is_number n (SeqLeft x g scope) = false
-is_number n (PruneRight c) = false
-is_number n (OtherwiseLeft m) = nat_eq n m
+abbrev pub enters_left_of : ℕ → Frame → Bool
+enters_left_of n (SeqLeft x g scope) = false
+enters_left_of n (PruneRight c) = false
+enters_left_of n (OtherwiseLeft m) = nat_eq n m
 
 -- this step enters otherwise n, and a publication has left it there
-abbrev pub is_left : ℕ → Option Step → Bool
-is_left n (Some s) = s.published && is_number n s.entered
-is_left n None = false
+abbrev pub has_published_at : ℕ → Option Step → Bool
+has_published_at n (Some s) = s.published && enters_left_of n s.entered
+has_published_at n None = false
 
 -- a publication has left otherwise n
-abbrev pub has_left : List Step → ℕ → Bool
-has_left [] n = false
-has_left (s ∷ ss) n = (s.published && is_number n s.entered) || has_left ss n
+abbrev pub has_published : List Step → ℕ → Bool
+has_published [] n = false
+has_published (s ∷ ss) n = (s.published && enters_left_of n s.entered) || has_published ss n
 
 -- ---- names of what isn't there: a scope past the last one, n, or an otherwise whose number isn't below the next mark
 abbrev pub is_out : ℕ → Standing → Bool
@@ -63,4 +63,4 @@ step_out n next p = entered_out n next p.entered
 
 -- 1 if the step enters the left side of otherwise m, else 0
 abbrev pub tries : ℕ → Step → ℕ
-tries m p = cond (is_number m p.entered) 1 0
+tries m p = cond (enters_left_of m p.entered) 1 0

@@ -2,7 +2,7 @@
 use Rattle.std.specs.Prelude.{ℕ, ◌≡◌, List, [], ◌∷◌, Bool, true, false, cond, nat_eq, map, zero, suc, Option, Some, None, slice_get}
 use Rattle.orc_rules.specs.Term.{Term}
 use Rattle.orc_frames.specs.Spelling.{Path, whole, feeding, aiding, trying, seen}
-use Rattle.orc_frames.specs.Paths.{has_left, path}
+use Rattle.orc_frames.specs.Paths.{has_published, path}
 use Rattle.orc_tables.specs.declared.records.Frame.TheVariants.{SeqLeft, PruneRight}
 use Rattle.orc_tables.specs.declared.records.Step.{Step}
 use Rattle.orc_env.specs.Scopes.{Env, close, without}
@@ -74,5 +74,5 @@ bare p = record { entered = p.entered; outer = p.outer; group = p.group; depth =
 
 -- the steps once a publication has left these otherwises
 pub record Publishes (ns : List ℕ) (ss ss' : List Step) : Type 0 where
-  pub left : (n : ℕ) → has_left ss' n ≡ left_all ns (has_left ss) n
+  pub left : (n : ℕ) → has_published ss' n ≡ left_all ns (has_published ss) n
   pub alike : map bare ss' ≡ map bare ss

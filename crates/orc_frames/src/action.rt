@@ -15,7 +15,7 @@ ghost use Rattle.orc_rules.specs.Nodes.{param_of, code, definitions};
 ghost use Rattle.orc_env.specs.Scopes.{Env, env_of, close, close_param};
 ghost use Rattle.orc_env.specs.Names.{AreOrdered};
 ghost use Rattle.orc_frames.specs.Spelling.{seen};
-ghost use Rattle.orc_frames.specs.Paths.{path, has_left};
+ghost use Rattle.orc_frames.specs.Paths.{path, has_published};
 ghost use Rattle.orc_tables.specs.Steps.{AreOutwards};
 ghost use Rattle.orc_frames.specs.Doing.{taken, of_param, what_by, scan, closed};
 
@@ -176,7 +176,7 @@ pub fn action_at(
 ) -> Action
     requires ordered { AreOrdered scopes.now }
     requires outwards { AreOutwards steps.now.items }
-    ensures { result ≡ what_by (definitions graph.now) (seen (has_left steps.now.items) (path (code graph.now) (env_of cells.now scopes.now) steps.now.items from)) (close (env_of cells.now scopes.now scope) (code graph.now node)) }
+    ensures { result ≡ what_by (definitions graph.now) (seen (has_published steps.now.items) (path (code graph.now) (env_of cells.now scopes.now) steps.now.items from)) (close (env_of cells.now scopes.now scope) (code graph.now node)) }
 {
     match graph.node(node as usize) {
         Node::Stop => Action::Halt,

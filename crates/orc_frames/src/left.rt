@@ -1,16 +1,16 @@
-//! Whether the left side of an otherwise (`f ; g`) has published, so that its right side never runs. Contracts say that a publication has *left* it.
+//! Whether the left side of an otherwise (`f ; g`) has published, so that its right side never runs.
 
 ghost use Rattle.std.specs.Prelude.{◌≡◌, ◌≤◌, false, Some, IfSome, IfNone};
 ghost use Rattle.orc_indexes.specs.Same.{weight};
-ghost use Rattle.orc_frames.specs.Paths.{is_number, is_left, has_left, tries};
+ghost use Rattle.orc_frames.specs.Paths.{enters_left_of, has_published_at, has_published, tries};
 ghost use Rattle.orc_tables.specs.Steps.{step_at};
 ghost use Rattle.orc_tables.specs.declared.records.Step.{Step as Entering};
 
 use orc_tables::{Frame, Steps};
 
 // Whether what a step enters is the left side of the otherwise (`f ; g`) with this number, the mark of the token that entered it.
-fn is_number(entered: Frame, number: u64) -> bool
-    ensures { result ≡ is_number number entered }
+fn enters_left_of(entered: Frame, number: u64) -> bool
+    ensures { result ≡ enters_left_of number entered }
 {
     match entered {
         Frame::OtherwiseLeft(other) => number == other,
@@ -21,13 +21,13 @@ fn is_number(entered: Frame, number: u64) -> bool
 /// Whether the otherwise with this number, which is the mark of the token that entered it, has published: true keeps its right side from ever
 /// running. `step`, from 1, is a guess which step enters that left side: None if the guess is wrong, and then nothing is known. The contract asks
 /// that at most one step enters the otherwise with this number, so that no other step says otherwise.
-pub fn left_at(steps: &Steps, step: usize, number: u64) -> Option<bool>
+pub fn published_at(steps: &Steps, step: usize, number: u64) -> Option<bool>
     requires { weight (tries number) steps.now.items ≤ 1 }
-    ensures left { IfSome result (λ left. left ≡ has_left steps.now.items number) }
-    ensures other { IfNone result ((p : Entering) → step_at steps.now.items step ≡ Some p → is_number number p.entered ≡ false) }
+    ensures left { IfSome result (λ left. left ≡ has_published steps.now.items number) }
+    ensures other { IfNone result ((p : Entering) → step_at steps.now.items step ≡ Some p → enters_left_of number p.entered ≡ false) }
 {
     let step = steps.at(step)?;
-    if is_number(step.entered, number) {
+    if enters_left_of(step.entered, number) {
         Some(step.published)
     } else {
         None
@@ -36,24 +36,24 @@ pub fn left_at(steps: &Steps, step: usize, number: u64) -> Option<bool>
 
 // Whether the step with the number `step`, from 1, enters the left side of the otherwise with this number, and that has published. False if there is
 // no such step.
-fn is_left(steps: &Steps, step: usize, number: u64) -> bool
-    ensures { result ≡ is_left number (step_at steps.now.items step) }
+fn has_published_at(steps: &Steps, step: usize, number: u64) -> bool
+    ensures { result ≡ has_published_at number (step_at steps.now.items step) }
 {
     match steps.at(step) {
-        Some(step) => step.published && is_number(step.entered, number),
+        Some(step) => step.published && enters_left_of(step.entered, number),
         None => false,
     }
 }
 
 /// Whether the otherwise with this number has published; false for a number that no otherwise has. It looks at one step after another, and at all of
 /// them where it hasn't.
-pub fn has_left(steps: &Steps, number: u64) -> bool
-    ensures { result ≡ has_left steps.now.items number }
+pub fn has_published(steps: &Steps, number: u64) -> bool
+    ensures { result ≡ has_published steps.now.items number }
 {
     let mut at = 0;
     while at < steps.len() {
         // Steps are numbered from 1.
-        if is_left(steps, at + 1, number) {
+        if has_published_at(steps, at + 1, number) {
             return true;
         }
         at += 1;

@@ -11,7 +11,7 @@ mod waits;
 
 pub use action::{Action, action_at, are_values, publish_action, site_call_action};
 pub use arguments::take_values;
-pub use left::{has_left, left_at};
+pub use left::{has_published, published_at};
 pub use parameters::parameter_scopes;
 pub use takers::{Taker, find_taker, leave_others};
 pub use waits::list_cells;

@@ -6,7 +6,7 @@
 ghost use Rattle.std.specs.Prelude.{◌≤◌, ℕ, length};
 ghost use Rattle.orc_rules.specs.Term.{Term};
 ghost use Rattle.orc_env.specs.Scopes.{Env};
-ghost use Rattle.orc_frames.specs.Paths.{path, has_left};
+ghost use Rattle.orc_frames.specs.Paths.{path, has_published};
 ghost use Rattle.orc_frames.specs.Spelling.{seen};
 ghost use Rattle.orc_frames.specs.Taking.{GoesTo, IsOnWay, IsEntered, crossed, Publishes};
 ghost use Rattle.orc_tables.specs.Steps.{AreOutwards};
@@ -55,7 +55,7 @@ pub fn find_taker(steps: &Steps, from: usize) -> Taker
 pub fn leave_others(steps: &mut Steps, from: usize)
     requires within { from ≤ length steps.old.items }
     requires outwards { AreOutwards steps.old.items }
-    ensures { (code : ℕ → Term) (env : ℕ → Env) → Publishes (crossed (seen (has_left steps.old.items) (path code env steps.old.items from))) steps.old.items steps.new.items }
+    ensures { (code : ℕ → Term) (env : ℕ → Env) → Publishes (crossed (seen (has_published steps.old.items) (path code env steps.old.items from))) steps.old.items steps.new.items }
 {
     steps.leave(from);
 }

@@ -4,13 +4,13 @@ ghost use Rattle.std.specs.Prelude.{◌≡◌, Some, IfOk, OnOk, OnErr, IfErr, M
 ghost use Rattle.orc_rules.specs.Nodes.{code};
 ghost use Rattle.orc_rules.specs.Timed.{IsIn};
 ghost use Rattle.orc_tables.specs.Steps.{group_at};
-ghost use Rattle.orc_frames.specs.Paths.{has_left};
+ghost use Rattle.orc_frames.specs.Paths.{has_published};
 ghost use Rattle.orc_ledger_spec.specs.Halting.{HasHalted, IsHinderedAt};
 ghost use Rattle.orc_tables.specs.declared.records.Group.{Group as Its};
 ghost use Rattle.orc_ledger.specs.Others.{KeepsAll};
 
 use crate::ledger::Ledger;
-use orc_frames::{has_left, left_at};
+use orc_frames::{has_published, published_at};
 use orc_ledger_spec::{HaltFault, Halted};
 use orc_log::Run;
 use orc_tables::{Call, Group, Side, Token};
@@ -33,14 +33,14 @@ impl<P: Run> Ledger<P> {
 
     // Whether the left side of the otherwise (`f ; g`) with the number `number` has published: g never runs then. `group` is the number of the group
     // that this left side is.
-    fn was_left(&self, group: u32, number: u64) -> bool
-        ensures { result ≡ has_left self.now.steps number }
+    fn other_has_published(&self, group: u32, number: u64) -> bool
+        ensures { result ≡ has_published self.now.steps number }
     {
-        // The hint is the number of the step that entered the left side, so one look tells. None if the hint is wrong: then `has_left` looks at each
-        // step.
-        match left_at(&self.steps, self.groups.hint(group), number) {
-            Some(left) => left,
-            None => has_left(&self.steps, number),
+        // The hint is the number of the step that entered the left side, so one look tells. None if the hint is wrong: then `has_published` looks at
+        // each step.
+        match published_at(&self.steps, self.groups.hint(group), number) {
+            Some(published) => published,
+            None => has_published(&self.steps, number),
         }
     }
 
@@ -70,7 +70,7 @@ impl<P: Run> Ledger<P> {
             },
             Side::Left(other, node, scope) => {
                 // The left side has published: the right side never runs.
-                if self.was_left(number, other) {
+                if self.other_has_published(number, other) {
                     self.close(group);
                     return Ok(Halted::Closed(parent));
                 }

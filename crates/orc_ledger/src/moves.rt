@@ -20,7 +20,7 @@ ghost use Rattle.orc_frames.specs.Spelling.{whole, feeding, aiding};
 ghost use Rattle.orc_tables.specs.Tokens.{IsHeld};
 ghost use Rattle.orc_frames.specs.Taking.{Takes, IsOnWay, HasStep, taker, reach};
 ghost use Rattle.orc_ledger_spec.specs.Records.{its_env, its_path};
-ghost use Rattle.orc_frames.specs.Paths.{standing, has_left};
+ghost use Rattle.orc_frames.specs.Paths.{standing, has_published};
 ghost use Rattle.orc_tables.specs.Steps.{group_at};
 ghost use Rattle.orc_frames.specs.Doing.{scan, closed};
 ghost use Rattle.orc_tables.specs.declared.records.Frame.TheVariants.{PruneRight};
@@ -55,7 +55,7 @@ impl<P: Run> Ledger<P> {
     #[inline(always)]
     pub fn taker_of(&self, token: Token) -> Taker
         requires { (slot : ℕ) × IsHeld self.now.slots slot token }
-        ensures takes { Takes (code P.listing) (its_env (code P.listing) self.now) (has_left self.now.steps) self.now.steps token.step result }
+        ensures takes { Takes (code P.listing) (its_env (code P.listing) self.now) (has_published self.now.steps) self.now.steps token.step result }
         ensures way { IsOnWay self.now.steps token.step result }
         ensures there { IsThere self.now result }
     {

@@ -5,6 +5,9 @@
 //!
 //! `within(t, g, d)` asks whether the limits allow an entry that brings t tokens and g groups more, and a token inside d left sides of a `>x>` (0
 //! where it enters none). `IsRefused` has the same three numbers.
+//!
+//! `P` names the run: `P.listing` is its program and `P.sites` the table of its sites. `IsMade` says that the call's entry is written and counted, and
+//! that the call pends in the token's place.
 
 ghost use Rattle.std.specs.Prelude.{◌≡◌, ◌<◌, ◌++◌, ◌∷◌, [], ℕ, true, Some, IfOk, IfErr, MatchOption, OnOk, OnErr, length};
 ghost use Rattle.orc_rules.specs.Nodes.{code, definitions};
@@ -153,9 +156,10 @@ impl<P: Run> Ledger<P> {
         Ok(())
     }
 
-    /// Makes the call of a site at which this token is, which is in the slot `slot`; the call's operands have values, as the clause `calls` asks: the
-    /// call pends in the token's place, and the slot is free. Gives the call's record. `args` is lent for the arguments: it has them afterwards, and
-    /// what it held is lost. Full, Limit or Memory if the entry is refused; then nothing changes but `args`. Tokens in other slots stay there.
+    /// Makes the call of a site at which this token is, which is in the slot `slot`. The clause `calls` asks that all operands of the call have values.
+    /// Then the call pends in the token's place, and the slot is free. Gives the call's record. `args` is lent for the arguments: it has them
+    /// afterwards, and what it held is lost. Full, Limit or Memory if the entry is refused; then nothing changes but `args`. Tokens in other slots stay
+    /// there.
     pub fn call(
         &mut self,
         inputs: &Inputs<'_, P>,

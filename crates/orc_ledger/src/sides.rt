@@ -20,7 +20,7 @@ ghost use Rattle.orc_tables.specs.Tokens.{IsHeld};
 ghost use Rattle.orc_frames.specs.Spelling.{Path, aiding};
 ghost use Rattle.orc_frames.specs.Taking.{taker};
 ghost use Rattle.orc_ledger_spec.specs.Records.{its_env, its_path, is_over};
-ghost use Rattle.orc_frames.specs.Paths.{standing, has_left};
+ghost use Rattle.orc_frames.specs.Paths.{standing, has_published};
 ghost use Rattle.orc_tables.specs.Steps.{group_at};
 ghost use Rattle.orc_ledger_spec.specs.Claims.{IsBarred};
 ghost use Rattle.orc_ledger_spec.specs.Calls.{Drops, GoesAlone, Closes, Resumes, AreCancelled, IsRefused};
@@ -216,7 +216,7 @@ impl<P: Run> Ledger<P> {
     ) -> Result<usize, LedgerFault>
         requires there { IsIn group self.old.groups }
         requires side { group.side ≡ Left number node scope }
-        requires stays { has_left self.old.steps number ≡ false }
+        requires stays { has_published self.old.steps number ≡ false }
         requires empty { members (numbers_of self.old) self.old group.number ≡ 0 }
         ensures done { IfOk result (λ _. Resumes self.old self.new group number node scope) }
         ensures held { IfOk result (λ slot. IsHeld self.new.slots slot (record { serial = self.old.next_mark; standing = At node scope; step = group.outer })) }

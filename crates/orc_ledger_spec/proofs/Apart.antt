@@ -21,7 +21,7 @@ use Rattle.orc_indexes.specs.Same.{weight}
 use Rattle.orc_indexes.proofs.Weight.{weight-length}
 use Rattle.orc_tables.specs.declared.records.Token.{Token}
 use Rattle.orc_frames.specs.Doing.{Allows, closed}
-use Rattle.orc_frames.specs.Paths.{has_left}
+use Rattle.orc_frames.specs.Paths.{has_published}
 use Rattle.orc_frames.specs.Spelling.{Row, stands, Numbered, whole, marks, sides, seen}
 use Rattle.orc_frames.proofs.Around.{by, by-self, is_row}
 use Rattle.orc_frames.proofs.Equal.{same_row}
@@ -114,7 +114,7 @@ module _ (own l : Listing) (of sites : List Site) (s : Records) (L : Lawful own 
   pub yielded : (t : Token) → IsIn t s.tokens → length s.tokens ≡ 1 → t.step ≡ 0 → 2 ≤ t.serial → (v : Value) → what_of (code own) (definitions own) s t ≡ what.Publish v → AreSilent s.journal
       → IsOver l sites (record { definition = e; args = args; entries = es; mark = s.next_mark; calls = s.made; cells = length s.cells - 1; left = Some (record { mark = t.serial; value = v }) })
   yielded t i one step later v word silent =
-      let path : its_path (code own) s t.step ≡ whole = ap (its_path (code own) s) step ∙ ap (seen (has_left s.steps)) (path-none (code own) (its_env (code own) s) s.steps) in
+      let path : its_path (code own) s t.step ≡ whole = ap (its_path (code own) s) step ∙ ap (seen (has_published s.steps)) (path-none (code own) (its_env (code own) s) s.steps) in
       let means : Allows (definitions own) (what.Publish v) (its_path (code own) s t.step) (term_of (code own) s t) = subst (λ z. Allows (definitions own) z (its_path (code own) s t.step) (term_of (code own) s t)) word (its_meaning own of s L t i) in
       let row : token_row (code own) s t ≡ stands t.serial (param (Is v)) whole = λ j. stands t.serial (means.1 j) (path j) in
       over_with (Some (record { mark = t.serial; value = v }))

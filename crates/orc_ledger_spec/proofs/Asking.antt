@@ -17,7 +17,7 @@ use Rattle.orc_env.specs.Scopes.{close, env_of}
 use Rattle.orc_indexes.specs.Same.{weight, only, None}
 use Rattle.orc_frames.specs.Spelling.{Path, whole, Row, stands, pends, Numbered, right_of, left_of, marks, sides, seen}
 use Rattle.orc_ledger_spec.specs.Records.{Records, Lawful, context, its_env, its_path, rows_of, sides_of, token_row, call_row, side_at, group_side, is_over, token_out, call_out, has_serial, counts, is_written}
-use Rattle.orc_frames.specs.Paths.{path, has_left, standing, is_out, step_out}
+use Rattle.orc_frames.specs.Paths.{path, has_published, standing, is_out, step_out}
 use Rattle.orc_ledger_spec.specs.Calls.{Exchanges}
 use Rattle.orc_tables.specs.declared.records.Standing.TheVariants.{On}
 use Rattle.orc_tables.specs.declared.records.Token.{Token}
@@ -35,7 +35,7 @@ use Rattle.orc_ledger_spec.proofs.Sound.{none-tries, entered_less}
 
 module _ (l : Listing) (sites : List Site) (s : Records) (L : Lawful l sites s) (s' : Records) (ts ts' : List Token) (cs cs' : List Call) (made : ℕ) (e : Entry) (T : Exchanges s s' ts ts' cs cs' made e) where
   path_same : (j : ℕ) → its_path (code l) s' j ≡ its_path (code l) s j
-  path_same j = λ i. seen (has_left (T.steps i)) (path (code l) (env_of (T.cells i) (T.scopes i)) (T.steps i) j)
+  path_same j = λ i. seen (has_published (T.steps i)) (path (code l) (env_of (T.cells i) (T.scopes i)) (T.steps i) j)
 
   row_same : (u : Token) → token_row (code l) s' u ≡ token_row (code l) s u
   row_same u = λ i. stands u.serial (standing (code l) (env_of (T.cells i) (T.scopes i)) u.standing) (path_same u.step i)
@@ -58,7 +58,7 @@ module _ (l : Listing) (sites : List Site) (s : Records) (L : Lawful l sites s) 
 
   over_same : (k : Side) → is_over (code l) s' k ≡ is_over (code l) s k
   over_same (Right d) = refl
-  over_same (Left m f sc) = ap (λ z. has_left z m) T.steps
+  over_same (Left m f sc) = ap (λ z. has_published z m) T.steps
 
   side_same : (v : Numbered → ℕ) (j : ℕ) (k : Side) → v (side_at (code l) s' (its_path (code l) s' j) k) ≡ v (side_at (code l) s (its_path (code l) s j) k)
   side_same v j (Right d) = ap (λ p. v (right_of d p)) (path_same j)

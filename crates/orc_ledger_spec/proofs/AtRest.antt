@@ -17,7 +17,7 @@ use Rattle.orc_env.specs.Scopes.{current, env_of, given}
 use Rattle.orc_indexes.specs.Same.{weight}
 use Rattle.orc_frames.specs.Spelling.{Path, whole, feeding, aiding, trying, Row, stands, pends}
 use Rattle.orc_ledger_spec.specs.Records.{Records, Sound, Lawful, token_row, token_out, its_env, its_path, is_settled}
-use Rattle.orc_frames.specs.Paths.{has_left, standing}
+use Rattle.orc_frames.specs.Paths.{has_published, standing}
 use Rattle.orc_ledger_spec.specs.Calls.{Turns, Crosses, Drops}
 use Rattle.orc_frames.specs.Doing.{taken, what_by, is_wait}
 use Rattle.orc_ledger_spec.specs.Doing.{term_of}
@@ -129,7 +129,7 @@ module _ (l : Listing) (sites : List Site) (s : Records) (L : Lawful l sites s) 
   in_range u at = none-in (token_out (length s.scopes) (length s.steps)) s.tokens u L.sound.tokens at
 
   pub turns-terms : (t : Token) (i : IsIn t s.tokens) (births : List Token) (ss : List Scope) (ps : List Step) (gs : List Group) (cs : List Bound) (e : Entry) → Turns s s' t births ss ps gs cs e
-      → ((n : ℕ) → has_left ps n ≡ false) → ((b : Bound) → current s'.cells b ≡ current s.cells b) → SameTerms (code l) s s'
+      → ((n : ℕ) → has_published ps n ≡ false) → ((b : Bound) → current s'.cells b ≡ current s.cells b) → SameTerms (code l) s s'
   turns-terms t i births ss ps gs cs e T fresh plain u at = ap term_in (row_same l sites s L t i s' births ss ps gs cs e T fresh plain u (in_range u at))
 
   pub crosses-terms : (t : Token) (i : IsIn t s.tokens) (births : List Token) (ss : List Scope) (ns : List ℕ) (e : Entry) → Crosses s s' t births ss ns e → SameTerms (code l) s s'

@@ -20,7 +20,7 @@ use Rattle.orc_env.specs.declared.names.Bound.TheVariants as bound
 use Rattle.orc_indexes.specs.Same.{weight, only, but, None}
 use Rattle.orc_frames.specs.Spelling.{Path, whole, feeding, aiding, trying, Row, stands, pends, Numbered, right_of, left_of, marks, sides, inside}
 use Rattle.orc_ledger_spec.specs.Records.{Records, Lawful, context, its_env, raw_path, its_path, side_at, group_side, is_over, rows_of, sides_of, token_row, call_row, counts}
-use Rattle.orc_frames.specs.Paths.{has_left, standing}
+use Rattle.orc_frames.specs.Paths.{has_published, standing}
 use Rattle.orc_ledger_spec.specs.Calls.{Drops, AreCancelled, token_goes, call_goes}
 use Rattle.orc_tables.specs.PendingCalls.{has_number}
 use Rattle.orc_tables.specs.declared.records.Token.{Token}
@@ -187,7 +187,7 @@ module _ (l : Listing) (sites : List Site) (s : Records) (L : Lawful l sites s) 
     pub groups : None (λ (g : Group). inside c (raw_path (code l) s g.outer)) s.groups
 
   its-inside : (c i : ℕ) → inside c (raw_path (code l) s i) ≡ false → inside c (its_path (code l) s i) ≡ false
-  its-inside c i h = inside-seen c (has_left s.steps) (raw_path (code l) s i) ∙ h
+  its-inside c i h = inside-seen c (has_published s.steps) (raw_path (code l) s i) ∙ h
 
   pub no-rows : (c : ℕ) → IsEmpty c → weight (row_in c) (marks whole L.place.marked) ≡ 0
   no-rows c E =

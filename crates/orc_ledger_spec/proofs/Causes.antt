@@ -18,7 +18,7 @@ use Rattle.orc_env.specs.Scopes.{close}
 use Rattle.orc_indexes.specs.Same.{weight}
 use Rattle.orc_frames.specs.Spelling.{Path, whole, feeding, aiding, trying, marks, sides, inside, within}
 use Rattle.orc_ledger_spec.specs.Records.{Records, Lawful, context, its_env, its_path, side_at, is_over}
-use Rattle.orc_frames.specs.Paths.{has_left}
+use Rattle.orc_frames.specs.Paths.{has_published}
 use Rattle.orc_frames.specs.Taking.{taker}
 use Rattle.orc_frames.specs.Doing.{taken, is_wait, names, Asks, Allows}
 use Rattle.orc_ledger_spec.specs.Doing.{term_of, what_of}
@@ -70,7 +70,7 @@ module _ (l : Listing) (sites : List Site) (s : Records) (L : Lawful l sites s) 
         (o.left, o.right, (cells_of k [], subst (λ m. Replaces (in_opened o.left c o.right) (in_opened o.left c o.right) m (cells_of k []) m) here_is (replaced k here)), empty-halted (aiding c (path_of k)) o.right none_rows none_sides)
 
     -- the left side of otherwise n has halted
-    pub left-over : (n f scope : ℕ) → g.side ≡ Left n f scope → has_left s.steps n ≡ false → try.IsEmpty l sites s L n → (m : Marked) × (h : Term) × Stands (in_other n m h) L.place.marked × Halted (erase m)
+    pub left-over : (n f scope : ℕ) → g.side ≡ Left n f scope → has_published s.steps n ≡ false → try.IsEmpty l sites s L n → (m : Marked) × (h : Term) × Stands (in_other n m h) L.place.marked × Halted (erase m)
     left-over n f scope side live E =
         let G = close (its_env (code l) s scope) (code l f) in
         let over : is_over (code l) s g.side ≡ false = ap (is_over (code l) s) side ∙ live in
@@ -90,7 +90,7 @@ module _ (l : Listing) (sites : List Site) (s : Records) (L : Lawful l sites s) 
           leads_by (entry.Lost c) L.spells.none_due (o.0, o.1, o.2) tt tt tt tt (o.0, o.1, o.2, o.3)
 
       -- or the right side of the otherwise starts
-      pub right-leads : (m f scope : ℕ) → g.side ≡ Left m f scope → has_left s.steps m ≡ false → (q : Place) × Leads (context l sites) L.place (entry.Right m s.next_mark) q
+      pub right-leads : (m f scope : ℕ) → g.side ≡ Left m f scope → has_published s.steps m ≡ false → (q : Place) × Leads (context l sites) L.place (entry.Right m s.next_mark) q
       right-leads m f scope side live =
           let o = left-over m f scope side live (left-empty l sites s L n G g i empty m f scope side live) in
           leads_by (entry.Right m s.next_mark) L.spells.none_due (o.0, o.1, o.2) tt (sym L.spells.mark) tt tt (o.0, o.1, o.2, o.3)

@@ -10,7 +10,7 @@ use Rattle.orc_env.specs.Scopes.{close, env_of}
 use Rattle.orc_indexes.specs.Same.{weight, only, None}
 use Rattle.orc_frames.specs.Spelling.{Row, stands, pends, Numbered, right_of, left_of, seen}
 use Rattle.orc_ledger_spec.specs.Records.{Records, Lawful, context, its_path, rows_of, sides_of, token_row, call_row, side_at, group_side, is_over, is_settled, group_out, has_serial, counts}
-use Rattle.orc_frames.specs.Paths.{path, has_left, standing, step_out, entered_out}
+use Rattle.orc_frames.specs.Paths.{path, has_published, standing, step_out, entered_out}
 use Rattle.orc_ledger_spec.specs.Calls.{Closes}
 use Rattle.orc_ledger_spec.specs.Next.{AreGrouped, numbers_of, IsSide}
 use Rattle.orc_tables.specs.declared.records.Frame.{Frame}
@@ -24,7 +24,7 @@ use Rattle.orc_indexes.proofs.Weight.{weight-append, weight-map, weight-filter, 
 
 module _ (l : Listing) (sites : List Site) (s : Records) (L : Lawful l sites s) (g : Group) (over : is_over (code l) s g.side ≡ true) (s' : Records) (T : Closes s s' g) where
   path_same : (j : ℕ) → its_path (code l) s' j ≡ its_path (code l) s j
-  path_same j = λ i. seen (has_left (T.steps i)) (path (code l) (env_of (T.cells i) (T.scopes i)) (T.steps i) j)
+  path_same j = λ i. seen (has_published (T.steps i)) (path (code l) (env_of (T.cells i) (T.scopes i)) (T.steps i) j)
 
   row_same : (u : Token) → token_row (code l) s' u ≡ token_row (code l) s u
   row_same u = λ i. stands u.serial (standing (code l) (env_of (T.cells i) (T.scopes i)) u.standing) (path_same u.step i)
@@ -47,7 +47,7 @@ module _ (l : Listing) (sites : List Site) (s : Records) (L : Lawful l sites s) 
 
   over_same : (k : Side) → is_over (code l) s' k ≡ is_over (code l) s k
   over_same (Right d) = refl
-  over_same (Left m f sc) = ap (λ z. has_left z m) T.steps
+  over_same (Left m f sc) = ap (λ z. has_published z m) T.steps
 
   side_same : (v : Numbered → ℕ) (j : ℕ) (k : Side) → v (side_at (code l) s' (its_path (code l) s' j) k) ≡ v (side_at (code l) s (its_path (code l) s j) k)
   side_same v j (Right d) = ap (λ p. v (right_of d p)) (path_same j)

@@ -10,7 +10,7 @@ use Rattle.orc_env.proofs.Filling.{fill_env, env_of-fill, closed-fill, code-stay
 use Rattle.orc_indexes.specs.Same.{weight, only, but}
 use Rattle.orc_frames.specs.Spelling.{Path, aiding, Row, stands, pends, Numbered, right_of, left_of, inside, seen}
 use Rattle.orc_ledger_spec.specs.Records.{Records, Sound, its_env, raw_path, its_path, rows_of, sides_of, token_row, call_row, side_at, group_side, is_over, is_own, is_settled, token_out, call_out, group_out, has_serial}
-use Rattle.orc_frames.specs.Paths.{has_left, path}
+use Rattle.orc_frames.specs.Paths.{has_published, path}
 use Rattle.orc_ledger_spec.specs.Calls.{Drops, token_goes, call_goes, group_goes, is_inside}
 use Rattle.orc_tables.specs.declared.records.Token.{Token}
 use Rattle.orc_tables.specs.declared.records.Call.{Call}
@@ -43,12 +43,12 @@ module _ (l : Listing) (s s' : Records) (S : Sound s) (c : ℕ) (u : Bound) (D :
 
   pub path' : (i : ℕ) → its_path cd s' i ≡ fill_path c (given u) (its_path cd s i)
   path' i =
-      ap (λ (z : List Step). seen (has_left z) (path cd (its_env cd s') z i)) D.steps
-      ∙ ap (seen (has_left s.steps)) (path-fill cd c u stay (its_env cd s) (its_env cd s') filled_so s.steps i)
-      ∙ seen-fill cd c u stay (its_env cd s) (its_env cd s') filled_so (has_left s.steps) (raw_path cd s i)
+      ap (λ (z : List Step). seen (has_published z) (path cd (its_env cd s') z i)) D.steps
+      ∙ ap (seen (has_published s.steps)) (path-fill cd c u stay (its_env cd s) (its_env cd s') filled_so s.steps i)
+      ∙ seen-fill cd c u stay (its_env cd s) (its_env cd s') filled_so (has_published s.steps) (raw_path cd s i)
 
   inside-its : (i : ℕ) → inside c (raw_path cd s i) ≡ inside c (its_path cd s i)
-  inside-its i = sym (inside-seen c (has_left s.steps) (raw_path cd s i))
+  inside-its i = sym (inside-seen c (has_published s.steps) (raw_path cd s i))
 
   tokens_so : (w : Row → ℕ) (t : Token) → but (token_goes cd c s) (λ r. w (token_row cd s' r)) t ≡ kept c (given u) w (token_row cd s t)
   tokens_so w t =
@@ -79,7 +79,7 @@ module _ (l : Listing) (s s' : Records) (S : Sound s) (c : ℕ) (u : Bound) (D :
 
   over_same : (k : Side) → is_over cd s' k ≡ is_over cd s k
   over_same (Right d) = refl
-  over_same (Left n g scope) = ap (λ (z : List Step). has_left z n) D.steps
+  over_same (Left n g scope) = ap (λ (z : List Step). has_published z n) D.steps
 
   swap : (b e : Bool) (n : ℕ) → cond b 0 (cond e n 0) ≡ cond e (cond b 0 n) 0
   swap true true n = refl

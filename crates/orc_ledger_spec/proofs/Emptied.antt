@@ -11,7 +11,7 @@ use Rattle.orc_rules.specs.Numbered.{Name, mark, cell, once}
 use Rattle.orc_indexes.specs.Same.{weight, only, but, None, is_this}
 use Rattle.orc_frames.specs.Spelling.{Path, whole, inside, within}
 use Rattle.orc_ledger_spec.specs.Records.{Records, Sound, Lawful, its_env, raw_path, its_path, group_side, side_at, is_over}
-use Rattle.orc_frames.specs.Paths.{has_left, is_number}
+use Rattle.orc_frames.specs.Paths.{has_published, enters_left_of}
 use Rattle.orc_ledger_spec.specs.Calls.{is_inside, group_goes}
 use Rattle.orc_tables.specs.Inside.{aids}
 use Rattle.orc_ledger_spec.specs.Homes.{Nest}
@@ -223,24 +223,24 @@ module _ (l : Listing) (sites : List Site) (s : Records) (L : Lawful l sites s) 
         open_least j (Right d) = omega arith
         open_least j (Left m f scope) = omega arith
 
-    pub left-empty : (m f scope : ℕ) → g.side ≡ Left m f scope → has_left s.steps m ≡ false → IsEmptied l sites s L m
+    pub left-empty : (m f scope : ℕ) → g.side ≡ Left m f scope → has_published s.steps m ≡ false → IsEmptied l sites s L m
     left-empty m f scope side live =
         record {
-          tokens = none-of (λ (t : Token). within m (raw_path (code l) s t.step)) s.tokens (no_token (code l) s L.sound n G (within m) (is_number m) (try_test (code l) s m) refl g i unique empty);
-          calls = none-of (λ (t : Call). within m (raw_path (code l) s t.step)) s.calls (no_call (code l) s L.sound n G (within m) (is_number m) (try_test (code l) s m) refl g i unique empty);
-          groups = none-of (λ (t : Group). within m (raw_path (code l) s t.outer)) s.groups (no_group (code l) s L.sound n G (within m) (is_number m) (try_test (code l) s m) refl g i unique empty);
+          tokens = none-of (λ (t : Token). within m (raw_path (code l) s t.step)) s.tokens (no_token (code l) s L.sound n G (within m) (enters_left_of m) (try_test (code l) s m) refl g i unique empty);
+          calls = none-of (λ (t : Call). within m (raw_path (code l) s t.step)) s.calls (no_call (code l) s L.sound n G (within m) (enters_left_of m) (try_test (code l) s m) refl g i unique empty);
+          groups = none-of (λ (t : Group). within m (raw_path (code l) s t.outer)) s.groups (no_group (code l) s L.sound n G (within m) (enters_left_of m) (try_test (code l) s m) refl g i unique empty);
         }
       where
         once_is : (d : ℕ) → m ≡ d → once (mark m) (mark d) ≡ 1
         once_is d e = ap (λ b. cond {A = ℕ} b 1 0) (eq-eqb m d e)
 
-        by_side : (h : Group) (en : Frame) (k : Side) → IsIn h s.groups → h.side ≡ k → IsSide en k → is_number m en ≡ true → n.number h ≡ n.number g
+        by_side : (h : Group) (en : Frame) (k : Side) → IsIn h s.groups → h.side ≡ k → IsSide en k → enters_left_of m en ≡ true → n.number h ≡ n.number g
         by_side h (OtherwiseLeft d) (Left e f' scope') j is fit yes_ =
             let same : m ≡ e = eqb-true m d yes_ ∙ fit in
-            one_group (mark m) h j (side_one (mark m) g (Left m f scope) side live (once_is m refl)) (side_one (mark m) h (Left e f' scope') is (ap (has_left s.steps) (sym same) ∙ live) (once_is e same))
+            one_group (mark m) h j (side_one (mark m) g (Left m f scope) side live (once_is m refl)) (side_one (mark m) h (Left e f' scope') is (ap (has_published s.steps) (sym same) ∙ live) (once_is e same))
         by_side h (OtherwiseLeft d) (Right e) j is fit yes_ = elim fit [ ]
         by_side h (SeqLeft x f' scope') k j is fit yes_ = cc yes_
         by_side h (PruneRight d) k j is fit yes_ = cc yes_
 
-        unique : (h : Group) (p : Step) → IsIn h s.groups → IsSide p.entered h.side → is_number m p.entered ≡ true → n.number h ≡ n.number g
+        unique : (h : Group) (p : Step) → IsIn h s.groups → IsSide p.entered h.side → enters_left_of m p.entered ≡ true → n.number h ≡ n.number g
         unique h p j fit yes_ = by_side h p.entered h.side j refl fit yes_

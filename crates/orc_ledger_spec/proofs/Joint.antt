@@ -18,7 +18,7 @@ use Rattle.orc_rules.specs.Refusal.{HasCall, IsCounted, IsOver}
 use Rattle.orc_rules.proofs.Refusal.{meets_and_leads}
 use Rattle.orc_frames.specs.Spelling.{Path, whole, feeding, aiding, trying, pends, marks}
 use Rattle.orc_ledger_spec.specs.Records.{Records, context, its_path, raw_path}
-use Rattle.orc_frames.specs.Paths.{has_left}
+use Rattle.orc_frames.specs.Paths.{has_published}
 use Rattle.orc_tables.specs.PendingCalls.{has_number}
 use Rattle.orc_ledger_spec.specs.Doing.{term_of, what_of}
 use Rattle.orc_frames.specs.Doing.{what_by}
@@ -109,7 +109,7 @@ module _ (l : Listing) (sites : List Site) (counts : List (List ℕ × ℕ)) (si
       let L = K.lawful in
       let dead = right-dead l sites s L c f g _ _ cs r halted in
       let grp = right-group l sites s L c (right-some l sites s L c f g _ _ cs r halted) in
-      let seen_in = λ (i : ℕ). inside-seen c (has_left s.steps) (raw_path (code l) s i) in
+      let seen_in = λ (i : ℕ). inside-seen c (has_published s.steps) (raw_path (code l) s i) in
       record {
         group = grp.0;
         is_open = grp.1;
@@ -125,7 +125,7 @@ module _ (l : Listing) (sites : List Site) (counts : List (List ℕ × ℕ)) (si
       let L = K.lawful in
       let dead = left-dead l sites s L n f g _ _ cs r halted in
       let grp = left-group l sites s L n (left-some l sites s L n f g _ _ cs r halted) in
-      let seen_in = λ (i : ℕ). within-seen n (has_left s.steps) (raw_path (code l) s i) grp.5 in
+      let seen_in = λ (i : ℕ). within-seen n (has_published s.steps) (raw_path (code l) s i) grp.5 in
       record {
         group = grp.0;
         is_open = grp.1;

@@ -22,7 +22,7 @@ use Rattle.orc_env.proofs.Closing.{close-stop, close-par, close-seq, close-prune
 use Rattle.orc_indexes.specs.Same.{weight, only, None}
 use Rattle.orc_frames.specs.Spelling.{feeding, aiding, trying, stands, right_of, left_of}
 use Rattle.orc_ledger_spec.specs.Records.{Records, Lawful, context, its_env, its_path, token_row, group_side, token_out, group_out, is_own, is_settled, has_serial}
-use Rattle.orc_frames.specs.Paths.{has_left, standing, is_out, step_out}
+use Rattle.orc_frames.specs.Paths.{has_published, standing, is_out, step_out}
 use Rattle.orc_tables.specs.Steps.{group_at, depth_at}
 use Rattle.orc_ledger_spec.specs.Calls.{Turns, born, IsEnded, IsForked, IsFed, IsTried, IsOpened}
 use Rattle.orc_tables.specs.declared.records.Standing.TheVariants.{At}
@@ -133,7 +133,7 @@ module _ (l : Listing) (sites : List Site) (s : Records) (L : Lawful l sites s) 
       (T.groups (only (λ g. is_settled s'.cells g.side) (λ g. 1)) ∙ settled_same s' (T.cells ∙ append-nil s.cells))
       (λ m h. absurd (omega (arith, h))) (λ m. omega arith))
 
-  module _ (s' : Records) (births : List Token) (ss : List Scope) (ps : List Step) (gs : List Group) (cs : List Bound) (E : Entry) (T : Turns s s' t births ss ps gs cs E) (fresh : (n : ℕ) → has_left ps n ≡ false) (plain : (b : Bound) → current s'.cells b ≡ current s.cells b) where
+  module _ (s' : Records) (births : List Token) (ss : List Scope) (ps : List Step) (gs : List Group) (cs : List Bound) (E : Entry) (T : Turns s s' t births ss ps gs cs E) (fresh : (n : ℕ) → has_published ps n ≡ false) (plain : (b : Bound) → current s'.cells b ≡ current s.cells b) where
     env_there : its_env cd s' scope ≡ e
     env_there = env_same l sites s L t i s' births ss ps gs cs E T fresh plain scope scope_there
 
@@ -227,10 +227,10 @@ module _ (l : Listing) (sites : List Site) (s : Records) (L : Lawful l sites s) 
       let leads : Leads (context l sites) L.place E q = (inr L.spells.none_due, (A, B, sym L.spells.mark, record { inside = cells_of fo.around []; part = becomes (other A B) new (ap (close e) form ∙ close-other e (cd f) (cd g)); same = refl })) in
       let env : its_env cd s' scope ≡ e = env_there s' births [] ps gs [] E T (λ n. refl) plain in
       let own_serial : 1 ≤ weight (has_serial t.serial) s.tokens = omega (arith, weight-in (has_serial t.serial) s.tokens t i, once_same (mark t.serial) (mark t.serial) refl) in
-      let new_number : has_left s.steps t.serial ≡ false = none-left t.serial s.steps (L.sound.apart t.serial own_serial) in
+      let new_number : has_published s.steps t.serial ≡ false = none-left t.serial s.steps (L.sound.apart t.serial own_serial) in
       let path : its_path cd s' last ≡ trying t.serial (its_path cd s t.step) = new_path l sites s L t i s' births [] ps gs [] E T (λ n. refl) plain step refl ∙ ap (λ b. cond b (its_path cd s t.step) (trying t.serial (its_path cd s t.step))) new_number in
       let row : token_row cd s' (born s t n f scope last) ≡ stands n A (trying t.serial (its_path cd s t.step)) = λ j. stands n (close (env j) (cd f)) (path j) in
-      let over : not (has_left s'.steps t.serial) ≡ true = ap not (left_same l sites s L t i s' births [] ps gs [] E T (λ n. refl) plain t.serial ∙ new_number) in
+      let over : not (has_published s'.steps t.serial) ≡ true = ap not (left_same l sites s L t i s' births [] ps gs [] E T (λ n. refl) plain t.serial ∙ new_number) in
       let side : group_side cd s' group ≡ left_of t.serial B (its_path cd s t.step) = λ j. left_of t.serial (close (env j) (cd g)) (path_there s' births [] ps gs [] E T (λ n. refl) plain j) in
       let scope_fits = scope_in s' births [] ps gs [] E T (λ n. refl) plain in
       let out : token_out (length s'.scopes) (length s'.steps) (born s t n f scope last) ≡ false = both_false (nat_lt (length s'.scopes) scope) (nat_lt (length s'.steps) last) scope_fits (out_of (length s'.steps) last (omega (arith, more_steps l sites s L t i s' births [] ps gs [] E T (λ n. refl) plain))) in

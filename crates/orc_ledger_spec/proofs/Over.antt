@@ -13,7 +13,7 @@ use Rattle.orc_rules.proofs.Idle.{halted_test}
 use Rattle.orc_indexes.specs.Same.{weight, only}
 use Rattle.orc_frames.specs.Spelling.{Path, whole, feeding, aiding, trying, Row, stands, pends, marks, sides}
 use Rattle.orc_ledger_spec.specs.Records.{Records, Lawful, its_path, token_row, call_row, group_side, side_at, is_over}
-use Rattle.orc_frames.specs.Paths.{has_left}
+use Rattle.orc_frames.specs.Paths.{has_published}
 use Rattle.orc_ledger_spec.specs.Doing.{term_of}
 use Rattle.orc_tables.specs.declared.records.Token.{Token}
 use Rattle.orc_tables.specs.declared.records.Call.{Call}
@@ -191,14 +191,14 @@ module _ (l : Listing) (sites : List Site) (s : Records) (L : Lawful l sites s) 
   right_is c p (Right d) h = ap Right (sym (once_is c d h))
   right_is c p (Left m f scope) h = absurd (omega (arith, h))
 
-  left_is : (n : ℕ) (p : Path) (k : Side) → is_over (code l) s k ≡ false → 1 ≤ is_side (mark n) (side_at (code l) s p k) → (f : ℕ) × (scope : ℕ) × (k ≡ Left n f scope) × (has_left s.steps n ≡ false)
+  left_is : (n : ℕ) (p : Path) (k : Side) → is_over (code l) s k ≡ false → 1 ≤ is_side (mark n) (side_at (code l) s p k) → (f : ℕ) × (scope : ℕ) × (k ≡ Left n f scope) × (has_published s.steps n ≡ false)
   left_is n p (Right d) over h = absurd (omega (arith, h))
-  left_is n p (Left m f scope) over h = let same : n ≡ m = once_is n m h in (f, scope, ap (λ z. Left z f scope) (sym same), ap (has_left s.steps) same ∙ over)
+  left_is n p (Left m f scope) over h = let same : n ≡ m = once_is n m h in (f, scope, ap (λ z. Left z f scope) (sym same), ap (has_published s.steps) same ∙ over)
 
   pub right-group : (c : ℕ) → 1 ≤ weight (is_side (cell c)) (sides whole L.place.marked) → (g : Group) × IsIn g s.groups × (g.side ≡ Right c)
   right-group c some = let d = a_group (cell c) some in (d.0, d.1, right_is c (its_path (code l) s d.0.outer) d.0.side d.3)
 
-  pub left-group : (n : ℕ) → 1 ≤ weight (is_side (mark n)) (sides whole L.place.marked) → (g : Group) × IsIn g s.groups × (f : ℕ) × (scope : ℕ) × (g.side ≡ Left n f scope) × (has_left s.steps n ≡ false)
+  pub left-group : (n : ℕ) → 1 ≤ weight (is_side (mark n)) (sides whole L.place.marked) → (g : Group) × IsIn g s.groups × (f : ℕ) × (scope : ℕ) × (g.side ≡ Left n f scope) × (has_published s.steps n ≡ false)
   left-group n some =
       let d = a_group (mark n) some in
       let k = left_is n (its_path (code l) s d.0.outer) d.0.side d.2 d.3 in

@@ -13,7 +13,7 @@ use Rattle.orc_env.proofs.Scopes.{env-kept}
 use Rattle.orc_indexes.specs.Same.{weight, only, None}
 use Rattle.orc_frames.specs.Spelling.{Path, whole, feeding, aiding, trying, Row, stands, pends, Numbered, right_of, left_of, seen}
 use Rattle.orc_ledger_spec.specs.Records.{Records, Sound, Lawful, its_env, raw_path, its_path, rows_of, sides_of, token_row, call_row, side_at, group_side, is_over, token_out, call_out, side_out, group_out, has_serial}
-use Rattle.orc_frames.specs.Paths.{paths_from, inwards, has_left, standing, is_out, step_out, entered_out, is_number, tries}
+use Rattle.orc_frames.specs.Paths.{paths_from, inwards, has_published, standing, is_out, step_out, entered_out, enters_left_of, tries}
 use Rattle.orc_ledger_spec.specs.Calls.{Crosses}
 use Rattle.orc_frames.specs.Taking.{left_all, bare}
 use Rattle.orc_tables.specs.declared.records.Frame.{Frame}
@@ -125,9 +125,9 @@ module _ (l : Listing) (sites : List Site) (s : Records) (L : Lawful l sites s) 
 
   pub path_crossed : (j : ℕ) → its_path cd s' j ≡ cross_all ns (its_path cd s j)
   path_crossed j =
-      ap (seen (has_left s'.steps)) (raw_same j)
+      ap (seen (has_published s'.steps)) (raw_same j)
       ∙ ap (λ (z : ℕ → Bool). seen z (raw_path cd s j)) (λ k n. T.steps.left n k)
-      ∙ seen-all ns (has_left s.steps) (raw_path cd s j)
+      ∙ seen-all ns (has_published s.steps) (raw_path cd s j)
 
   pub row_crossed : (u : Token) → token_out (length s.scopes) (length s.steps) u ≡ false → token_row cd s' u ≡ cross_rows ns (token_row cd s u)
   row_crossed u h =
@@ -159,7 +159,7 @@ module _ (l : Listing) (sites : List Site) (s : Records) (L : Lawful l sites s) 
   side_crossed v j (Right c) h = ap (λ p. v (right_of c p)) (path_crossed j) ∙ sym (right-all ns v c (its_path cd s j))
   side_crossed v j (Left n g scope) h =
       (λ k. cond (not (T.steps.left n k)) (v (left_of n (close (env_same scope (ltb-false (length s.scopes) scope h) k) (cd g)) (path_crossed j k))) 0)
-      ∙ left-side-all ns (has_left s.steps) v n (close (its_env cd s scope) (cd g)) (its_path cd s j)
+      ∙ left-side-all ns (has_published s.steps) v n (close (its_env cd s scope) (cd g)) (its_path cd s j)
 
   pub sides_crossed : (v : Numbered → ℕ) → weight v (sides_of cd s') ≡ weight (leave_all ns v) (sides_of cd s)
   sides_crossed v =
@@ -177,7 +177,7 @@ module _ (l : Listing) (sites : List Site) (s : Records) (L : Lawful l sites s) 
       → ((m : ℕ) → 1 ≤ weight (has_serial m) births → s.next_mark ≤ m)
       → Sound s'
   sound_crossed births_in scope later =
-      let tries_same : (m : ℕ) → weight (tries m) s'.steps ≡ weight (tries m) s.steps = λ m. bare-weight (λ z. cond (is_number m z) 1 0) s.steps s'.steps T.steps.alike in
+      let tries_same : (m : ℕ) → weight (tries m) s'.steps ≡ weight (tries m) s.steps = λ m. bare-weight (λ z. cond (enters_left_of m z) 1 0) s.steps s'.steps T.steps.alike in
       record {
         tokens =
             let old : None (token_out (length s'.scopes) (length s'.steps)) s.tokens = none-weaker (token_out (length s.scopes) (length s.steps)) (token_out (length s'.scopes) (length s'.steps)) s.tokens L.sound.tokens (λ u k.

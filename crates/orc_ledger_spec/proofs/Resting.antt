@@ -14,7 +14,7 @@ use Rattle.orc_rules.proofs.Counts.{moves_by_count}
 use Rattle.orc_indexes.specs.Same.{weight, only}
 use Rattle.orc_frames.specs.Spelling.{Path, whole, feeding, aiding, trying, Row, Numbered, right_of, left_of, marks, sides, inside, seen, within}
 use Rattle.orc_ledger_spec.specs.Records.{Records, Lawful, raw_path, its_path, its_env, token_row, call_row, group_side, side_at, is_over}
-use Rattle.orc_frames.specs.Paths.{has_left, is_number, inwards}
+use Rattle.orc_frames.specs.Paths.{has_published, enters_left_of, inwards}
 use Rattle.orc_tables.specs.Inside.{aids}
 use Rattle.orc_ledger_spec.specs.Doing.{what_of, term_of}
 use Rattle.orc_frames.specs.Doing.{is_wait, moves_marks}
@@ -31,7 +31,7 @@ use Rattle.orc_frames.proofs.Around.{is_row, by, by-self}
 use Rattle.orc_frames.proofs.Equal.{same_row}
 use Rattle.orc_ledger_spec.proofs.Filled.{inside-seen}
 use Rattle.orc_ledger_spec.proofs.Lists.{numbered, rows-weigh, sides-weigh, times-cells, is_right}
-use Rattle.orc_frames.proofs.Finding.{times-marks, is_left}
+use Rattle.orc_frames.proofs.Finding.{times-marks, has_published_at}
 use Rattle.orc_ledger_spec.proofs.Offers.{its_source, it_waits}
 use Rattle.orc_frames.proofs.Still.{in_name, row_at, is_side, IsStill, AreStill, AreFull, not_halted, none_moves}
 use Rattle.orc_ledger_spec.proofs.Someone.{someone, all_full, IsTest, inn, inn-step, Somebody}
@@ -70,10 +70,10 @@ aid_test code s c = record { frame = λ e p. by_entered e p; feeds = λ x g scop
         go true = refl
         go false = refl
 
-pub try_test : (code : ℕ → Term) (s : Records) (n : ℕ) → IsTest code s (within n) (is_number n)
+pub try_test : (code : ℕ → Term) (s : Records) (n : ℕ) → IsTest code s (within n) (enters_left_of n)
 try_test code s n = record { frame = λ e p. by_entered e p; feeds = λ x g scope. refl }
   where
-    by_entered : (e : Frame) (p : Path) → within n (inwards code (its_env code s) e p) ≡ (is_number n e || within n p)
+    by_entered : (e : Frame) (p : Path) → within n (inwards code (its_env code s) e p) ≡ (enters_left_of n e || within n p)
     by_entered (SeqLeft x g scope) p = refl
     by_entered (PruneRight d) p = refl
     by_entered (OtherwiseLeft m) p = go (nat_eq n m)
@@ -134,7 +134,7 @@ module _ (l : Listing) (sites : List Site) (s : Records) (L : Lawful l sites s) 
   side_cell c (right_of d p) = refl
   side_cell c (left_of m g p) = refl
 
-  side_mark : (c : ℕ) (v : Numbered) → is_side (mark c) v ≡ is_left c v
+  side_mark : (c : ℕ) (v : Numbered) → is_side (mark c) v ≡ has_published_at c v
   side_mark c (right_of d p) = refl
   side_mark c (left_of m g p) = refl
 
@@ -144,7 +144,7 @@ module _ (l : Listing) (sites : List Site) (s : Records) (L : Lawful l sites s) 
 
   pub side_once : (nm : Name) → weight (is_side nm) (sides whole L.place.marked) ≤ 1
   side_once (cell c) = omega (arith, weight-same (is_side (cell c)) (is_right c) (sides whole L.place.marked) (side_cell c), times-cells c whole L.place.marked, (numbered l sites s L).single (cell c))
-  side_once (mark c) = omega (arith, weight-same (is_side (mark c)) (is_left c) (sides whole L.place.marked) (side_mark c), times-marks c whole L.place.marked, (numbered l sites s L).single (mark c))
+  side_once (mark c) = omega (arith, weight-same (is_side (mark c)) (has_published_at c) (sides whole L.place.marked) (side_mark c), times-marks c whole L.place.marked, (numbered l sites s L).single (mark c))
   side_once (called c) = omega (arith, weight-none (is_side (called c)) (sides whole L.place.marked) (side_call c))
 
   -- each open side has somebody in it
@@ -173,7 +173,7 @@ module _ (l : Listing) (sites : List Site) (s : Records) (L : Lawful l sites s) 
     right_full : (c : ℕ) (g : Group) → IsIn g s.groups → g.side ≡ Right c → 1 ≤ weight (row_at (cell c)) (marks whole L.place.marked)
     right_full c g i e =
         some_row (cell c)
-        (⊎_elim (λ a. inl (a.0, a.1, inside-seen c (has_left s.steps) (raw_path (code l) s a.0.step) ∙ a.2)) (λ a. inr (a.0, a.1, inside-seen c (has_left s.steps) (raw_path (code l) s a.0.step) ∙ a.2))
+        (⊎_elim (λ a. inl (a.0, a.1, inside-seen c (has_published s.steps) (raw_path (code l) s a.0.step) ∙ a.2)) (λ a. inr (a.0, a.1, inside-seen c (has_published s.steps) (raw_path (code l) s a.0.step) ∙ a.2))
         (in_side (inside c) (aids c) (aid_test (code l) s c) g i (λ en h. fits en (subst (IsSide en) e h))))
       where
         fits : (en : Frame) → IsSide en (Right c) → aids c en ≡ true
@@ -181,13 +181,13 @@ module _ (l : Listing) (sites : List Site) (s : Records) (L : Lawful l sites s) 
         fits (PruneRight d) h = eq-eqb c d (sym h)
         fits (OtherwiseLeft m) h = elim h [ ]
 
-    left_full : (m f scope : ℕ) (g : Group) → IsIn g s.groups → g.side ≡ Left m f scope → has_left s.steps m ≡ false → 1 ≤ weight (row_at (mark m)) (marks whole L.place.marked)
+    left_full : (m f scope : ℕ) (g : Group) → IsIn g s.groups → g.side ≡ Left m f scope → has_published s.steps m ≡ false → 1 ≤ weight (row_at (mark m)) (marks whole L.place.marked)
     left_full m f scope g i e going =
         some_row (mark m)
-        (⊎_elim (λ a. inl (a.0, a.1, within-seen m (has_left s.steps) (raw_path (code l) s a.0.step) going ∙ a.2)) (λ a. inr (a.0, a.1, within-seen m (has_left s.steps) (raw_path (code l) s a.0.step) going ∙ a.2))
-        (in_side (within m) (is_number m) (try_test (code l) s m) g i (λ en h. fits en (subst (IsSide en) e h))))
+        (⊎_elim (λ a. inl (a.0, a.1, within-seen m (has_published s.steps) (raw_path (code l) s a.0.step) going ∙ a.2)) (λ a. inr (a.0, a.1, within-seen m (has_published s.steps) (raw_path (code l) s a.0.step) going ∙ a.2))
+        (in_side (within m) (enters_left_of m) (try_test (code l) s m) g i (λ en h. fits en (subst (IsSide en) e h))))
       where
-        fits : (en : Frame) → IsSide en (Left m f scope) → is_number m en ≡ true
+        fits : (en : Frame) → IsSide en (Left m f scope) → enters_left_of m en ≡ true
         fits (SeqLeft x g scope) h = elim h [ ]
         fits (PruneRight d) h = elim h [ ]
         fits (OtherwiseLeft j) h = eq-eqb m j (sym h)

@@ -12,7 +12,7 @@ use Rattle.orc_env.specs.Scopes.{close, env_of}
 use Rattle.orc_indexes.specs.Same.{weight, only, None}
 use Rattle.orc_frames.specs.Spelling.{Path, whole, feeding, aiding, trying, Row, stands, pends, Numbered, right_of, left_of, marks, sides, seen, within}
 use Rattle.orc_ledger_spec.specs.Records.{Records, Lawful, context, its_env, raw_path, its_path, rows_of, sides_of, token_row, call_row, side_at, group_side, is_over, token_out, side_out, group_out, is_settled, has_serial, counts}
-use Rattle.orc_frames.specs.Paths.{path, has_left, standing, step_out}
+use Rattle.orc_frames.specs.Paths.{path, has_published, standing, step_out}
 use Rattle.orc_ledger_spec.specs.Calls.{Resumes}
 use Rattle.orc_tables.specs.declared.records.Standing.TheVariants.{At}
 use Rattle.orc_tables.specs.declared.records.Token.{Token}
@@ -90,7 +90,7 @@ module _ (l : Listing) (sites : List Site) (s : Records) (L : Lawful l sites s) 
     pub groups : None (λ (g : Group). within n (raw_path (code l) s g.outer)) s.groups
 
   its-outside : (n i : ℕ) → within n (raw_path (code l) s i) ≡ false → within n (its_path (code l) s i) ≡ false
-  its-outside n i h = outside-seen n (has_left s.steps) (raw_path (code l) s i) h
+  its-outside n i h = outside-seen n (has_published s.steps) (raw_path (code l) s i) h
 
   pub no-rows : (n : ℕ) → IsEmpty n → weight (row_in n) (marks whole L.place.marked) ≡ 0
   no-rows n E =
@@ -123,7 +123,7 @@ module _ (l : Listing) (sites : List Site) (s : Records) (L : Lawful l sites s) 
     env_same j = λ i. env_of (T.cells i) (T.scopes i) j
 
     path_same : (j : ℕ) → its_path (code l) s' j ≡ its_path (code l) s j
-    path_same j = λ i. seen (has_left (T.steps i)) (path (code l) (env_of (T.cells i) (T.scopes i)) (T.steps i) j)
+    path_same j = λ i. seen (has_published (T.steps i)) (path (code l) (env_of (T.cells i) (T.scopes i)) (T.steps i) j)
 
     row_same : (u : Token) → token_row (code l) s' u ≡ token_row (code l) s u
     row_same u = λ i. stands u.serial (standing (code l) (env_of (T.cells i) (T.scopes i)) u.standing) (path_same u.step i)
@@ -150,7 +150,7 @@ module _ (l : Listing) (sites : List Site) (s : Records) (L : Lawful l sites s) 
 
     over_same : (k : Side) → is_over (code l) s' k ≡ is_over (code l) s k
     over_same (Right d) = refl
-    over_same (Left m f sc) = ap (λ z. has_left z m) T.steps
+    over_same (Left m f sc) = ap (λ z. has_published z m) T.steps
 
     side_same : (v : Numbered → ℕ) (j : ℕ) (k : Side) → v (side_at (code l) s' (its_path (code l) s' j) k) ≡ v (side_at (code l) s (its_path (code l) s j) k)
     side_same v j (Right d) = ap (λ p. v (right_of d p)) (path_same j)
@@ -166,7 +166,7 @@ module _ (l : Listing) (sites : List Site) (s : Records) (L : Lawful l sites s) 
           T.groups (only (λ h. not (is_over (code l) s h.side)) (λ h. v (group_side (code l) s h))),
         )
 
-  pub right-lawful : (g : Group) → IsIn g s.groups → (n node scope : ℕ) → g.side ≡ Left n node scope → has_left s.steps n ≡ false → IsEmpty n → s.entries < s.limit → (s' : Records) → Resumes s s' g n node scope → Lawful l sites s'
+  pub right-lawful : (g : Group) → IsIn g s.groups → (n node scope : ℕ) → g.side ≡ Left n node scope → has_published s.steps n ≡ false → IsEmpty n → s.entries < s.limit → (s' : Records) → Resumes s s' g n node scope → Lawful l sites s'
   right-lawful g i n node scope side live E room s' T =
       let x = context l sites in
       let G = close (its_env (code l) s scope) (code l node) in

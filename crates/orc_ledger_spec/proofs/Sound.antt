@@ -15,7 +15,7 @@ use Rattle.orc_env.specs.Scopes.{current}
 use Rattle.orc_indexes.specs.Same.{weight, only, None}
 use Rattle.orc_frames.specs.Spelling.{whole}
 use Rattle.orc_ledger_spec.specs.Records.{Records, Sound, Lawful, token_row, token_out, group_out, is_settled, has_serial}
-use Rattle.orc_frames.specs.Paths.{has_left, step_out, entered_out, tries, is_number}
+use Rattle.orc_frames.specs.Paths.{has_published, step_out, entered_out, tries, enters_left_of}
 use Rattle.orc_ledger_spec.specs.Calls.{Turns}
 use Rattle.orc_tables.specs.declared.records.Frame.{Frame}
 use Rattle.orc_tables.specs.declared.records.Frame.TheVariants.{SeqLeft, PruneRight, OtherwiseLeft}
@@ -67,7 +67,7 @@ none-tries n next m ss le h = none-alike (step_out n next) (tries m) (λ p. 0) s
         lower false f k = cc k
     off j k false e = refl
 
-    by_entered : (e : Frame) → entered_out n next e ≡ false → cond {A = ℕ} (is_number m e) 1 0 ≡ 0
+    by_entered : (e : Frame) → entered_out n next e ≡ false → cond {A = ℕ} (enters_left_of m e) 1 0 ≡ 0
     by_entered (SeqLeft x g scope) k = refl
     by_entered (PruneRight c) k = refl
     by_entered (OtherwiseLeft j) k = off j k (nat_eq m j) refl
@@ -98,7 +98,7 @@ module _ (l : Listing) (sites : List Site) (s : Records) (L : Lawful l sites s) 
       ) in
       omega (arith, (numbered l sites s L).given (mark t.serial) (omega (arith, some)), L.spells.mark)
 
-module _ (l : Listing) (sites : List Site) (s : Records) (L : Lawful l sites s) (t : Token) (i : IsIn t s.tokens) (s' : Records) (births : List Token) (ss : List Scope) (ps : List Step) (gs : List Group) (cs : List Bound) (e : Entry) (T : Turns s s' t births ss ps gs cs e) (fresh : (n : ℕ) → has_left ps n ≡ false) (plain : (b : Bound) → current s'.cells b ≡ current s.cells b) where
+module _ (l : Listing) (sites : List Site) (s : Records) (L : Lawful l sites s) (t : Token) (i : IsIn t s.tokens) (s' : Records) (births : List Token) (ss : List Scope) (ps : List Step) (gs : List Group) (cs : List Bound) (e : Entry) (T : Turns s s' t births ss ps gs cs e) (fresh : (n : ℕ) → has_published ps n ≡ false) (plain : (b : Bound) → current s'.cells b ≡ current s.cells b) where
   apart_turned : ((m : ℕ) → 1 ≤ weight (has_serial m) births → s.next_mark ≤ m) → ((m : ℕ) → weight (tries m) ps ≤ has_serial m t) → (m : ℕ) → 1 ≤ weight (has_serial m) s'.tokens → weight (tries m) s'.steps ≡ 0
   apart_turned later own m h =
       let all : weight (tries m) s'.steps ≡ weight (tries m) s.steps + weight (tries m) ps = ap (weight (tries m)) T.steps ∙ weight-append (tries m) s.steps ps in

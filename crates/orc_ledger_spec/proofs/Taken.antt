@@ -35,7 +35,7 @@ use Rattle.orc_tables.specs.declared.records.Group.{Group}
 use Rattle.orc_tables.specs.declared.records.Step.{Step}
 use Rattle.orc_indexes.proofs.Weight.{weight-append, none-weaker}
 use Rattle.orc_frames.specs.Spelling.{Path, whole, feeding, aiding, trying, Row, stands, pends, Numbered, right_of, left_of, marks, sides, seen}
-use Rattle.orc_frames.specs.Paths.{has_left, is_out, standing, step_out}
+use Rattle.orc_frames.specs.Paths.{has_published, is_out, standing, step_out}
 use Rattle.orc_frames.proofs.Growth.{or_false, path-none}
 use Rattle.orc_frames.proofs.Around.{Around, Found, hole, before, behind, feeds, main_of, side_of, enters, plug, path_of, cells_of, replaced, unit, marks-plug, sides-plug}
 use Rattle.orc_ledger_spec.specs.Records.{Records, Sound, Lawful, context, has_serial, its_env, its_path, token_out, token_row, is_settled, counts}
@@ -276,7 +276,7 @@ module _ (grafted : PartIsGrafted) (stays : ProgramIsStill) (l : Listing) (sites
   hangs = by_left a.left O.yields fits
     where
       outermost : t.step ≡ 0 → path_of f.around ≡ whole
-      outermost h = f.path ∙ ap (its_path cd s) h ∙ ap (seen (has_left s.steps)) (path-none cd (its_env cd s) s.steps)
+      outermost h = f.path ∙ ap (its_path cd s) h ∙ ap (seen (has_published s.steps)) (path-none cd (its_env cd s) s.steps)
 
       silent : AreSilent a.entries → Hangs a.entries (token t.serial (call_of a.definition a.args)) part L.place.marked (plug f.around part)
       silent k =

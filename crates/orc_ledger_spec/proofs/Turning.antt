@@ -16,7 +16,7 @@ use Rattle.orc_env.proofs.Scopes.{env-kept}
 use Rattle.orc_indexes.specs.Same.{weight, only, None}
 use Rattle.orc_frames.specs.Spelling.{whole, Row, stands, pends, Numbered, right_of, left_of, marks, sides, seen}
 use Rattle.orc_ledger_spec.specs.Records.{Records, Sound, Lawful, context, its_env, raw_path, its_path, rows_of, sides_of, token_row, call_row, side_at, group_side, is_over, token_out, call_out, side_out, group_out, counts}
-use Rattle.orc_frames.specs.Paths.{path, inwards, has_left, standing, is_out}
+use Rattle.orc_frames.specs.Paths.{path, inwards, has_published, standing, is_out}
 use Rattle.orc_ledger_spec.specs.Calls.{Turns}
 use Rattle.orc_tables.specs.declared.records.Standing.{Standing}
 use Rattle.orc_tables.specs.declared.records.Standing.TheVariants.{At, On}
@@ -45,7 +45,7 @@ pub out_less : (n n' : ℕ) (st : Standing) → n ≤ n' → is_out n st ≡ fal
 out_less n n' (At node scope) le h = lt_less scope n n' le h
 out_less n n' (On v) le h = refl
 
-module _ (l : Listing) (sites : List Site) (s : Records) (L : Lawful l sites s) (t : Token) (i : IsIn t s.tokens) (s' : Records) (births : List Token) (ss : List Scope) (ps : List Step) (gs : List Group) (cs : List Bound) (e : Entry) (T : Turns s s' t births ss ps gs cs e) (fresh : (n : ℕ) → has_left ps n ≡ false) (plain : (b : Bound) → current s'.cells b ≡ current s.cells b) where
+module _ (l : Listing) (sites : List Site) (s : Records) (L : Lawful l sites s) (t : Token) (i : IsIn t s.tokens) (s' : Records) (births : List Token) (ss : List Scope) (ps : List Step) (gs : List Group) (cs : List Bound) (e : Entry) (T : Turns s s' t births ss ps gs cs e) (fresh : (n : ℕ) → has_published ps n ≡ false) (plain : (b : Bound) → current s'.cells b ≡ current s.cells b) where
   abbrev cd : ℕ → Term
   cd = code l
 
@@ -59,8 +59,8 @@ module _ (l : Listing) (sites : List Site) (s : Records) (L : Lawful l sites s) 
   env_same j h =
       ap (λ z. slice_index_or z j []) (envs-current s.cells s'.cells plain ([] ∷ []) s'.scopes) ∙ ap (λ z. env_of s.cells z j) T.scopes ∙ sym (env-kept s.cells s.scopes ss j h)
 
-  pub left_same : (n : ℕ) → has_left s'.steps n ≡ has_left s.steps n
-  left_same n = ap (λ z. has_left z n) T.steps ∙ left-more n s.steps ps (fresh n)
+  pub left_same : (n : ℕ) → has_published s'.steps n ≡ has_published s.steps n
+  left_same n = ap (λ z. has_published z n) T.steps ∙ left-more n s.steps ps (fresh n)
 
   pub raw_same : (j : ℕ) → j ≤ length s.steps → raw_path cd s' j ≡ raw_path cd s j
   raw_same j h =
@@ -76,16 +76,16 @@ module _ (l : Listing) (sites : List Site) (s : Records) (L : Lawful l sites s) 
   cells_env j = ap (λ z. slice_index_or z j []) (envs-current s.cells s'.cells plain ([] ∷ []) s.scopes)
 
   -- the path of a step that comes
-  pub new_path : (p : Step) → ps ≡ p ∷ [] → its_path cd s' (length s.steps + 1) ≡ seen (has_left s.steps) (inwards cd (its_env cd s') p.entered (raw_path cd s p.outer))
+  pub new_path : (p : Step) → ps ≡ p ∷ [] → its_path cd s' (length s.steps + 1) ≡ seen (has_published s.steps) (inwards cd (its_env cd s') p.entered (raw_path cd s p.outer))
   new_path p one =
-      seen-same (has_left s.steps) (has_left s'.steps) left_same (raw_path cd s' (length s.steps + 1))
-      ∙ ap (seen (has_left s.steps))
+      seen-same (has_published s.steps) (has_published s'.steps) left_same (raw_path cd s' (length s.steps + 1))
+      ∙ ap (seen (has_published s.steps))
       (ap (λ z. path cd (its_env cd s') z (length s.steps + 1)) (T.steps ∙ ap (λ z. s.steps ++ z) one)
       ∙ path-new cd (its_env cd s') s.steps p (length s.steps + 1) refl
       ∙ ap (inwards cd (its_env cd s') p.entered) (raw_env p.outer))
 
   pub path_same : (j : ℕ) → j ≤ length s.steps → its_path cd s' j ≡ its_path cd s j
-  path_same j h = seen-same (has_left s.steps) (has_left s'.steps) left_same (raw_path cd s' j) ∙ ap (seen (has_left s.steps)) (raw_same j h)
+  path_same j h = seen-same (has_published s.steps) (has_published s'.steps) left_same (raw_path cd s' j) ∙ ap (seen (has_published s.steps)) (raw_same j h)
 
   pub row_same : (u : Token) → token_out (length s.scopes) (length s.steps) u ≡ false → token_row cd s' u ≡ token_row cd s u
   row_same u h =

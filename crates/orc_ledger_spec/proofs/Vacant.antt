@@ -19,7 +19,7 @@ use Rattle.orc_tables.specs.declared.records.Side.TheVariants.{Right, Left}
 use Rattle.orc_tables.specs.declared.records.Group.{Group}
 use Rattle.orc_tables.proofs.Placed.{same_some, got-within, got-more, more-got, end-got}
 use Rattle.orc_indexes.proofs.Weight.{weight-append, weight-map, weight-filter, none-alike, none-in}
-use Rattle.orc_frames.specs.Paths.{has_left, is_number, is_out, step_out, standing, tries}
+use Rattle.orc_frames.specs.Paths.{has_published, enters_left_of, is_out, step_out, standing, tries}
 use Rattle.orc_frames.specs.Spelling.{Row, stands, pends, Numbered, right_of, left_of, seen}
 use Rattle.orc_frames.proofs.Growth.{or_false, both_false, left-more, path-kept, seen-same}
 use Rattle.orc_ledger_spec.specs.Brought.{AreBrought}
@@ -33,7 +33,7 @@ use Rattle.orc_ledger_spec.proofs.Nests.{group-kept}
 use Rattle.orc_ledger_spec.proofs.Sizes.{members-kept}
 use Rattle.orc_ledger_spec.proofs.Someone.{some_same}
 
-feed_number : (n : ℕ) (e : Frame) → opens e ≡ false → is_number n e ≡ false
+feed_number : (n : ℕ) (e : Frame) → opens e ≡ false → enters_left_of n e ≡ false
 feed_number n (SeqLeft x g scope) h = refl
 feed_number n (PruneRight c) h = refl
 feed_number n (OtherwiseLeft m) h = cc h
@@ -68,7 +68,7 @@ module _ (s : Records) (p : Step) (V : IsVacant (longer s p)) where
       let off : length all ≡ n → ⊥ = λ e. cc (sym (eq-eqb (length all) n e) ∙ k) in
       omega (arith, ltb-false (length all) n h, off, count)
 
-  left_same : (n : ℕ) → has_left all n ≡ has_left s.steps n
+  left_same : (n : ℕ) → has_published all n ≡ has_published s.steps n
   left_same n = left-more n s.steps (p ∷ []) (ap (λ b. (p.published && b) || false) (feed_number n p.entered feeds) ∙ go p.published)
     where
       go : (b : Bool) → ((b && false) || false) ≡ false
@@ -113,7 +113,7 @@ module _ (s : Records) (p : Step) (V : IsVacant (longer s p)) where
 
     module _ (cd : ℕ → Term) where
       path_same : (j : ℕ) → j ≤ length s.steps → its_path cd (longer s p) j ≡ its_path cd s j
-      path_same j le = seen-same (has_left s.steps) (has_left all) left_same (raw_path cd (longer s p) j) ∙ ap (seen (has_left s.steps)) (path-kept cd (its_env cd s) s.steps (p ∷ []) j le)
+      path_same j le = seen-same (has_published s.steps) (has_published all) left_same (raw_path cd (longer s p) j) ∙ ap (seen (has_published s.steps)) (path-kept cd (its_env cd s) s.steps (p ∷ []) j le)
 
       token_same : (t : Token) → token_out (length s.scopes) (length s.steps) t ≡ false → token_row cd (longer s p) t ≡ token_row cd s t
       token_same t h =

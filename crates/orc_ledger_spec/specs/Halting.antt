@@ -5,7 +5,7 @@ use Rattle.orc_rules.specs.Term.{Term}
 use Rattle.orc_rules.specs.Timed.{IsIn}
 use Rattle.orc_env.specs.declared.names.Bound.TheVariants as bound
 use Rattle.orc_ledger_spec.specs.Records.{Records, is_over}
-use Rattle.orc_frames.specs.Paths.{has_left}
+use Rattle.orc_frames.specs.Paths.{has_published}
 use Rattle.orc_tables.specs.Steps.{group_at}
 use Rattle.orc_tables.specs.Tokens.{IsHeld}
 use Rattle.orc_ledger_spec.specs.Calls.{Drops, GoesAlone, Resumes, Closes, IsRefused}
@@ -39,7 +39,7 @@ module _ (code : ℕ → Term) (s s' : Records) (g : Group) where
     pub node : ℕ
     pub scope : ℕ
     pub side : g.side ≡ Left number node scope
-    pub stays : has_left s.steps number ≡ false
+    pub stays : has_published s.steps number ≡ false
     pub done : Resumes s s' g number node scope
     pub held : IsHeld s'.slots slot (record { serial = s.next_mark; standing = At node scope; step = g.outer })
 
@@ -65,7 +65,7 @@ pub record HasHalted (code : ℕ → Term) (s s' : Records) (number : ℕ) (h : 
 -- why the entry of a group with this side is refused; one that was left needs none
 abbrev pub IsRefusedAt : Records → Side → LedgerFault → Type 0
 IsRefusedAt s (Right cell) fault = IsRefused s 0 0 0 fault
-IsRefusedAt s (Left n node scope) fault = (has_left s.steps n ≡ false) × IsRefused s 1 0 0 fault
+IsRefusedAt s (Left n node scope) fault = (has_published s.steps n ≡ false) × IsRefused s 1 0 0 fault
 
 -- why a group doesn't halt: the first cause that there is
 abbrev pub IsHinderedAt : Records → ℕ → HaltFault → Type 0

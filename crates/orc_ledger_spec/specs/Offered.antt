@@ -10,7 +10,7 @@ use Rattle.orc_rules.specs.Timed.{IsIn, IsQuiet}
 use Rattle.orc_rules.specs.Journal.{Place, Leads, moment}
 use Rattle.orc_frames.specs.Spelling.{Path, inside, within}
 use Rattle.orc_ledger_spec.specs.Records.{Records, context, raw_path}
-use Rattle.orc_frames.specs.Paths.{has_left}
+use Rattle.orc_frames.specs.Paths.{has_published}
 use Rattle.orc_ledger_spec.specs.Doing.{term_of, what_of}
 use Rattle.orc_frames.specs.Doing.{names, Asks}
 use Rattle.orc_ledger_spec.specs.Next.{Next, ticks, quiet, next_of, numbers_of}
@@ -76,7 +76,7 @@ module _ (l : Listing) (sites : List Site) (s : Records) where
     pub node : ℕ
     pub scope : ℕ
     pub side : group.side ≡ side.Left n node scope
-    pub stays : has_left s.steps n ≡ false
+    pub stays : has_published s.steps n ≡ false
     pub done : AreDone (within n)
 
   -- a token makes a move of marks, or a group goes without an entry

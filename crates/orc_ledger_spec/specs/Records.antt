@@ -22,7 +22,7 @@ use Rattle.orc_tables.specs.declared.records.Step.{Step}
 use Rattle.orc_tables.specs.declared.records.Side.{Side}
 use Rattle.orc_tables.specs.declared.records.Side.TheVariants.{Right, Left}
 use Rattle.orc_tables.specs.declared.records.Group.{Group}
-use Rattle.orc_frames.specs.Paths.{standing, path, has_left, is_out, step_out, tries}
+use Rattle.orc_frames.specs.Paths.{standing, path, has_published, is_out, step_out, tries}
 
 -- what callers of a ledger see
 pub record Records : Type 0 where
@@ -51,7 +51,7 @@ module _ (code : ℕ → Term) (s : Records) where
 
   -- the same without the otherwises that have published
   abbrev pub its_path : ℕ → Path
-  its_path i = seen (has_left s.steps) (raw_path i)
+  its_path i = seen (has_published s.steps) (raw_path i)
 
   -- what a token and a call spell: their mark or number, a token's term, and their path
   abbrev pub token_row : Token → Row
@@ -76,7 +76,7 @@ module _ (code : ℕ → Term) (s : Records) where
   -- a left side that has published is passed over
   abbrev pub is_over : Side → Bool
   is_over (Right c) = false
-  is_over (Left n g scope) = has_left s.steps n
+  is_over (Left n g scope) = has_published s.steps n
 
   -- the open sides that the groups spell
   abbrev pub sides_of : List Numbered

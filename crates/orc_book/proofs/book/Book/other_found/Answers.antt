@@ -76,8 +76,8 @@ returns-in-Err-advance-clause-refused g c =
     let k : HasStayed (record { ledger = s; posts = ps; stands = b.words.stands; marks = b.keeping }) (record { ledger = s; posts = ps1; stands = b.words.stands; marks = b.keeping }) = stayed s ps ps1 _ c.reserve_opening.ensures.same b.words.stands b.keeping in
     (rw (← c.self.view_is) (subst (λ z. HasStayed (record { ledger = s; posts = ps; stands = b.words.stands; marks = b.keeping }) (record { ledger = z; posts = ps1; stands = b.words.stands; marks = b.keeping })) (sym c.in-Err-advance.ensures.refused) k), refl, c.leave-left.ensures.idle)
 
-pub bring_at-requires-clause-names : goal.bring_at-requires-clause-names
-bring_at-requires-clause-names g c =
+pub put_back_at-requires-clause-names : goal.put_back_at-requires-clause-names
+put_back_at-requires-clause-names g c =
     let b = c.self.inside in
     let s = b.ledger in
     let ps = b.posts.items in
@@ -107,15 +107,15 @@ grow_to-requires-clause-number g c =
     let its : c.group_of_token-number.result ≡ number = c.group_of_token-number.ensures ∙ ap (group_at s'.steps) step ∙ ap (λ z. group_at z (length s.steps + 1)) T.steps ∙ group-end s.steps _ in
     omega (arith, its, F.2)
 
-pub raise_at-requires-clause-there : goal.raise_at-requires-clause-there
-raise_at-requires-clause-there g c =
+pub begin_at-requires-clause-there : goal.begin_at-requires-clause-there
+begin_at-requires-clause-there g c =
     let ps1 = c.grow_to.new.posts.items in
-    let ps2 = c.bring_at.new.posts.items in
-    let C = c.bring_at.ensures.more in
+    let ps2 = c.put_back_at.new.posts.items in
+    let C = c.put_back_at.ensures.more in
     omega (arith, length-becomes ps1 ps2 _ C.0 C.1 C.2, c.grow_to.ensures.there)
 
-pub bring_at-requires-clause-there : goal.bring_at-requires-clause-there
-bring_at-requires-clause-there g c =
+pub put_back_at-requires-clause-there : goal.put_back_at-requires-clause-there
+put_back_at-requires-clause-there g c =
     let b = c.self.inside in
     let ps = b.posts.items in
     let ps0 = c.reserve_opening.new.posts.items in
@@ -123,8 +123,8 @@ bring_at-requires-clause-there g c =
     let there : c.args.found.group < length ps = rw (← c.self.view_is) at c.requires.found.post in
     omega (arith, there, length-becomes ps ps0 _ C.0 C.1 C.2, c.grow_to.ensures.grown.more)
 
-pub raise_at-requires-clause-empty : goal.raise_at-requires-clause-empty
-raise_at-requires-clause-empty g c =
+pub begin_at-requires-clause-empty : goal.begin_at-requires-clause-empty
+begin_at-requires-clause-empty g c =
     let b = c.self.inside in
     let s = b.ledger in
     let ps = b.posts.items in
@@ -135,7 +135,7 @@ raise_at-requires-clause-empty g c =
     let L = c.stands.ensures.lawful in
     let G = c.stands.ensures.grouped in
     let s' = c.advance.new.self in
-    let ps2 = c.bring_at.new.posts.items in
+    let ps2 = c.put_back_at.new.posts.items in
     let t = c.args.found.its in
     let i : IsIn t s.tokens = rw (← c.self.view_is) at c.requires.found.there in
     let n : ℕ = c.args.found.group in
@@ -149,7 +149,7 @@ raise_at-requires-clause-empty g c =
     let step : inner.step ≡ length s.steps + 1 = ap (λ (z : Token). z.step) (one-slot inner _ (sym (c.in-Some.ensures.held.0).0 ∙ (O.held).0)) in
     let its : c.group_of_token-number.result ≡ number = c.group_of_token-number.ensures ∙ ap (group_at s'.steps) step ∙ ap (λ z. group_at z (length s.steps + 1)) T.steps ∙ group-end s.steps _ in
     let H : AreHeld ps1 s = grown-held s ps0 ps1 c.grow_to.ensures.grown c.grow_to.ensures.few (roomy-held s ps ps0 n c.reserve_opening.ensures.same c.self.invariant.0) in
-    let C = c.bring_at.ensures.more in
+    let C = c.put_back_at.ensures.more in
     let none = free-none l sites s L G number F ps1 H in
     let off : n ≡ number → ⊥ = λ e. free-apart l sites s L G number F t i (sym at ∙ e) in
     ap (held_at ps2) its ∙ other-at passes_of ps1 ps2 n C.0 C.1 C.2 number (λ e. off (sym e)) ∙ none.0
@@ -166,7 +166,7 @@ invariant_of-self-in-Ok-On g c =
     let L = c.stands.ensures.lawful in
     let G = c.stands.ensures.grouped in
     let s' = c.advance.new.self in
-    let ps2 = c.bring_at.new.posts.items in
+    let ps2 = c.put_back_at.new.posts.items in
     let t = c.args.found.its in
     let i : IsIn t s.tokens = rw (← c.self.view_is) at c.requires.found.there in
     let n : ℕ = c.args.found.group in
@@ -180,11 +180,11 @@ invariant_of-self-in-Ok-On g c =
     let step : inner.step ≡ length s.steps + 1 = ap (λ (z : Token). z.step) (one-slot inner _ (sym (c.in-Some.ensures.held.0).0 ∙ (O.held).0)) in
     let its : c.group_of_token-number.result ≡ number = c.group_of_token-number.ensures ∙ ap (group_at s'.steps) step ∙ ap (λ z. group_at z (length s.steps + 1)) T.steps ∙ group-end s.steps _ in
     let H : AreHeld ps1 s = grown-held s ps0 ps1 c.grow_to.ensures.grown c.grow_to.ensures.few (roomy-held s ps ps0 n c.reserve_opening.ensures.same c.self.invariant.0) in
-    let C = c.bring_at.ensures.more in
+    let C = c.put_back_at.ensures.more in
     let none = free-none l sites s L G number F ps1 H in
     let off : n ≡ number → ⊥ = λ e. free-apart l sites s L G number F t i (sym at ∙ e) in
-    let D = c.raise_at.ensures in
-    let ps3 = c.raise_at.new.posts.items in
+    let D = c.begin_at.ensures in
+    let ps3 = c.begin_at.new.posts.items in
     let k = stayed-grown s ps0 ps1 c.grow_to.ensures.grown ps b.words.stands b.keeping (stayed s ps ps0 _ c.reserve_opening.ensures.same b.words.stands b.keeping) in
     let out : c.args.found.out ≡ out_at ps n = rw (← c.self.view_is) at c.requires.found.out in
     let before : out_at ps2 number ≡ 0 = other-at out_of ps1 ps2 n C.0 C.1 C.2 number (λ e. off (sym e)) ∙ none.1 in
@@ -209,7 +209,7 @@ born-requires g c =
     let L = c.stands.ensures.lawful in
     let G = c.stands.ensures.grouped in
     let s' = c.advance.new.self in
-    let ps2 = c.bring_at.new.posts.items in
+    let ps2 = c.put_back_at.new.posts.items in
     let t = c.args.found.its in
     let i : IsIn t s.tokens = rw (← c.self.view_is) at c.requires.found.there in
     let n : ℕ = c.args.found.group in
@@ -223,11 +223,11 @@ born-requires g c =
     let step : inner.step ≡ length s.steps + 1 = ap (λ (z : Token). z.step) (one-slot inner _ (sym (c.in-Some.ensures.held.0).0 ∙ (O.held).0)) in
     let its : c.group_of_token-number.result ≡ number = c.group_of_token-number.ensures ∙ ap (group_at s'.steps) step ∙ ap (λ z. group_at z (length s.steps + 1)) T.steps ∙ group-end s.steps _ in
     let H : AreHeld ps1 s = grown-held s ps0 ps1 c.grow_to.ensures.grown c.grow_to.ensures.few (roomy-held s ps ps0 n c.reserve_opening.ensures.same c.self.invariant.0) in
-    let C = c.bring_at.ensures.more in
+    let C = c.put_back_at.ensures.more in
     let none = free-none l sites s L G number F ps1 H in
     let off : n ≡ number → ⊥ = λ e. free-apart l sites s L G number F t i (sym at ∙ e) in
-    let D = c.raise_at.ensures in
-    let ps3 = c.raise_at.new.posts.items in
+    let D = c.begin_at.ensures in
+    let ps3 = c.begin_at.new.posts.items in
     let named : group_of c.in-Ok.opened.pass ≡ Some c.in-Ok.opened.word = c.in-Ok.ensures.opened in
     let words : word_at ps3 c.group_of_token-number.result ≡ c.in-Ok.opened.word = mine-at word_of ps2 ps3 _ D.0 D.1 D.2 ∙ D.3 in
     record { held = (inner, c.in-Some.ensures.held.0, named ∙ ap Some (sym words ∙ ap (word_at ps3) c.group_of_token-number.ensures)) }
@@ -263,8 +263,8 @@ pub returns-in-Some-clause-word : goal.returns-in-Some-clause-word
 returns-in-Some-clause-word g c =
     let b = c.self.inside in
     let s' = c.advance.new.self in
-    let ps3 = c.raise_at.new.posts.items in
-    let D = c.raise_at.ensures in
+    let ps3 = c.begin_at.new.posts.items in
+    let D = c.begin_at.ensures in
     let named : word_at ps3 c.group_of_token-number.result ≡ c.in-Ok.opened.word = mine-at word_of _ ps3 _ D.0 D.1 D.2 ∙ D.3 in
     rw (← c.self.view_is) (opens-word (record { ledger = b.ledger; posts = b.posts.items; stands = b.words.stands; marks = b.keeping }) (record { ledger = s'; posts = ps3; stands = c.open.new.self.stands; marks = b.keeping }) c.born.result c.in-Some.inner c.args.token.slot c.group_of_token-number.result c.in-Ok.opened.word b.words.next c.born.ensures.token c.born.ensures.same.0 c.in-Some.ensures.held.0 c.group_of_token-number.ensures named c.in-Ok.ensures.next c.open.ensures refl)
 

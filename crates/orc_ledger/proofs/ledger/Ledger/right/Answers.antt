@@ -5,7 +5,7 @@ use Rattle.orc_rules.specs.Nodes.{code, definitions}
 use Rattle.orc_indexes.specs.Same.{weight}
 use Rattle.orc_tables.specs.Tokens.{live}
 use Rattle.orc_ledger_spec.specs.Records.{Records}
-use Rattle.orc_frames.specs.Paths.{has_left}
+use Rattle.orc_frames.specs.Paths.{has_published}
 use Rattle.orc_ledger_spec.specs.Calls.{Resumes}
 use Rattle.orc_ledger_spec.specs.Next.{members, numbers_of}
 use Rattle.orc_tables.specs.declared.records.Standing.TheVariants.{At}
@@ -53,7 +53,7 @@ invariant_of-self-2 g c =
     let journal : s'.journal ≡ s.journal ++ Right a.number s.next_mark ∷ [] = ap (λ j. j.entries) c.in_ok-write.ensures.added in
     let T : Resumes s s' a.group a.number a.node a.scope = record { limit = refl; journal = journal; entries = refl; mark = refl; now = refl; made = refl; tokens = tokens; calls = refl; groups = λ w. c.take-left.ensures.one a.group i refl w; scopes = refl; steps = refl; cells = refl } in
     let empty : members (numbers_of s) s a.group.number ≡ 0 = rw (← c.self.view_is) at c.requires.empty in
-    let stays : has_left s.steps a.number ≡ false = rw (← c.self.view_is) at c.requires.stays in
+    let stays : has_published s.steps a.number ≡ false = rw (← c.self.view_is) at c.requires.stays in
     let room : s.entries < s.limit = rw (← c.self.view_is) at c.in_ok-within.ensures.room in
     let K = c.self.invariant.kept in
     let L' = right-lawful l sites s L a.group i a.number a.node a.scope c.requires.side stays (left-empty l sites s L (numbers_of s) G a.group i empty a.number a.node a.scope c.requires.side stays) room s' T in

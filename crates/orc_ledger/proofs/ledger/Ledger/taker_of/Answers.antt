@@ -1,7 +1,7 @@
 use Rattle.std.proofs.Common.{arith}
 use Rattle.orc_rules.specs.Nodes.{code}
 use Rattle.orc_ledger_spec.specs.Records.{Records, its_env}
-use Rattle.orc_frames.specs.Paths.{has_left}
+use Rattle.orc_frames.specs.Paths.{has_published}
 use Rattle.orc_tables.specs.Tokens.{live, IsHeld}
 use Rattle.orc_frames.specs.Taking.{Takes, IsOnWay, IsEntered}
 use Rattle.orc_tables.proofs.Slots.{live-in}
@@ -25,7 +25,7 @@ returns-clause-takes g c =
     let l = g.P.Run.listing in
     let cd = code l in
     let s : Records = record { limit = b.limit; journal = b.journal.entries; entries = b.entries; next_mark = b.next_mark; now = b.time; made = b.calls.made; tokens = live b.tokens.items; slots = b.tokens.items; calls = b.calls.items; scopes = b.scopes.items; steps = b.steps.items; groups = b.groups.items; cells = b.cells.items } in
-    let went : Takes cd (its_env cd s) (has_left s.steps) s.steps a.token.step c.find_taker.result = c.find_taker.ensures.takes cd (its_env cd s) (has_left s.steps) in
+    let went : Takes cd (its_env cd s) (has_published s.steps) s.steps a.token.step c.find_taker.result = c.find_taker.ensures.takes cd (its_env cd s) (has_published s.steps) in
     rw (← c.self.view_is) went
 
 pub returns-clause-way : goal.returns-clause-way
