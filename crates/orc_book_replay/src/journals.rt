@@ -4,7 +4,7 @@ ghost use Rattle.std.specs.Prelude.{◌≡◌, ◌*◌, true};
 ghost use Rattle.orc_rules.specs.declared.limits.TheConstants.{MOST_ENTRIES, MOST_GROUPS};
 
 use crate::begin::{PASSES, WORDS, begin};
-use crate::replay::{Odd, Replay};
+use crate::replay::{Mismatch, Replay};
 use crate::setup::Setup;
 use orc_graph::Graph;
 use orc_journal::{Journal, Version};
@@ -25,7 +25,7 @@ pub(crate) struct Stop {
     /// The entry's place, from 1, cancels counted; 0 if nothing was replayed.
     pub at: usize,
     /// Why it fails.
-    pub why: Odd,
+    pub why: Mismatch,
 }
 
 /// A journal that was replayed: how many entries it has, cancels too, and what the book says of the place to which they have led.
@@ -43,13 +43,13 @@ const MOST_WARM: usize = 64;
 /// Nothing was replayed: a text can't be read, or the journal is of the first version.
 const UNREAD: Stop = Stop {
     at: 0,
-    why: Odd::Other,
+    why: Mismatch::Other,
 };
 
 /// Nothing was replayed, since memory was refused for the graph, the words or the book.
 const REFUSED: Stop = Stop {
     at: 0,
-    why: Odd::Memory,
+    why: Mismatch::Memory,
 };
 
 /// Replays the text of a journal of the second version: a book that begins with the program does each entry by the call for its kind, and the replay
@@ -154,7 +154,7 @@ fn state_of<P: Run + Naming>(
     setup: &Setup<'_, P>,
     mut replay: Replay<P>,
     journal: &Journal,
-) -> Result<State, Odd>
+) -> Result<State, Mismatch>
     requires keeps { P.keeps ≡ true }
 {
     // Whether the book has closed the program's own group.
@@ -162,8 +162,8 @@ fn state_of<P: Run + Naming>(
     let mut ledger = replay.into_ledger();
     match are_same(alloc, setup.inputs.answers, ledger.journal(), journal) {
         Some(true) => state_after(setup, &mut ledger, has_ended),
-        Some(false) => Err(Odd::Other),
-        None => Err(Odd::Memory),
+        Some(false) => Err(Mismatch::Other),
+        None => Err(Mismatch::Memory),
     }
 }
 
@@ -173,9 +173,9 @@ fn state_after<P: Run + Naming>(
     setup: &Setup<'_, P>,
     ledger: &mut Ledger<P>,
     has_ended: bool,
-) -> Result<State, Odd> {
+) -> Result<State, Mismatch> {
     if ledger.has_halted() != has_ended {
-        return Err(Odd::Other);
+        return Err(Mismatch::Other);
     }
     if has_ended {
         return Ok(State::Halted);

@@ -32,7 +32,7 @@ const MOST_DYING: usize = 512;
 
 /// Why the replay of an entry fails.
 #[derive(Clone, Copy, Debug, PartialEq, Eq)]
-pub(crate) enum Odd {
+pub(crate) enum Mismatch {
     /// No such token is out, no such call pends, or another bind has killed the group before.
     Gone,
     /// The side that the entry ends still has a pass: by the rules the tokens inside may only make moves of marks, and the book makes these first.
@@ -49,16 +49,16 @@ pub(crate) enum Odd {
     Memory,
 }
 
-impl From<BookFault> for Odd {
+impl From<BookFault> for Mismatch {
     // What a fault of the book's comes to here, in the replay of an entry.
-    fn from(fault: BookFault) -> Odd {
+    fn from(fault: BookFault) -> Mismatch {
         match fault {
-            BookFault::Gone => Odd::Gone,
-            BookFault::Wrong => Odd::Wrong,
-            BookFault::Live => Odd::Live,
-            BookFault::Full | BookFault::Limit => Odd::Limit,
+            BookFault::Gone => Mismatch::Gone,
+            BookFault::Wrong => Mismatch::Wrong,
+            BookFault::Live => Mismatch::Live,
+            BookFault::Full | BookFault::Limit => Mismatch::Limit,
             // The replay lends what a move needs, and so lacks a pass only where its supply is empty.
-            BookFault::Memory | BookFault::Short => Odd::Memory,
+            BookFault::Memory | BookFault::Short => Mismatch::Memory,
         }
     }
 }
@@ -139,14 +139,14 @@ impl<P: Run + Naming> Replay<P> {
         token: Token<P>,
         passes: Passes<P>,
         words: u32,
-    ) -> Result<Replay<P>, Odd> {
+    ) -> Result<Replay<P>, Mismatch> {
         let Ok(sides) = Sides::new(alloc, words) else {
-            return Err(Odd::Memory);
+            return Err(Mismatch::Memory);
         };
         let mut slots = Vec::new(alloc);
         // For the mark 0, which no token has.
         if slots.push(0).is_err() {
-            return Err(Odd::Memory);
+            return Err(Mismatch::Memory);
         }
         let mut replay = Replay {
             book,
@@ -169,12 +169,12 @@ impl<P: Run + Naming> Replay<P> {
 
     /// Has the book do what an entry says, by the call for its kind, and then leaves the passes that no record has any more. A `cancel` was made by
     /// the book with its bind, and is compared; any other entry is Other while the journal hasn't named all cancels of the last bind.
-    pub(crate) fn enter(&mut self, setup: &Setup<'_, P>, entry: &Entry) -> Result<(), Odd> {
+    pub(crate) fn enter(&mut self, setup: &Setup<'_, P>, entry: &Entry) -> Result<(), Mismatch> {
         if let Entry::Cancel(number) = entry {
             return self.cancel(*number);
         }
         if self.owed > 0 {
-            return Err(Odd::Other);
+            return Err(Mismatch::Other);
         }
         match entry {
             // `number` is the call's. The mark of the token that stands on the value isn't looked at here: the whole journals are compared in the
@@ -193,7 +193,7 @@ impl<P: Run + Naming> Replay<P> {
 
     // The token that the entry names by its mark (`mark`) makes its next move, by the call for this kind of entry. The book refuses a call that isn't
     // for that move as Wrong. The entry's other fields (`_`) aren't looked at here: the whole journals are compared in the end.
-    fn advance(&mut self, setup: &Setup<'_, P>, entry: &Entry) -> Result<(), Odd> {
+    fn advance(&mut self, setup: &Setup<'_, P>, entry: &Entry) -> Result<(), Mismatch> {
         match entry {
             Entry::End(mark) | Entry::Void(mark) => {
                 let token = self.take(*mark)?;
@@ -232,15 +232,15 @@ impl<P: Run + Naming> Replay<P> {
                 self.publish(setup, token)
             }
             // `enter` took all others.
-            _ => Err(Odd::Other),
+            _ => Err(Mismatch::Other),
         }
     }
 
     // Takes the token with this mark out of the replay, for its next move. The error is Gone if the token isn't out.
-    fn take(&mut self, mark: u64) -> Result<Token<P>, Odd> {
+    fn take(&mut self, mark: u64) -> Result<Token<P>, Mismatch> {
         match self.take_token(mark) {
             Some(token) => Ok(token),
-            None => Err(Odd::Gone),
+            None => Err(Mismatch::Gone),
         }
     }
 
@@ -258,29 +258,29 @@ impl<P: Run + Naming> Replay<P> {
     }
 
     /// Takes in a new token, which is out from now on. It has to have the next mark: else the error is Other. It is Memory if memory is refused.
-    pub(crate) fn stand(&mut self, token: Token<P>) -> Result<(), Odd> {
+    pub(crate) fn stand(&mut self, token: Token<P>) -> Result<(), Mismatch> {
         // `slots` has an item for mark 0 too, so its length is the next mark.
         if token.serial != self.slots.len() as u64 {
-            return Err(Odd::Other);
+            return Err(Mismatch::Other);
         }
         if self.slots.push(token.slot).is_err() {
-            return Err(Odd::Memory);
+            return Err(Mismatch::Memory);
         }
         self.hold(token)
     }
 
     /// Takes a token that is out, new or not, into its slot. If another token stands in that slot, that one went with a killed group, and its pass
     /// goes among those to be left. The error is Memory.
-    pub(crate) fn hold(&mut self, token: Token<P>) -> Result<(), Odd> {
+    pub(crate) fn hold(&mut self, token: Token<P>) -> Result<(), Mismatch> {
         let slot = token.slot;
         self.reach(slot)?;
         // Not refused: `reach` has made the place.
         let Some(place) = self.out.get_mut(slot) else {
-            return Err(Odd::Memory);
+            return Err(Mismatch::Memory);
         };
         if !place.is_listed {
             if self.listed.push(slot).is_err() {
-                return Err(Odd::Memory);
+                return Err(Mismatch::Memory);
             }
             place.is_listed = true;
         }
@@ -291,7 +291,7 @@ impl<P: Run + Naming> Replay<P> {
     }
 
     // Has `out` reach up to this slot: adds places without a token where there are none. The error is Memory.
-    fn reach(&mut self, slot: usize) -> Result<(), Odd> {
+    fn reach(&mut self, slot: usize) -> Result<(), Mismatch> {
         for _ in 0..u64::MAX {
             if slot < self.out.len() {
                 break;
@@ -301,7 +301,7 @@ impl<P: Run + Naming> Replay<P> {
                 is_listed: false,
             };
             if self.out.push(place).is_err() {
-                return Err(Odd::Memory);
+                return Err(Mismatch::Memory);
             }
         }
         Ok(())
@@ -309,7 +309,7 @@ impl<P: Run + Naming> Replay<P> {
 
     /// Hands the tokens that are out and wait to the book, as has to be done before time goes on. It looks only at slots into which a token has come
     /// since the last time: any other token that is out was seen not to wait, and begins to wait only as a new token.
-    pub(crate) fn keep_waiting(&mut self, setup: &Setup<'_, P>) -> Result<(), Odd> {
+    pub(crate) fn keep_waiting(&mut self, setup: &Setup<'_, P>) -> Result<(), Mismatch> {
         for _ in 0..u64::MAX {
             let Some(slot) = self.listed.pop() else { break };
             if let Some(place) = self.out.get_mut(slot) {
@@ -322,7 +322,7 @@ impl<P: Run + Naming> Replay<P> {
 
     // Looks at the token that is out in a slot, if one is. If it went with a killed group its pass has to be left, if it waits the book gets it, and
     // else it stays.
-    fn look_at(&mut self, setup: &Setup<'_, P>, slot: usize) -> Result<(), Odd> {
+    fn look_at(&mut self, setup: &Setup<'_, P>, slot: usize) -> Result<(), Mismatch> {
         // Not reached: callers name slots that have a place.
         let Some(place) = self.out.get_mut(slot) else {
             return Ok(());
@@ -341,58 +341,58 @@ impl<P: Run + Naming> Replay<P> {
         }
         match self.book.wait(setup.inputs, token) {
             Ok(()) => Ok(()),
-            Err(refused) => Err(Odd::from(refused.why)),
+            Err(refused) => Err(Mismatch::from(refused.why)),
         }
     }
 
     // Adds a pass, which no record has any more, to those that `settle` leaves. The error is Memory.
-    fn drop_pass(&mut self, pass: Pass<P>) -> Result<(), Odd> {
+    fn drop_pass(&mut self, pass: Pass<P>) -> Result<(), Mismatch> {
         match self.leave.push(pass) {
             Ok(()) => Ok(()),
-            Err(_) => Err(Odd::Memory),
+            Err(_) => Err(Mismatch::Memory),
         }
     }
 
     // The entries `end` and `void`: the token is gone, and its pass has to be left.
-    fn end(&mut self, setup: &Setup<'_, P>, token: Token<P>) -> Result<(), Odd> {
+    fn end(&mut self, setup: &Setup<'_, P>, token: Token<P>) -> Result<(), Mismatch> {
         match self.book.end(setup.inputs, token) {
             Ok(pass) => self.drop_pass(pass),
-            Err(refused) => Err(Odd::from(refused.why)),
+            Err(refused) => Err(Mismatch::from(refused.why)),
         }
     }
 
     // The entries `seq` and `def`: a token with the next mark comes in this one's place, and has its pass.
-    fn go_on(&mut self, setup: &Setup<'_, P>, token: Token<P>) -> Result<(), Odd> {
+    fn go_on(&mut self, setup: &Setup<'_, P>, token: Token<P>) -> Result<(), Mismatch> {
         match self.book.go_on(setup.inputs, token) {
             Ok(token) => self.stand(token),
-            Err(refused) => Err(Odd::from(refused.why)),
+            Err(refused) => Err(Mismatch::from(refused.why)),
         }
     }
 
     // The entry `fork`: the second token gets another pass to the group. The left token has the lower mark, so it stands first.
-    fn fork(&mut self, setup: &Setup<'_, P>, token: Token<P>) -> Result<(), Odd> {
+    fn fork(&mut self, setup: &Setup<'_, P>, token: Token<P>) -> Result<(), Mismatch> {
         let Some(same) = self.passes.same(setup.groups, &token.pass) else {
-            return Err(Odd::Memory);
+            return Err(Mismatch::Memory);
         };
         match self.book.fork(setup.inputs, token, same) {
             Ok((left, right)) => {
                 self.stand(left)?;
                 self.stand(right)
             }
-            Err(refused) => Err(Odd::from(refused.why)),
+            Err(refused) => Err(Mismatch::from(refused.why)),
         }
     }
 
     // The entry `open`: `idle` opens the word of the right side's group. For that group the book holds `same`, a pass to the token's group, in which
     // the right side's group is. `cell` is the cell that the entry names.
-    fn prune(&mut self, setup: &Setup<'_, P>, token: Token<P>, cell: u64) -> Result<(), Odd> {
+    fn prune(&mut self, setup: &Setup<'_, P>, token: Token<P>, cell: u64) -> Result<(), Mismatch> {
         // The word of the group in which the token is.
         let around = token.pass.group();
         let Some(same) = self.passes.same(setup.groups, &token.pass) else {
-            return Err(Odd::Memory);
+            return Err(Mismatch::Memory);
         };
         let Some(idle) = self.passes.idle(setup.groups) else {
-            return Err(Odd::Memory);
+            return Err(Mismatch::Memory);
         };
         match self
             .book
@@ -403,24 +403,24 @@ impl<P: Run + Naming> Replay<P> {
                 self.stand(left)?;
                 self.stand(right)
             }
-            Err(refused) => Err(Odd::from(refused.why)),
+            Err(refused) => Err(Mismatch::from(refused.why)),
         }
     }
 
     // The entry `other`: an idle pass opens the word of the group of the otherwise's left side. `mark` is the token's: a later entry `right` names
     // the left side by it.
-    fn other(&mut self, setup: &Setup<'_, P>, token: Token<P>, mark: u64) -> Result<(), Odd> {
+    fn other(&mut self, setup: &Setup<'_, P>, token: Token<P>, mark: u64) -> Result<(), Mismatch> {
         // The word of the group in which the token is.
         let around = token.pass.group();
         let Some(idle) = self.passes.idle(setup.groups) else {
-            return Err(Odd::Memory);
+            return Err(Mismatch::Memory);
         };
         match self.book.other(setup.groups, setup.inputs, token, idle) {
             Ok(token) => {
                 self.enter_side(token.pass.group(), Side::Left(mark), around)?;
                 self.stand(token)
             }
-            Err(refused) => Err(Odd::from(refused.why)),
+            Err(refused) => Err(Mismatch::from(refused.why)),
         }
     }
 
@@ -431,35 +431,35 @@ impl<P: Run + Naming> Replay<P> {
         word: Option<u32>,
         side: Side,
         around: Option<u32>,
-    ) -> Result<(), Odd> {
+    ) -> Result<(), Mismatch> {
         match (word, around) {
             (Some(word), Some(around)) => {
                 self.sides.enter(word, side, around);
                 Ok(())
             }
-            _ => Err(Odd::Other),
+            _ => Err(Mismatch::Other),
         }
     }
 
     // Notes that a publication has left the left sides from the group `from` outwards, up to the group `to`, which it doesn't leave. Other if a right
     // side is among them: a publication binds its cell and doesn't leave it.
-    fn leave_sides(&mut self, from: Option<u32>, to: Option<u32>) -> Result<(), Odd> {
+    fn leave_sides(&mut self, from: Option<u32>, to: Option<u32>) -> Result<(), Mismatch> {
         match (from, to) {
             (Some(from), Some(to)) if self.sides.leave(from, to) => Ok(()),
-            _ => Err(Odd::Other),
+            _ => Err(Mismatch::Other),
         }
     }
 
     // The entry `send`, a publication into a `>x>`. The move needs an idle pass if the publication leaves the token's group. One is lent in any case;
     // if it isn't used it stays in `births` for the next.
-    fn send(&mut self, setup: &Setup<'_, P>, token: Token<P>) -> Result<(), Odd> {
+    fn send(&mut self, setup: &Setup<'_, P>, token: Token<P>) -> Result<(), Mismatch> {
         // The word of the group in which the token is before the move.
         let inside = token.pass.group();
         if self.births.idle.is_empty()
             && let Some(idle) = self.passes.idle(setup.groups)
             && self.births.idle.push(idle).is_err()
         {
-            return Err(Odd::Memory);
+            return Err(Mismatch::Memory);
         }
         // The book adds what comes of the move to `self.step`, from which `sent` takes it.
         match self.book.step(
@@ -470,15 +470,15 @@ impl<P: Run + Naming> Replay<P> {
             &mut self.step,
         ) {
             Ok(()) => self.sent(inside),
-            Err(refused) => Err(Odd::from(refused.why)),
+            Err(refused) => Err(Mismatch::from(refused.why)),
         }
     }
 
     // Takes what has come out of a step in which a token of the group with the word `inside` published into a `>x>`: a new token, and maybe a pass.
-    fn sent(&mut self, inside: Option<u32>) -> Result<(), Odd> {
+    fn sent(&mut self, inside: Option<u32>) -> Result<(), Mismatch> {
         // The token on a new copy of the `>x>`'s right side. Without it the book has done something else than the entry says.
         let Some(token) = self.step.born.pop() else {
-            return Err(Odd::Other);
+            return Err(Mismatch::Other);
         };
         // There is a pass to be left if the publication has left the token's group.
         if let Some(pass) = self.step.leave.pop() {
@@ -489,44 +489,44 @@ impl<P: Run + Naming> Replay<P> {
     }
 
     // The entry `publish`: the value leaves all left sides around the token.
-    fn publish(&mut self, setup: &Setup<'_, P>, token: Token<P>) -> Result<(), Odd> {
+    fn publish(&mut self, setup: &Setup<'_, P>, token: Token<P>) -> Result<(), Mismatch> {
         // Notes that the value leaves each left side from the token's group outwards, up to the program's own group, whose word is 0.
         self.leave_sides(token.pass.group(), Some(0))?;
         match self.book.publish(setup.inputs, token) {
             Ok(pass) => self.drop_pass(pass),
-            Err(refused) => Err(Odd::from(refused.why)),
+            Err(refused) => Err(Mismatch::from(refused.why)),
         }
     }
 
     // The entry `call`: the book has to give the call the number `wanted`, by which later entries name it.
-    fn call(&mut self, setup: &Setup<'_, P>, token: Token<P>, wanted: u64) -> Result<(), Odd> {
+    fn call(&mut self, setup: &Setup<'_, P>, token: Token<P>, wanted: u64) -> Result<(), Mismatch> {
         // The book writes the call's arguments over `args`, which nobody reads here.
         match self.book.call(setup.inputs, token, &mut self.args) {
             Ok(number) if number == wanted => Ok(()),
-            Ok(_) => Err(Odd::Other),
-            Err(refused) => Err(Odd::from(refused.why)),
+            Ok(_) => Err(Mismatch::Other),
+            Err(refused) => Err(Mismatch::from(refused.why)),
         }
     }
 
     // Answers the pending call with this number: with a value, on which a token stands then, or with a halt, after which its pass has to be left.
-    fn answer(&mut self, number: u64, answer: Answer) -> Result<(), Odd> {
+    fn answer(&mut self, number: u64, answer: Answer) -> Result<(), Mismatch> {
         match self.book.returned(number, answer) {
             Ok(Answered::Token(token)) => self.stand(token),
             Ok(Answered::Halted(pass)) => self.drop_pass(pass),
-            Err(fault) => Err(Odd::from(fault)),
+            Err(fault) => Err(Mismatch::from(fault)),
         }
     }
 
     // The entry `bind`: the token's value goes to the cell, all that was in the cell's right side is dropped, and the tokens that wait for the cell
     // come out. Other if the token isn't in this cell's right side.
-    fn bind(&mut self, setup: &Setup<'_, P>, token: Token<P>, cell: u64) -> Result<(), Odd> {
+    fn bind(&mut self, setup: &Setup<'_, P>, token: Token<P>, cell: u64) -> Result<(), Mismatch> {
         // The word of the token's group. None is an idle pass, which no token of the book has.
         let Some(inside) = token.pass.group() else {
-            return Err(Odd::Other);
+            return Err(Mismatch::Other);
         };
         // The word of the cell's right side, in which the token is: directly, or in left sides within that right side.
         let Some(word) = self.sides.right_side(inside, cell) else {
-            return Err(Odd::Other);
+            return Err(Mismatch::Other);
         };
         // The book adds the passes of all that goes to `leave`, and writes the numbers of the calls that go over `cancelled`.
         let leave = &mut self.leave;
@@ -535,7 +535,7 @@ impl<P: Run + Naming> Replay<P> {
             .book
             .bind(setup.groups, setup.inputs, token, leave, cancelled)
         {
-            return Err(Odd::from(refused.why));
+            return Err(Mismatch::from(refused.why));
         }
         // The journal's next entries have to be the cancels of these calls.
         self.owed = self.cancelled.len();
@@ -576,23 +576,23 @@ impl<P: Run + Naming> Replay<P> {
     }
 
     // Compares a `cancel` entry with the next of the calls that the last bind has cancelled. Other if it is another one, or no more follow.
-    fn cancel(&mut self, number: u64) -> Result<(), Odd> {
+    fn cancel(&mut self, number: u64) -> Result<(), Mismatch> {
         // `at` is the place of the first cancel that the journal still owes. It never owes more cancels than there are.
         let Some(at) = self.cancelled.len().checked_sub(self.owed) else {
-            return Err(Odd::Other);
+            return Err(Mismatch::Other);
         };
         // If none is owed, nothing is at that place either; `owed < 1` shows the prover that the subtraction below doesn't wrap.
         if self.owed < 1 || self.cancelled.get(at) != Some(&number) {
-            return Err(Odd::Other);
+            return Err(Mismatch::Other);
         }
         self.owed -= 1;
         Ok(())
     }
 
     /// Takes the tokens that the book has kept for this cell, which was bound or lost. They have their old marks and slots.
-    pub(crate) fn wake(&mut self, cell: u64) -> Result<(), Odd> {
+    pub(crate) fn wake(&mut self, cell: u64) -> Result<(), Mismatch> {
         if self.book.wake(cell, &mut self.step.born).is_err() {
-            return Err(Odd::Memory);
+            return Err(Mismatch::Memory);
         }
         for _ in 0..u64::MAX {
             let Some(token) = self.step.born.pop() else {
@@ -606,7 +606,7 @@ impl<P: Run + Naming> Replay<P> {
     // Looks at the token of each slot (`look_at`): leaves the passes of those that went with a killed group, and hands those that wait to the book.
     // This takes time for each slot, so it is put off: `bind` does it when words get few, and other calls when without it nothing comes as the entry
     // says.
-    fn sweep(&mut self, setup: &Setup<'_, P>) -> Result<(), Odd> {
+    fn sweep(&mut self, setup: &Setup<'_, P>) -> Result<(), Mismatch> {
         for slot in 0..self.out.len() {
             self.look_at(setup, slot)?;
         }
@@ -615,14 +615,14 @@ impl<P: Run + Naming> Replay<P> {
 
     // Leaves the passes that are to be left, and closes groups that end without an entry once their last pass was left. To close a group may give the
     // pass to the group outside it, so this is repeated until no such group is there.
-    fn settle(&mut self, setup: &Setup<'_, P>) -> Result<(), Odd> {
+    fn settle(&mut self, setup: &Setup<'_, P>) -> Result<(), Mismatch> {
         for _ in 0..u64::MAX {
             if self
                 .passes
                 .leave_all(setup.groups, &mut self.leave)
                 .is_err()
             {
-                return Err(Odd::Memory);
+                return Err(Mismatch::Memory);
             }
             let Some(last) = self.silent_last() else {
                 break;
@@ -631,8 +631,8 @@ impl<P: Run + Naming> Replay<P> {
                 // It is closed; its pass to the group outside it is in `leave`, for the next turn.
                 Ok(Ended::Group) => {}
                 // It ends with an entry, which none in the journal stands for.
-                Ok(_) => return Err(Odd::Other),
-                Err(refused) => return Err(Odd::from(refused.why)),
+                Ok(_) => return Err(Mismatch::Other),
+                Err(refused) => return Err(Mismatch::from(refused.why)),
             }
         }
         Ok(())
@@ -663,32 +663,32 @@ impl<P: Run + Naming> Replay<P> {
 
     // Halts a side: a cell is lost, or the right side of an otherwise starts. If the group still has passes, they may be those of tokens that went
     // with a killed group, so it tries once more after a sweep. Live if one is left even then.
-    fn halt(&mut self, setup: &Setup<'_, P>, side: Side) -> Result<(), Odd> {
+    fn halt(&mut self, setup: &Setup<'_, P>, side: Side) -> Result<(), Mismatch> {
         if let Some(last) = self.last_of(side) {
             return self.close(last);
         }
         self.sweep(setup)?;
         match self.last_of(side) {
             Some(last) => self.close(last),
-            None => Err(Odd::Live),
+            None => Err(Mismatch::Live),
         }
     }
 
     // Closes the group of a side that an entry ends: tokens that wait for its cell come out, or a token starts the right side of its otherwise. The
     // book may add to `leave` a pass to the group outside, which it held for the closed one. Other if the group ends without an entry.
-    fn close(&mut self, last: Last<P>) -> Result<(), Odd> {
+    fn close(&mut self, last: Last<P>) -> Result<(), Mismatch> {
         match self.book.halt(last, &mut self.leave) {
             Ok(Ended::Lost(cell)) => self.wake(cell),
             Ok(Ended::Token(token)) => self.stand(token),
-            Ok(_) => Err(Odd::Other),
-            Err(refused) => Err(Odd::from(refused.why)),
+            Ok(_) => Err(Mismatch::Other),
+            Err(refused) => Err(Mismatch::from(refused.why)),
         }
     }
 
     // Lets time go on to this time, once the book keeps all tokens that wait. If it says that something else comes next, that may be a group which
     // ends without an entry once the passes of gone tokens are left. So it tries once more after a sweep. Time if the next tick is to another time,
     // or none comes.
-    fn tick(&mut self, setup: &Setup<'_, P>, time: u64) -> Result<(), Odd> {
+    fn tick(&mut self, setup: &Setup<'_, P>, time: u64) -> Result<(), Mismatch> {
         self.keep_waiting(setup)?;
         if self.ticks(setup, time)? {
             return Ok(());
@@ -697,34 +697,34 @@ impl<P: Run + Naming> Replay<P> {
         if self.ticks(setup, time)? {
             return Ok(());
         }
-        Err(Odd::Time)
+        Err(Mismatch::Time)
     }
 
     // Whether a tick comes next; the book has made it then. Time if that is to another time than `time`. False if something else comes: nothing has
     // changed then.
-    fn ticks(&mut self, setup: &Setup<'_, P>, time: u64) -> Result<bool, Odd> {
+    fn ticks(&mut self, setup: &Setup<'_, P>, time: u64) -> Result<bool, Mismatch> {
         match self.book.next(setup.inputs) {
             Ok(Next::Ticked) if self.book.now() == time => Ok(true),
-            Ok(Next::Ticked) => Err(Odd::Time),
+            Ok(Next::Ticked) => Err(Mismatch::Time),
             Ok(_) => Ok(false),
-            Err(fault) => Err(Odd::from(fault)),
+            Err(fault) => Err(Mismatch::from(fault)),
         }
     }
 
     /// Leaves all passes that can be left. If the last one to the program's own group is among them it closes that group and gives true: the run has
     /// halted. Else false: a token is out or kept, a call pends, or a group is open.
-    pub(crate) fn close_run(&mut self, setup: &Setup<'_, P>) -> Result<bool, Odd> {
+    pub(crate) fn close_run(&mut self, setup: &Setup<'_, P>) -> Result<bool, Mismatch> {
         self.sweep(setup)?;
         if self.passes.leave_warm(setup.groups).is_err() {
-            return Err(Odd::Memory);
+            return Err(Mismatch::Memory);
         }
         let Some(last) = self.last_of(Side::Whole) else {
             return Ok(false);
         };
         match self.book.halt(last, &mut self.leave) {
             Ok(Ended::Run) => Ok(true),
-            Ok(_) => Err(Odd::Other),
-            Err(refused) => Err(Odd::from(refused.why)),
+            Ok(_) => Err(Mismatch::Other),
+            Err(refused) => Err(Mismatch::from(refused.why)),
         }
     }
 

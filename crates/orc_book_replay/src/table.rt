@@ -266,7 +266,7 @@ pub(crate) fn rows() -> [Row; 23] {
         // The four moves are `seq`, `fork` (which takes the lent pass, so 0 remain) and two `send`. The next token is at a call, which `step` doesn't
         // make, so it is refused as Wrong.
         row(
-            "four moves of three tokens take one pass, and a token that has moved is gone",
+            "four moves of four tokens take one pass, and a token that has moved is gone",
             PIPE,
             "",
             Shows::MakesMoves(4, BookFault::Wrong, 0),

@@ -114,8 +114,8 @@ impl<R: Wait> Future for Errand<'_, R> {
     }
 }
 
-// For the prover: which time was handed in last (`moment`), when the call is due (`when`), that any errand may be polled (`always`), and that an
-// errand answers only when it is due (`early`).
+// For the prover: which time was handed in last (`moment`), when the call is due (`when`), that any errand may be polled (`always`, proved by `tt`
+// since `poll` requires nothing), and that an errand answers only when it is due (`early`).
 impl<R: Wait> SiteFuture for Errand<'_, R> {
     ghost use Rattle.orc_site.specs.Call.{due_of};
 

@@ -323,7 +323,7 @@ where
     {
         // Moves tokens on to their next calls of definitions, until so many tokens are runnable or a bound of entries is reached.
         scheduler.spread(self.inputs, wanted)?;
-        if scheduler.ready() < wanted {
+        if scheduler.ready_count() < wanted {
             return Ok(Trial::Few);
         }
         self.run_side_by_side(scheduler, mean)
@@ -563,7 +563,7 @@ fn tally_of<P: Run>(jobs: &[SubRunJob<P>]) -> Tally {
     };
     for job in jobs {
         tally.is_won = tally.is_won || job.has_won();
-        match job.came() {
+        match job.result() {
             SubRunResult::Over(part) => {
                 tally.over = tally.over.saturating_add(1);
                 tally.entries = tally.entries.saturating_add(part.len());

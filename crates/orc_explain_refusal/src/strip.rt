@@ -261,7 +261,7 @@ impl<'r, 's> Strip<'r, 's> {
 
     // Puts the tasks of a side on the stack, what is written last first. If a name is given, the operation's sign binds this variable in this side.
     fn push_side(&mut self, side: Side, name: Option<u32>) {
-        if side.is_part {
+        if side.may_shorten {
             self.push(Task::Close);
         }
         match name {
@@ -272,15 +272,15 @@ impl<'r, 's> Strip<'r, 's> {
             }
             None => self.push(side.task),
         }
-        if side.is_part {
+        if side.may_shorten {
             self.push(Task::Open);
         }
     }
 }
 
-/// A side of an operation: what writes it, and whether it becomes `..` where it is long (`is_part`).
+/// A side of an operation: what writes it, and whether it becomes `..` where it is long (`may_shorten`).
 #[derive(Clone, Copy)]
 pub(crate) struct Side {
     pub task: Task,
-    pub is_part: bool,
+    pub may_shorten: bool,
 }

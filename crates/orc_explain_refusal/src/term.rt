@@ -61,11 +61,11 @@ impl<'r, 's> Strip<'r, 's> {
         match below {
             Some(place) if self.is_on_way(part, below) => Side {
                 task: Task::Way(place, level),
-                is_part: false,
+                may_shorten: false,
             },
             _ => Side {
                 task: Task::Node(part as usize, level),
-                is_part: self.way.is_short(),
+                may_shorten: self.way.is_short(),
             },
         }
     }
@@ -105,7 +105,7 @@ impl<'r, 's> Strip<'r, 's> {
         let right = match scope {
             Some(scope) => Side {
                 task: Task::Source(right as usize, scope as usize, levels.right),
-                is_part: self.way.is_short(),
+                may_shorten: self.way.is_short(),
             },
             None => self.part(right, levels.right, below),
         };
@@ -166,11 +166,11 @@ impl<'r, 's> Strip<'r, 's> {
         let levels = sign.levels();
         let left = Side {
             task: Task::Source(left, scope, levels.left),
-            is_part: false,
+            may_shorten: false,
         };
         let right = Side {
             task: Task::Source(right, scope, levels.right),
-            is_part: false,
+            may_shorten: false,
         };
         self.push_joined(sign, wanted, left, right);
     }

@@ -66,7 +66,7 @@ module _ {T : Type 0} where
       → MatchOption r
       ((map (λ (z : Lane T). is_some z.own) (set l i y) ≡ map (λ (z : Lane T). is_some z.own) l) × ¬ (slice_get (map (λ (z : Lane T). is_some z.own) l) i ≡ Some true))
       (λ own. (slice_get (map (λ (z : Lane T). is_some z.own) l) i ≡ Some true) × (map (λ (z : Lane T). is_some z.own) (set l i y) ≡ set (map (λ (z : Lane T). is_some z.own) l) i false)
-      × (slice_get (map (λ (z : Lane T). stealer_deque z.thief) l) i ≡ Some (own_name own)) × (own_view own ≡ view_of true [] []))
+      × (slice_get (map (λ (z : Lane T). stealer_deque z.stealing_end) l) i ≡ Some (own_name own)) × (own_view own ≡ view_of true [] []))
   own_taken l i x y None at is gone =
       let f : Lane T → Bool = λ z. is_some z.own in
       let was : is_some x.own ≡ false = ap (λ (o : Option (Own T)). is_some o) (sym is) in
@@ -77,4 +77,4 @@ module _ {T : Type 0} where
       let was : is_some x.own ≡ true = ap (λ (o : Option (Own T)). is_some o) (sym is) in
       let now : is_some y.own ≡ false = ap (λ (o : Option (Own T)). is_some o) gone in
       let p = x.paired own (sym is) in
-      (map_at f l i x at ∙ ap Some was, map-set f l i y ∙ ap (λ (b : Bool). set (map f l) i b) now, map_at (λ (z : Lane T). stealer_deque z.thief) l i x at ∙ ap Some (sym p.0), p.1)
+      (map_at f l i x at ∙ ap Some was, map-set f l i y ∙ ap (λ (b : Bool). set (map f l) i b) now, map_at (λ (z : Lane T). stealer_deque z.stealing_end) l i x at ∙ ap Some (sym p.0), p.1)

@@ -37,7 +37,7 @@ module _ {T : Type 0} where
 
   -- the queues, in order
   abbrev pub names : Queues T → List Name
-  names queues = map (λ l. stealer_deque l.thief) queues.lanes.items
+  names queues = map (λ l. stealer_deque l.stealing_end) queues.lanes.items
 
   -- which queues have an end that no worker took yet
   abbrev pub free : Queues T → List Bool

@@ -6,19 +6,19 @@ ghost use Rattle.crossbeam_deque.specs.Handles.{worker_view, worker_deque, worke
 ghost use Rattle.orc_pool.specs.History.{view_of};
 
 use crate::own::{Deque, Own};
-use crate::theft::{Theft, Thief};
+use crate::theft::{StealingEnd, Theft};
 use std::alloc::{AllocError, Global};
 
 /// The slots that a queue begins with: so many tasks fit before it has to grow, which takes memory. The contracts that say 64 mean these.
 const SLOTS: usize = 64;
 
-/// One queue: the owner's end, until its worker takes that (then None), and the stealer, of which each thief gets a copy.
+/// One queue: the owner's end, until its worker takes that (then None), and the end from which others steal, of which each right to steal has a copy.
 #[derive(Drop)]
 pub struct Lane<T: Drop> {
     pub(crate) own: Option<Own<T>>,
-    pub(crate) thief: Thief<T>,
+    pub(crate) stealing_end: StealingEnd<T>,
     // Both ends are of one deque, on which nothing was done yet, with 64 slots at least.
-    ghost paired: { ForSome own (λ o. (worker_deque o.worker ≡ stealer_deque thief) × (worker_view o.worker ≡ view_of true [] []) × (64 ≤ worker_capacity o.worker) × (worker_index o.worker ≡ 0)) },
+    ghost paired: { ForSome own (λ o. (worker_deque o.worker ≡ stealer_deque stealing_end) × (worker_view o.worker ≡ view_of true [] []) × (64 ≤ worker_capacity o.worker) × (worker_index o.worker ≡ 0)) },
 }
 
 impl<T: Drop> Lane<T> {
@@ -30,9 +30,9 @@ impl<T: Drop> Lane<T> {
     {
         // A deque with so many slots, from which the owner pops what was pushed last.
         let worker = Deque::<T>::lifo_as(alloc, SLOTS)?;
-        let thief = worker.stealer()?;
+        let stealing_end = worker.stealer()?;
         let own = Some(Own::of(worker));
-        Ok(Lane { own, thief })
+        Ok(Lane { own, stealing_end })
     }
 }
 
@@ -80,7 +80,7 @@ impl<T: Drop> Queues<T> {
         let Some(lane) = self.lanes.get(at) else {
             return Ok(None);
         };
-        let stealer = lane.thief.clone()?;
+        let stealer = lane.stealing_end.clone()?;
         Ok(Some(Theft::by(stealer)))
     }
 }

@@ -1,4 +1,4 @@
-//! The right to steal from a queue. In contracts `theft_view` is what the thief knows of the queue's history.
+//! The right to steal from a queue. In contracts `theft_view` is what the holder of the right knows of the queue's history.
 ghost use Rattle.std.specs.Prelude.{◌≡◌, false};
 ghost use Rattle.crossbeam_deque.specs.Handles.{view, IsPassOf, stealer_deque};
 
@@ -6,18 +6,20 @@ use crate::history::{OneHistory, Thefts, View};
 use crossbeam_deque::{Pass, Steal, Stealer};
 use std::alloc::Global;
 
-// The end of one of the kit's deques from which others steal; its history follows the rule `OneHistory`.
-pub(crate) type Thief<T> = Stealer<T, Global, View<T>, OneHistory>;
+// The end of a queue from which others steal: an end of a deque of `crossbeam_deque`, whose history follows the rule `OneHistory`.
+pub(crate) type StealingEnd<T> = Stealer<T, Global, View<T>, OneHistory>;
 
-/// How often a theft that met another call is tried again. The number is so great that the bound only shows the prover that the loop ends: each time
-/// another theft or pop has had success.
+/// How often `steal` tries again if another call took a task from the queue meanwhile. The number is so great that the bound only shows the prover
+/// that the loop ends: each time another theft or pop has had success.
 const TRIES: u32 = 1_048_576;
 
 /// The right to steal from a queue.
 #[derive(Drop)]
 pub struct Theft<T: Drop> {
-    pub(crate) stealer: Thief<T>,
-    // What this thief knows of the history. The kit calls it a pass of the deque; it has nothing to do with the passes to a group in other crates.
+    // The end of the queue from which `steal` takes.
+    pub(crate) stealer: StealingEnd<T>,
+    // What the holder of this right knows of the queue's history. `crossbeam_deque` calls it a pass; it has nothing to do with the passes to a group
+    // in other crates.
     pub(crate) pass: Pass<T, View<T>>,
     ghost of: { IsPassOf (stealer_deque stealer) pass },
     ghost guest: { (view pass).owns ≡ false },
@@ -29,7 +31,7 @@ impl<T: Drop> Theft<T> {
     ghost use Rattle.orc_pool.specs.Words.{theft_view};
 
     /// A right to steal that has stolen nothing.
-    pub(crate) fn by(stealer: Thief<T>) -> Theft<T>
+    pub(crate) fn by(stealer: StealingEnd<T>) -> Theft<T>
         ensures { (stealer_deque result.stealer ≡ stealer_deque stealer) × (theft_view result ≡ view_of false [] []) }
     {
         let pass = stealer.pass();
@@ -42,7 +44,7 @@ impl<T: Drop> Theft<T> {
         ensures { MatchOption result (theft_view self.new ≡ theft_view self.old) (λ task. IsTheft (theft_view self.old) (task ∷ []) (theft_view self.new)) }
     {
         for _ in 0..TRIES {
-            // The kit's theft. `Thefts` is for the prover: it says how the history goes on.
+            // `Thefts` is for the prover: it says how the history goes on.
             match self.stealer.steal_as::<Thefts>(&mut self.pass) {
                 Steal::Success(task) => return Some(task),
                 Steal::Empty => return None,

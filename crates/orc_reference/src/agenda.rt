@@ -13,7 +13,7 @@ use std::collections::{BTreeMap, BinaryHeap, VecDeque};
 
 /// A token in the queue, by its mark.
 #[derive(Clone, Copy)]
-struct Turn {
+struct Queued {
     token: u64,
     /// Whether the token is already in the lists of all cells for which it still waits. It is if it comes from such a list.
     listed: bool,
@@ -24,7 +24,7 @@ struct Turn {
 #[derive(Drop)]
 pub struct Agenda {
     /// The queue of tokens that may be able to move, the next one first. A token that a bind has dropped stays in it: its turn is skipped.
-    tokens: VecDeque<Turn>,
+    tokens: VecDeque<Queued>,
     /// For each cell the tokens that wait for it, those that began to wait first in front.
     waiting: BTreeMap<u64, Vec<u64>>,
     /// The due time and the number of each call that has one, the least first.
@@ -35,7 +35,7 @@ impl Agenda {
     /// The agenda of a run's beginning: token 1. The error is refused memory.
     pub fn new(alloc: Global) -> Result<Agenda, AllocError> {
         let mut tokens = VecDeque::new(alloc);
-        tokens.push_back(Turn {
+        tokens.push_back(Queued {
             token: 1,
             listed: false,
         })?;
@@ -61,7 +61,7 @@ impl Agenda {
 
     // Puts a new token at the end of the queue. The error is refused memory.
     fn join(&mut self, token: u64) -> Result<(), AllocError> {
-        self.tokens.push_back(Turn {
+        self.tokens.push_back(Queued {
             token,
             listed: false,
         })?;
@@ -94,7 +94,7 @@ impl Agenda {
     fn wake(&mut self, cell: u64) -> Result<(), AllocError> {
         if let Some(tokens) = self.waiting.remove(&cell) {
             for token in tokens {
-                self.tokens.push_back(Turn {
+                self.tokens.push_back(Queued {
                     token,
                     listed: true,
                 })?;

@@ -88,7 +88,7 @@ impl Drop for Level {
 
 // How the search stands after a step.
 #[derive(Clone, Copy)]
-enum Turn {
+enum Progress {
     /// The way leads to what is wanted.
     Found,
     /// There may be more to try.
@@ -333,26 +333,26 @@ impl Search<'_> {
         mut marked: Marked,
         counts: u64,
         seen: usize,
-    ) -> Result<Turn, AllocError> {
+    ) -> Result<Progress, AllocError> {
         let time = wanted.time(marked.now());
         if marked.has_halted() {
             return Ok(if wanted.is_met(seen, time, End::Halted) {
-                Turn::Found
+                Progress::Found
             } else {
-                Turn::More
+                Progress::More
             });
         }
         let number = self.number_of(&marked, counts, seen, time)?;
         if self.known.contains_key(&number) {
-            return Ok(Turn::More);
+            return Ok(Progress::More);
         }
         self.known.insert(number, ())?;
         let next = self.entries(&mut marked)?;
         if next.is_empty() {
             return Ok(if wanted.is_met(seen, time, End::Quiet) {
-                Turn::Found
+                Progress::Found
             } else {
-                Turn::More
+                Progress::More
             });
         }
         self.levels.push(Level {
@@ -363,21 +363,21 @@ impl Search<'_> {
             counts,
             seen,
         })?;
-        Ok(Turn::More)
+        Ok(Progress::More)
     }
 
     // Tries the next entry at the last choice, or goes back to the choice before if none is left. `Nothing` says that there is no choice any more.
     // The error is refused memory.
-    fn turn<W: Wanted>(&mut self, wanted: &W) -> Result<Turn, AllocError> {
+    fn advance<W: Wanted>(&mut self, wanted: &W) -> Result<Progress, AllocError> {
         let Some(level) = self.levels.last_mut() else {
-            return Ok(Turn::Nothing);
+            return Ok(Progress::Nothing);
         };
         // The way is cut back to the position before the choice.
         self.way.truncate(level.entries);
         self.calls.truncate(level.calls);
         let Some(entry) = level.next.pop() else {
             let _level = self.levels.pop();
-            return Ok(Turn::More);
+            return Ok(Progress::More);
         };
         // A copy: the level keeps its own term for the entries that are still to be tried there.
         let mut marked = level.marked.copy(self.alloc)?;
@@ -386,7 +386,7 @@ impl Search<'_> {
         let time = wanted.time(marked.now());
         // None: the entry shows something that must not happen, so it isn't tried.
         let Some(seen) = self.seen_after(wanted, before, time, &entry) else {
-            return Ok(Turn::More);
+            return Ok(Progress::More);
         };
         // The marks from here on are those that the entry brings.
         let from = marked.new_mark();
@@ -403,18 +403,18 @@ impl Search<'_> {
         let mut marked = Marked::new(self.alloc, self.program, true)?;
         // The moves of marks from token 1 on. Then the first position is there: no call was counted, and nothing was seen.
         self.settle(&mut marked, 1)?;
-        let mut turn = self.stand(wanted, marked, 0, 0)?;
+        let mut progress = self.stand(wanted, marked, 0, 0)?;
         // Each position is tried once, so the search ends; the bound only shows that the loop does.
-        for _turn in 0..u64::MAX {
-            match turn {
-                Turn::Found => return Ok(Some(replace(&mut self.way, Vec::new(self.alloc)))),
-                Turn::Nothing => return Ok(None),
-                Turn::More => {}
+        for _step in 0..u64::MAX {
+            match progress {
+                Progress::Found => return Ok(Some(replace(&mut self.way, Vec::new(self.alloc)))),
+                Progress::Nothing => return Ok(None),
+                Progress::More => {}
             }
             if self.known.len() > most {
                 return Ok(None);
             }
-            turn = self.turn(wanted)?;
+            progress = self.advance(wanted)?;
         }
         Ok(None)
     }

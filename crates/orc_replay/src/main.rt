@@ -9,7 +9,7 @@ mod random;
 mod replay;
 mod rows;
 
-use crate::replay::{Odd, Stop, replay_journal};
+use crate::replay::{Mismatch, Stop, replay_journal};
 use orc_journal_text::read_journal;
 use orc_load::load;
 use orc_rules::entry::State;
@@ -28,7 +28,7 @@ pub(crate) fn replay_text(
     // The answer for a text that can't be read: nothing was replayed.
     let unread = Stop {
         at: 0,
-        why: Odd::Other,
+        why: Mismatch::Other,
     };
     let Ok(loaded) = load(alloc, source, script) else {
         return Err(unread);

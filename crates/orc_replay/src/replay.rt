@@ -25,7 +25,7 @@ use std::marker::Brand;
 
 /// Why the replay of an entry fails.
 #[derive(Clone, Copy, Debug, PartialEq, Eq)]
-pub enum Odd {
+pub enum Mismatch {
     /// The ledger has no such token (no running part of the program with this mark), call or side.
     Gone,
     /// The token does something else next than the entry says, or waits.
@@ -51,7 +51,7 @@ pub struct Stop {
     /// The number of the entry, from 1; cancels count. 0 if nothing was replayed.
     pub at: usize,
     /// Why the entry fails.
-    pub why: Odd,
+    pub why: Mismatch,
 }
 
 // What an open group is.
@@ -111,14 +111,14 @@ impl<P: Run> Drop for Replay<P> {
     }
 }
 
-impl From<LedgerFault> for Odd {
+impl From<LedgerFault> for Mismatch {
     // Full (too many tokens, groups or left sides of a `>x>`) and Limit (too many entries) are both Limit here.
-    fn from(fault: LedgerFault) -> Odd {
+    fn from(fault: LedgerFault) -> Mismatch {
         match fault {
-            LedgerFault::Full | LedgerFault::Limit => Odd::Limit,
-            LedgerFault::Memory => Odd::Memory,
+            LedgerFault::Full | LedgerFault::Limit => Mismatch::Limit,
+            LedgerFault::Memory => Mismatch::Memory,
             // A claim is what another worker may have won first. The one that `advance` makes always succeeds, so this fault doesn't occur.
-            LedgerFault::Unclaimed => Odd::Other,
+            LedgerFault::Unclaimed => Mismatch::Other,
         }
     }
 }
@@ -147,7 +147,7 @@ fn says(what: Action, entry: &Entry) -> bool {
 impl<P: Run> Replay<P> {
     /// A run that has begun: token 1 stands at the program's main term, in slot 0. The error is refused memory. The clauses ask that the graph is
     /// that of the run `P`, which keeps its journal and has the greatest limit.
-    pub fn begin(alloc: Global, graph: &Graph) -> Result<Replay<P>, Odd>
+    pub fn begin(alloc: Global, graph: &Graph) -> Result<Replay<P>, Mismatch>
         requires keeps { P.keeps ≡ true }
         requires graph { graph.now ≡ P.listing }
         requires limit { P.limit ≡ MOST_ENTRIES }
@@ -157,7 +157,7 @@ impl<P: Run> Replay<P> {
         // No token has serial 0. The first token, whose serial is 1, is in slot 0.
         for _serial in 0..2 {
             if slots.push(0).is_err() {
-                return Err(Odd::Memory);
+                return Err(Mismatch::Memory);
             }
         }
         Ok(Replay {
@@ -172,7 +172,7 @@ impl<P: Run> Replay<P> {
 
     /// Has the ledger do what an entry says, by the call for its kind, and then closes the groups that end without an entry. A `cancel` is refused as
     /// Other: the ledger makes it with its bind. The error says why the entry fails. Where memory is refused nothing has changed.
-    pub fn enter(&mut self, inputs: &Inputs<'_, P>, entry: &Entry) -> Result<(), Odd> {
+    pub fn enter(&mut self, inputs: &Inputs<'_, P>, entry: &Entry) -> Result<(), Mismatch> {
         self.make_room()?;
         match entry {
             Entry::End(serial)
@@ -191,45 +191,50 @@ impl<P: Run> Replay<P> {
             Entry::Lost(cell) => self.halt(Side::Right(*cell))?,
             Entry::Right(number, _) => self.halt(Side::Left(*number))?,
             Entry::Tick(time) => self.tick(inputs, *time)?,
-            Entry::Cancel(_) => return Err(Odd::Other),
+            Entry::Cancel(_) => return Err(Mismatch::Other),
         }
         self.close_published()
     }
 
     // Makes room for the notes on an entry: two tokens and a group, the most that one entry brings (`open`). So no memory is refused for the notes
     // once the ledger has moved.
-    fn make_room(&mut self) -> Result<(), Odd> {
+    fn make_room(&mut self) -> Result<(), Mismatch> {
         if self.slots.try_reserve(2).is_err() || self.groups.try_reserve(1).is_err() {
-            return Err(Odd::Memory);
+            return Err(Mismatch::Memory);
         }
         Ok(())
     }
 
     // Has the ledger do what an entry says, and once more if memory was refused: nothing has changed then, so the second call has to do what the
     // first one would have done.
-    fn enter_again(&mut self, inputs: &Inputs<'_, P>, entry: &Entry) -> Result<(), Odd> {
+    fn enter_again(&mut self, inputs: &Inputs<'_, P>, entry: &Entry) -> Result<(), Mismatch> {
         match self.enter(inputs, entry) {
-            Err(Odd::Memory) => self.enter(inputs, entry),
+            Err(Mismatch::Memory) => self.enter(inputs, entry),
             entered => entered,
         }
     }
 
     // The token with this serial makes its next move, if that is the entry: Gone if no token has this serial (its mark in the journal), Word if the
     // token does something else next.
-    fn advance(&mut self, inputs: &Inputs<'_, P>, serial: u64, entry: &Entry) -> Result<(), Odd> {
+    fn advance(
+        &mut self,
+        inputs: &Inputs<'_, P>,
+        serial: u64,
+        entry: &Entry,
+    ) -> Result<(), Mismatch> {
         // The slot in which the ledger keeps the token, by the notes.
         let Some(slot) = self.slots.get(serial as usize).copied() else {
-            return Err(Odd::Gone);
+            return Err(Mismatch::Gone);
         };
         let Some(token) = self.ledger.held(slot) else {
-            return Err(Odd::Gone);
+            return Err(Mismatch::Gone);
         };
         // The slot has a later token by now: the one that is asked for is gone.
         if token.serial != serial {
-            return Err(Odd::Gone);
+            return Err(Mismatch::Gone);
         }
         if !says(self.ledger.what(inputs, &token), entry) {
-            return Err(Odd::Word);
+            return Err(Mismatch::Word);
         }
         // The group that the token is in before its move: the innermost open side around it, or 0, the program's own.
         let group = self.ledger.group_of_token(&token);
@@ -248,7 +253,13 @@ impl<P: Run> Replay<P> {
 
     // Notes what a token's move, which wrote `entry`, has done: the tokens that came of it, a side that was entered, and groups that a publication
     // has left. The token stood in `slot` and in the group with the number `group`, and its successor, if it has one, is in the same slot.
-    fn follow(&mut self, entry: &Entry, slot: usize, group: u32, moved: Moved) -> Result<(), Odd> {
+    fn follow(
+        &mut self,
+        entry: &Entry,
+        slot: usize,
+        group: u32,
+        moved: Moved,
+    ) -> Result<(), Mismatch> {
         match moved {
             // One successor, in the same slot.
             Moved::On => {
@@ -285,28 +296,28 @@ impl<P: Run> Replay<P> {
             // The token has bound this cell: all that was in its right side is gone.
             Moved::Bound(cell, _) => self.drop_side(cell),
             // Not reached: `advance` itself makes the call for `Calls`, and `says` accepts no entry for a token that waits.
-            Moved::Calls | Moved::Waits => Err(Odd::Word),
+            Moved::Calls | Moved::Waits => Err(Mismatch::Word),
         }
     }
 
     // Notes that the newest token is in this slot, and gives the number of the token's group. Gone if no token is there, Other if the token's serial
     // isn't the next one, which is the length of `slots`.
-    fn stand(&mut self, slot: usize) -> Result<u32, Odd> {
+    fn stand(&mut self, slot: usize) -> Result<u32, Mismatch> {
         let Some(token) = self.ledger.held(slot) else {
-            return Err(Odd::Gone);
+            return Err(Mismatch::Gone);
         };
         if token.serial != self.slots.len() as u64 {
-            return Err(Odd::Other);
+            return Err(Mismatch::Other);
         }
         if self.slots.push(slot).is_err() {
-            return Err(Odd::Memory);
+            return Err(Mismatch::Memory);
         }
         Ok(self.ledger.group_of_token(&token))
     }
 
     // Notes that the group with this number was opened for a side, inside the group with the number `parent` (0 is the program's own). No publication
     // has left it yet.
-    fn note(&mut self, number: u32, side: Side, parent: u32) -> Result<(), Odd> {
+    fn note(&mut self, number: u32, side: Side, parent: u32) -> Result<(), Mismatch> {
         let group = OpenGroup {
             number,
             side,
@@ -315,7 +326,7 @@ impl<P: Run> Replay<P> {
         };
         match self.groups.push(group) {
             Ok(()) => Ok(()),
-            Err(_) => Err(Odd::Memory),
+            Err(_) => Err(Mismatch::Memory),
         }
     }
 
@@ -327,7 +338,7 @@ impl<P: Run> Replay<P> {
     // Notes that a publication has left the left sides from the group with the number `from` outwards, up to the group with the number `to`, which
     // the publication doesn't leave. Other if one of them isn't open, or is a right side, which no publication leaves. At most `MOST_GROUPS` groups
     // are nested, so the loop reaches `to`.
-    fn leave(&mut self, from: u32, to: u32) -> Result<(), Odd> {
+    fn leave(&mut self, from: u32, to: u32) -> Result<(), Mismatch> {
         // The number of the group that the publication leaves next.
         let mut number = from;
         for _outwards in 0..MOST_GROUPS {
@@ -335,27 +346,27 @@ impl<P: Run> Replay<P> {
                 return Ok(());
             }
             let Some(open) = self.groups.iter_mut().find(|open| open.number == number) else {
-                return Err(Odd::Other);
+                return Err(Mismatch::Other);
             };
             if let Side::Right(_) = open.side {
-                return Err(Odd::Other);
+                return Err(Mismatch::Other);
             }
             open.has_published = true;
             // The publication goes on to the group outside.
             number = open.parent;
         }
-        Err(Odd::Other)
+        Err(Mismatch::Other)
     }
 
     // Drops the group of a cell's right side, which a bind has ended, and all groups inside it: each turn drops one whose parent (the group outside
     // it) isn't there any more. No more than `MOST_GROUPS` are open, so the loop ends by `return`. Other if the cell has no open right side.
-    fn drop_side(&mut self, cell: u64) -> Result<(), Odd> {
+    fn drop_side(&mut self, cell: u64) -> Result<(), Mismatch> {
         let Some(place) = self
             .groups
             .iter()
             .position(|open| open.side == Side::Right(cell))
         else {
-            return Err(Odd::Other);
+            return Err(Mismatch::Other);
         };
         // The right side's own group.
         self.groups.swap_remove(place);
@@ -366,7 +377,7 @@ impl<P: Run> Replay<P> {
             };
             self.groups.swap_remove(place);
         }
-        Err(Odd::Other)
+        Err(Mismatch::Other)
     }
 
     // The index in `groups` of a group whose parent, the group outside it, isn't there. None if there is no such group.
@@ -387,7 +398,7 @@ impl<P: Run> Replay<P> {
 
     // Closes the groups that have published and have no members left: they end without an entry. To close one may take the last member from the group
     // outside it, so the search begins again after each. No more than `MOST_GROUPS` are open, so the loop ends by `return`.
-    fn close_published(&mut self) -> Result<(), Odd> {
+    fn close_published(&mut self) -> Result<(), Mismatch> {
         for _outwards in 0..MOST_GROUPS {
             // None: no group is left to close.
             let Some(place) = self.groups.iter().position(|open| open.has_published
@@ -399,17 +410,17 @@ impl<P: Run> Replay<P> {
             match self.halt_again(open.number) {
                 Ok(Halted::Closed(parent)) if parent == open.parent => {}
                 // Refused, or another end or parent than what was noted.
-                _ => return Err(Odd::Other),
+                _ => return Err(Mismatch::Other),
             }
         }
-        Err(Odd::Other)
+        Err(Mismatch::Other)
     }
 
     // Halts a side, which has no members any more: a cell is lost, or the right side of an otherwise starts. Gone if the side isn't open, Live if its
     // group has members, Other if its group ends without an entry, else Limit or Memory.
-    fn halt(&mut self, side: Side) -> Result<(), Odd> {
+    fn halt(&mut self, side: Side) -> Result<(), Mismatch> {
         let Some(place) = self.groups.iter().position(|open| open.side == side) else {
-            return Err(Odd::Gone);
+            return Err(Mismatch::Gone);
         };
         match self.ledger.halt(self.groups[place].number) {
             // The cell is lost. No token comes.
@@ -424,16 +435,16 @@ impl<P: Run> Replay<P> {
                 Ok(())
             }
             // The side had published, so its group ends without an entry, though the journal has one.
-            Ok(Halted::Closed(_)) => Err(Odd::Other),
-            Err(HaltFault::Gone) => Err(Odd::Gone),
-            Err(HaltFault::Live) => Err(Odd::Live),
-            Err(HaltFault::Refused(fault)) => Err(Odd::from(fault)),
+            Ok(Halted::Closed(_)) => Err(Mismatch::Other),
+            Err(HaltFault::Gone) => Err(Mismatch::Gone),
+            Err(HaltFault::Live) => Err(Mismatch::Live),
+            Err(HaltFault::Refused(fault)) => Err(Mismatch::from(fault)),
         }
     }
 
     // Answers the pending call with this number, its number in the journal: with a value, on which a token stands then, or with a halt. Gone if no
     // such call pends, Wrong if the table has another answer or another due time, else Limit or Memory.
-    fn answer(&mut self, number: u64, answer: Answer) -> Result<(), Odd> {
+    fn answer(&mut self, number: u64, answer: Answer) -> Result<(), Mismatch> {
         match self.ledger.returned(number, answer) {
             // Answered with a value: its token is in this slot.
             Ok(Some(slot)) => {
@@ -442,15 +453,15 @@ impl<P: Run> Replay<P> {
             }
             // Answered with a halt: no token comes.
             Ok(None) => Ok(()),
-            Err(ReturnFault::Gone) => Err(Odd::Gone),
-            Err(ReturnFault::Wrong) => Err(Odd::Wrong),
-            Err(ReturnFault::Limit) => Err(Odd::Limit),
-            Err(ReturnFault::Memory) => Err(Odd::Memory),
+            Err(ReturnFault::Gone) => Err(Mismatch::Gone),
+            Err(ReturnFault::Wrong) => Err(Mismatch::Wrong),
+            Err(ReturnFault::Limit) => Err(Mismatch::Limit),
+            Err(ReturnFault::Memory) => Err(Mismatch::Memory),
         }
     }
 
     // Lets the run's time go on to `wanted`, in logical units. Time if the ledger says that something else comes next, or a tick to another time.
-    fn tick(&mut self, inputs: &Inputs<'_, P>, wanted: u64) -> Result<(), Odd> {
+    fn tick(&mut self, inputs: &Inputs<'_, P>, wanted: u64) -> Result<(), Mismatch> {
         let next = self.ledger.next(inputs);
         // Shows the prover the ledger's invariant, which `tick` needs; nothing runs.
         self.ledger.is_whole();
@@ -459,7 +470,7 @@ impl<P: Run> Replay<P> {
                 self.ledger.tick(time)?;
                 Ok(())
             }
-            _ => Err(Odd::Time),
+            _ => Err(Mismatch::Time),
         }
     }
 
@@ -533,11 +544,11 @@ fn replay_named<P: Run>(
         Some(true) => Ok(replay.state(&inputs)),
         Some(false) => Err(Stop {
             at,
-            why: Odd::Other,
+            why: Mismatch::Other,
         }),
         None => Err(Stop {
             at,
-            why: Odd::Memory,
+            why: Mismatch::Memory,
         }),
     }
 }
@@ -555,13 +566,13 @@ pub fn replay_journal(
     if journal.version() != Version::Two {
         return Err(Stop {
             at: 0,
-            why: Odd::Other,
+            why: Mismatch::Other,
         });
     }
     let Ok(graph) = Graph::build(alloc, program) else {
         return Err(Stop {
             at: 0,
-            why: Odd::Memory,
+            why: Mismatch::Memory,
         });
     };
     // `Brand` is a fresh name for the run, for contracts alone.

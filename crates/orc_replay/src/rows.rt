@@ -3,7 +3,7 @@
 ghost use Rattle.std.specs.Prelude.{◌≡◌, true};
 ghost use Rattle.orc_rules.specs.declared.limits.TheConstants.{MOST_ENTRIES};
 
-use crate::replay::{Odd, Replay, Stop};
+use crate::replay::{Mismatch, Replay, Stop};
 use crate::replay_text;
 use orc_graph::Graph;
 use orc_journal_text::{read_entry, write_journal};
@@ -423,7 +423,7 @@ const EARLY: [(&[u8], &[u8], Stop); 3] = [
         b"orc-journal 2\nopen 1 1 2 3\nlost 1\nend 2\n",
         Stop {
             at: 2,
-            why: Odd::Live,
+            why: Mismatch::Live,
         },
     ),
     (
@@ -432,7 +432,7 @@ const EARLY: [(&[u8], &[u8], Stop); 3] = [
         b"orc-journal 2\nother 1 2\nright 1 3\npublish 3 1\n",
         Stop {
             at: 2,
-            why: Odd::Live,
+            why: Mismatch::Live,
         },
     ),
     (
@@ -441,7 +441,7 @@ const EARLY: [(&[u8], &[u8], Stop); 3] = [
         b"orc-journal 2\nfork 1 2 3\ncall 2 1 Rwait(1)\ntick 1\n",
         Stop {
             at: 3,
-            why: Odd::Time,
+            why: Mismatch::Time,
         },
     ),
 ];

@@ -27,18 +27,18 @@ const RACERS: &str = "4";
 /// The longest journal, in entries, of a run whose end is explained here: an explanation replays the journal, which takes long for a long one.
 const MOST_EXPLAINED: u64 = 10_000;
 
-// The words of a command line that runs the row's program on `workers` workers, a number in digits, with the words of the row, which blanks separate,
-// behind that. The error is refused memory.
+// The words of a command line that runs the row's program on `workers` workers, a number in digits. Behind them come the row's own words, `more`, which
+// blanks separate. The error is refused memory.
 fn words_of<'a>(
     alloc: Global,
     workers: &'a str,
-    words: &'a str,
+    more: &'a str,
 ) -> Result<Vec<&'a str>, AllocError> {
     let mut line = Vec::new(alloc);
     line.extend_from_slice(["orc", "run", "a.orc", "--script", "a.script"].as_slice())?;
     line.push("--workers")?;
     line.push(workers)?;
-    for word in words.split_whitespace() {
+    for word in more.split_whitespace() {
         line.push(word)?;
     }
     Ok(line)

@@ -127,7 +127,7 @@ impl<R: Threads + Wait + Sync> Streams<'_, R> {
     }
 
     // Does a command line over the files and this standard output, which doesn't take all: the status and standard error have to say so.
-    fn is_unwritten<W: Write>(&mut self, words: &[&str], out: &mut W) -> io::Result<()> {
+    fn check_unwritten<W: Write>(&mut self, words: &[&str], out: &mut W) -> io::Result<()> {
         let (status, err) = orc_into(self.rt, self.alloc, words, &self.folder, out)?;
         self.expect_status(UNWRITTEN_STATUS, status)?;
         self.expect("standard error has", UNWRITTEN, err.as_str())?;
@@ -147,7 +147,7 @@ impl<R: Threads + Wait + Sync> Streams<'_, R> {
             // Room for no byte, for one, and so on, up to one less than the text has.
             for room in 0..bytes.len() {
                 let mut out = ShortWriter::new(self.alloc, room, 1);
-                self.is_unwritten(words, &mut out)?;
+                self.check_unwritten(words, &mut out)?;
                 self.expect_bytes(&bytes[..room], out.taken.as_slice())?;
             }
             // Now there is room for all of the text, so nothing fails.
@@ -165,7 +165,7 @@ impl<R: Threads + Wait + Sync> Streams<'_, R> {
     // writer: its status is 0.
     fn fails_at_a_writer_that_takes_nothing(&mut self) -> io::Result<()> {
         for words in [RUN, OUTCOMES, SEARCH, CHECK, PRINT, VERSION].iter() {
-            self.is_unwritten(words, &mut IdleWriter)?;
+            self.check_unwritten(words, &mut IdleWriter)?;
             self.count("a writer that takes nothing", words)?;
         }
         let words: &[&str] = &["orc", "run", "stop.orc"];
@@ -182,7 +182,7 @@ impl<R: Threads + Wait + Sync> Streams<'_, R> {
         let words: &[&str] = &["orc", "run", "sum.orc"];
         for at_once in [1, 2, 10].iter() {
             let mut out = ShortWriter::new(self.alloc, 2, *at_once);
-            self.is_unwritten(words, &mut out)?;
+            self.check_unwritten(words, &mut out)?;
             self.expect_bytes(b"12", out.taken.as_slice())?;
             self.count("a writer of two bytes", words)?;
         }
@@ -231,15 +231,15 @@ impl<R: Threads + Wait + Sync> Streams<'_, R> {
         ];
         for (words, good, line) in rows.iter() {
             // The first call's file may not be read (status 6), for the second call's there is no memory (status 5).
-            self.is_unread(words, *good, ReadFault::Failed(Unread::Forbidden), 6, line)?;
-            self.is_unread(words, *good, ReadFault::Memory, 5, "orc: memory\n")?;
+            self.check_unread(words, *good, ReadFault::Failed(Unread::Forbidden), 6, line)?;
+            self.check_unread(words, *good, ReadFault::Memory, 5, "orc: memory\n")?;
         }
         Ok(())
     }
 
     // Tries a command line over files of which the first `good` ones can be read, and the next one can't, for this reason. It has to write this line
     // on standard error and end with the status `wanted`.
-    fn is_unread(
+    fn check_unread(
         &mut self,
         words: &[&str],
         good: usize,
@@ -264,18 +264,18 @@ impl<R: Threads + Wait + Sync> Streams<'_, R> {
         let bytes = JOURNAL.as_bytes();
         // `usize::MAX`: the file never fails.
         for at_once in [1, 2, 7, 1_000].iter() {
-            self.is_checked(bytes, *at_once, usize::MAX, Ok(()), b"ok 1 Running\n")?;
+            self.check_read(bytes, *at_once, usize::MAX, Ok(()), b"ok 1 Running\n")?;
         }
         // The last one gives all bytes and fails where the journal's end should be.
         for good in 0..=bytes.len() {
-            self.is_checked(bytes, 3, good, Err(Unchecked::Unread), b"")?;
+            self.check_read(bytes, 3, good, Err(Unchecked::Unread), b"")?;
         }
         Ok(())
     }
 
     // Checks a journal that comes at most `at_once` bytes at a time, from a file that fails once it has given `good` bytes in all. The answer has to
     // be `wanted`, and `text` what the check writes.
-    fn is_checked(
+    fn check_read(
         &mut self,
         bytes: &[u8],
         at_once: usize,

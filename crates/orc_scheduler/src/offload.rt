@@ -56,7 +56,7 @@ impl<P: Run> Scheduler<P> {
         let last = self.entries().saturating_add(wanted.saturating_mul(EACH));
         for _round in 0..ROUNDS {
             // How many tokens are in the run queue.
-            let ready = self.ready();
+            let ready = self.ready_count();
             if ready == 0 || ready >= wanted || self.entries() > last {
                 break;
             }
@@ -78,7 +78,7 @@ impl<P: Run> Scheduler<P> {
         ensures stops { IfErr result (λ stop. Stops P.listing self.new.ledger stop) }
     {
         self.spreads = true;
-        for _token in 0..self.ready() {
+        for _token in 0..self.ready_count() {
             let is_full = self.ledger.side_count() >= MOST_SIDES;
             if is_full || self.is_oldest_settled(inputs.graph, moves) {
                 self.ready.pass_oldest();

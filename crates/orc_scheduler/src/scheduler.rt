@@ -419,14 +419,14 @@ impl<P: Run> Scheduler<P> {
                 return Ok(step);
             }
         }
-        self.pass_on(inputs, slot, token)
+        self.step_any(inputs, slot, token)
     }
 
     // One move of the token in this slot, of any kind, and all that follows from it: tokens that the move wakes or adds are put into the run queue,
     // groups (what runs in one side) that it leaves without members end. The answer says how the token goes on. After `Waits` the records are the
     // same as before; after any other answer the run is further (`Advances`). The error is why the run stops.
     #[inline(always)]
-    fn pass_on(&mut self, inputs: &Inputs<'_, P>, slot: usize, token: Token) -> Result<Step, Stop>
+    fn step_any(&mut self, inputs: &Inputs<'_, P>, slot: usize, token: Token) -> Result<Step, Stop>
         requires held { IsHeld self.old.ledger.slots slot token }
         ensures moved { IfOk result (λ step. HasMoved self.old.ledger (deque_len self.old.ready.handles) self.new.ledger (deque_len self.new.ready.handles) step) }
         ensures waits { IfOk result (λ step. step ≡ Step.Waits → IsProgram (definitions P.listing) (source P.listing) → is_wait (what_of (code P.listing) (definitions P.listing) self.old.ledger token) ≡ true) }
@@ -434,11 +434,11 @@ impl<P: Run> Scheduler<P> {
     {
         // A law, for the clause *waits*: in a program that the scope check accepted each call of a definition has its arguments. Nothing runs.
         calls_fit(&self.ledger);
-        match self.pass(inputs, slot, token) {
+        match self.advance(inputs, slot, token) {
             // The token has moved, and is in its slot still.
             Ok(Moved::On) => Ok(Step::On(slot)),
             // The token has become two, and `right` is the slot of the second one.
-            Ok(Moved::Forked(right)) => self.part(slot, right),
+            Ok(Moved::Forked(right)) => self.go_on_right(slot, right),
             // In this arm and the two below, `group` is the group that the move may have left without a member: it ends then.
             Ok(Moved::Sent(group)) => {
                 self.close(group)?;
@@ -469,7 +469,7 @@ impl<P: Run> Scheduler<P> {
     }
 
     // One move of a token at the commonest nodes: a call, `f | g`, `stop`, and `f >x> g`, which it enters and goes through in one move. It is a
-    // faster form of `pass_on`, which serves moves of any kind. None, with nothing changed, if the token stands elsewhere or can't move, and in an
+    // faster form of `step_any`, which serves moves of any kind. None, with nothing changed, if the token stands elsewhere or can't move, and in an
     // order at a call of a site or at `f >x> g`. The token in this slot stands at `node`, in the scope with the number `scope`; `list` is the number
     // of a call's list of operands.
     #[inline(always)]
@@ -499,7 +499,7 @@ impl<P: Run> Scheduler<P> {
                         Ok(step) => Ok(Some(step)),
                         Err(stop) => Err(stop),
                     },
-                    // An argument has no value. Nothing has changed, and `pass_on` goes on.
+                    // An argument has no value. Nothing has changed, and `step_any` goes on.
                     Ok(None) => Ok(None),
                     Err(fault) => {
                         // A law, in each arm below too: where the ledger was full its journal shows that it can have been, as `Stops` asks. Nothing
@@ -585,7 +585,7 @@ impl<P: Run> Scheduler<P> {
                     }
                 }
             }
-            // Any other node: None has the caller move the token by `pass_on`.
+            // Any other node: None has the caller move the token by `step_any`.
             _ => Ok(None),
         }
     }
@@ -594,7 +594,7 @@ impl<P: Run> Scheduler<P> {
     // tokens and closes groups. `self.scopes` and `self.cancelled` are lent to the ledger, which writes there the scopes of a definition's parameters
     // and the calls that a bind cancels. The error is why the token can't move; nothing has changed then.
     #[inline(always)]
-    fn pass(
+    fn advance(
         &mut self,
         inputs: &Inputs<'_, P>,
         slot: usize,
@@ -620,7 +620,7 @@ impl<P: Run> Scheduler<P> {
     // right one goes on, so that the group of a `<x<`'s right side may be gone before the left side opens more; the left one goes into the run queue.
     // The error is refused memory.
     #[inline(always)]
-    fn part(&mut self, left: usize, right: usize) -> Result<Step, Stop>
+    fn go_on_right(&mut self, left: usize, right: usize) -> Result<Step, Stop>
         ensures same { self.new.ledger ≡ self.old.ledger }
         ensures on { IfOk result (λ step. (slot : ℕ) × (step ≡ Step.On slot)) }
         ensures memory { IfErr result (λ stop. stop ≡ Stop.Refused LedgerFault.Memory) }
@@ -776,7 +776,7 @@ impl<P: Run> Scheduler<P> {
     }
 
     /// How many handles the run queue has. Some may be of tokens that are gone.
-    pub fn ready(&self) -> usize {
+    pub fn ready_count(&self) -> usize {
         self.ready.len()
     }
 

@@ -37,7 +37,7 @@ pub struct SubRunJob<P: Run> {
     // is in vain.
     races: bool,
     // The result of its sub-run; Nothing until it was run, and once `take` has taken it.
-    came: SubRunResult<P>,
+    result: SubRunResult<P>,
 }
 
 impl<P: Run> SubRunJob<P> {
@@ -47,7 +47,7 @@ impl<P: Run> SubRunJob<P> {
             handle,
             task,
             races,
-            came: SubRunResult::Nothing,
+            result: SubRunResult::Nothing,
         }
     }
 
@@ -57,15 +57,15 @@ impl<P: Run> SubRunJob<P> {
     }
 
     /// The result of its sub-run.
-    pub fn came(&self) -> &SubRunResult<P> {
-        &self.came
+    pub fn result(&self) -> &SubRunResult<P> {
+        &self.result
     }
 
     /// Whether the call races others, and to run those behind it may be in vain: its sub-run has yielded a value, or it has no result, so that nobody
     /// knows whether the call will yield one.
     pub fn has_won(&self) -> bool {
         self.races
-            && match &self.came {
+            && match &self.result {
                 SubRunResult::Over(part) => part.has_value(),
                 // It was cut at its limit of entries, so no value came of it.
                 SubRunResult::Long => false,
@@ -76,22 +76,22 @@ impl<P: Run> SubRunJob<P> {
 
     /// Takes the result out of the job, and leaves `Nothing` there.
     pub fn take(&mut self) -> SubRunResult<P> {
-        mem::replace(&mut self.came, SubRunResult::Nothing)
+        mem::replace(&mut self.result, SubRunResult::Nothing)
     }
 
-    /// Runs the call apart, with at most `limit` entries (1 to `MOST_ENTRIES`), and notes the result for `came`; `keeps` says whether the sub-run's
+    /// Runs the call apart, with at most `limit` entries (1 to `MOST_ENTRIES`), and keeps the result; `keeps` says whether the sub-run's
     /// journal is kept, as that of the run is.
     pub fn run(&mut self, alloc: Global, inputs: &Inputs<'_, P>, keeps: bool, limit: usize)
         requires keeps { keeps ≡ P.keeps }
         requires limit { (1 ≤ limit) × (limit ≤ MOST_ENTRIES) }
     {
-        self.came = came_of(alloc, inputs, keeps, self.task.copied(), limit);
+        self.result = result_of(alloc, inputs, keeps, self.task.copied(), limit);
     }
 }
 
 // Makes the sub-run of a task: its program is the call alone, with the definitions of the run's program. It has at most `limit` entries, and `keeps`
 // says whether its journal is kept. `Nothing` if it can't replace the call in the run, or memory is refused.
-fn came_of<P: Run>(
+fn result_of<P: Run>(
     alloc: Global,
     inputs: &Inputs<'_, P>,
     keeps: bool,

@@ -68,7 +68,7 @@ impl Writing {
 
     // The number of a part's node, from 0. An operand (a literal or a variable) gets its node here; any other part has one, which has to be there
     // (`IsFine`).
-    fn place(&mut self, piece: Piece) -> Result<usize, AllocError>
+    fn node_of(&mut self, piece: Piece) -> Result<usize, AllocError>
         requires { IsFine (terms self.old.nodes) piece }
         ensures within { IfOk result (λ at. at < length (terms self.new.nodes)) }
         ensures term { IfOk result (λ at. term_at (terms self.new.nodes) at ≡ piece_term (terms self.old.nodes) piece) }
@@ -83,7 +83,7 @@ impl Writing {
 
     // Takes the last two parts from the stack, and gives the numbers of their nodes, the left one first. The nodes so far stay (`Keeps`). None where
     // there are fewer, which the nodes of a tree rule out. The clauses say of both cases which parts are left (`IfSides`, `OnNoSides`).
-    fn sides(&mut self) -> Result<Option<(usize, usize)>, AllocError>
+    fn pop_sides(&mut self) -> Result<Option<(usize, usize)>, AllocError>
         requires { IsReady self.old }
         ensures some { IfOk result (IfSides (λ i j. parts self.old ≡ term_at (terms self.new.nodes) j ∷ term_at (terms self.new.nodes) i ∷ parts self.new)) }
         ensures within { IfOk result (IfSides (λ i j. (i < length (terms self.new.nodes)) × (j < length (terms self.new.nodes)))) }
@@ -97,9 +97,9 @@ impl Writing {
         let Some(left) = self.pieces.pop() else {
             return Ok(None);
         };
-        let i = self.place(left)?;
-        let j = self.place(right)?;
-        Ok(Some((i, j)))
+        let left_node = self.node_of(left)?;
+        let right_node = self.node_of(right)?;
+        Ok(Some((left_node, right_node)))
     }
 
     // Joins the last two parts on the stack by an operator, and pushes what that makes, which contracts call `built`: i and j are the numbers of the
@@ -110,7 +110,7 @@ impl Writing {
         ensures ready { OnOk result (IsReady self.new) }
         ensures keeps { OnOk result (Keeps (terms self.old.nodes) (terms self.new.nodes)) }
     {
-        let Some((i, j)) = self.sides()? else {
+        let Some((i, j)) = self.pop_sides()? else {
             // Not reached: both sides of an operator were written before it.
             return Ok(());
         };
@@ -204,7 +204,7 @@ impl Writing {
         ensures ready { OnOk result (IsReady self.new) }
         ensures keeps { OnOk result (Keeps (terms self.old.nodes) (terms self.new.nodes)) }
     {
-        let Some((bound, body)) = self.sides()? else {
+        let Some((bound, body)) = self.pop_sides()? else {
             // Not reached: G and F were written before.
             return Ok(());
         };
@@ -267,7 +267,7 @@ impl Writing {
         ensures keeps { OnOk result (Keeps (terms self.old.nodes) (terms self.new.nodes)) }
     {
         match self.pieces.pop() {
-            Some(piece) => self.place(piece),
+            Some(piece) => self.node_of(piece),
             // Not reached: an expression has a node.
             None => Ok(0),
         }

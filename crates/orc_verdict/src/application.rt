@@ -79,7 +79,9 @@ fn apply_at_any_depth(
 /// reason why the entry is refused, Deep where the term after it would nest over `MOST_LEVELS` levels, or Memory where there is no other but
 /// perhaps its depth; then nothing has changed.
 ///
-/// An entry after which the term may nest too deep is tried on a copy of the marked term.
+/// An entry after which the term may nest too deep is tried on a copy of the marked term. Where `heights` are those of the program's terms
+/// (`AreHeights`), `ShowsTaken` promises that the label is the entry's, that the entry leads to what the marked term spells now, and that this nests
+/// over no more than `MOST_LEVELS` levels.
 pub fn apply(
     alloc: Global,
     heights: &Heights,

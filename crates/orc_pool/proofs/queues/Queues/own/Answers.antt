@@ -7,7 +7,7 @@ pub returns-clause-same : goal.returns-clause-same
 returns-clause-same g c =
     let lanes = c.args.self.now.lanes.items in
     let lane = c.index_mut-lane.result.now in
-    map_set_same (λ z. stealer_deque z.thief) lanes c.args.at lane _ (get_at lanes c.args.at lane (search rules) c.index_mut-lane.ensures.value) refl
+    map_set_same (λ z. stealer_deque z.stealing_end) lanes c.args.at lane _ (get_at lanes c.args.at lane (search rules) c.index_mut-lane.ensures.value) refl
 
 pub returns-clause-own : goal.returns-clause-own
 returns-clause-own g c =
