@@ -41,6 +41,11 @@ waiting='def fan(n, x) = Lt(0, n) >more> Ift(more) >> (Add(x, 1) | Sub(n, 1) >m>
 def clock(n) = Lt(0, n) >more> Ift(more) >> Rwait(1) >> Sub(n, 1) >m> clock(m)
 (fan(COUNT, x) | clock(20000)) <x< (Rwait(30000) >> 1)'
 
+# A clock ticks 400 times while 2 to the power of COUNT tokens wait for x. With so few ticks the term nests under 10,000 levels, so it can be checked.
+ticks='def fan(k, x) = Eq(k, 0) >z> (Ift(z) >> Add(x, 1) | Iff(z) >> Sub(k, 1) >m> (fan(m, x) | fan(m, x)))
+def clock(n) = Lt(0, n) >more> Ift(more) >> Rwait(1) >> Sub(n, 1) >m> clock(m)
+(fan(COUNT, x) | clock(400)) <x< (Rwait(1000) >> 1)'
+
 pipes='def values(n) = Lt(0, n) >b> Ift(b) >> (n | Sub(n, 1) >m> values(m))
 def pipe() = values(100) >x> Add(x, 1) >y> Add(y, y) >z> Sub(z, 1)
 def pipes(n) = Lt(0, n) >b> (Iff(b) >> pipe() | Ift(b) >> Sub(n, 1) >m> (pipes(m) | pipes(m)))
@@ -92,6 +97,7 @@ workloads() {
     for rounds in 5000 20000; do run timed-races $rounds "${timed/COUNT/$rounds}" 'Slow(_) = 1 after 9'; done
     for count in 1000 40000; do run races-beside-calls $count "${beside/COUNT/$count}" 'Never() = never'; done
     for count in 1000 40000; do run waiting-tokens $count "${waiting/COUNT/$count}"; done
+    for levels in 10 14; do run ticks $levels "${ticks/COUNT/$levels}"; done
     for count in 250 1000; do run standing-sides $count "${sides//COUNT/$count}" 'Never() = never'; done
     for levels in 250 1000; do run left-otherwises $levels "${left//COUNT/$levels}"; done
     for levels in 14 16 18; do run tree $levels "${tree/COUNT/$levels}"; done

@@ -14,7 +14,7 @@ use Rattle.orc_term.proofs.Lists.{living-push}
 use Rattle.orc_term.proofs.Trees.{node}
 
 abbrev pub first : Bool → ℕ → List Bool → Bool → State
-first cancels root halts halted = record { nodes = node (One Passed 1) 0 ∷ node (Leaf (Token 1 root 0)) 0 ∷ []; scopes = []; cells = Void ∷ []; marks = 0 ∷ 1 ∷ []; halts = halts; flags = halted ∷ halted ∷ []; rest = record { calls = []; counts = []; time = 0; to_cancel = []; cancels = cancels } }
+first cancels root halts halted = record { nodes = node (One Passed 1) 0 ∷ node (Leaf (Token 1 root 0)) 0 ∷ []; scopes = []; cells = Void ∷ []; marks = 0 ∷ 1 ∷ []; halts = halts; flags = halted ∷ halted ∷ []; asked = []; rest = record { calls = []; counts = []; time = 0; to_cancel = []; cancels = cancels } }
 
 none_own : AreOwn (Void ∷ [])
 none_own zero d h = absurd (cc h)
@@ -36,4 +36,5 @@ spells_first l cancels halts halted are is_h x is =
       scopes = λ i s h. absurd (cc h);
       cells = (0, refl, refl, none_own);
       rest = record { time = refl; calls_are = refl; counted = λ m args h. refl; numbered = tt; due = refl; cancels_are = is };
+      still = λ k h. elim h [ ];
     }

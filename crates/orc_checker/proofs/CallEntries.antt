@@ -25,7 +25,7 @@ use Rattle.orc_checker.specs.Calls.{Rest, Keeps, told, AddsCall, IsCall, IsDueNo
 use Rattle.orc_calls.specs.Counting.{NextFound}
 use Rattle.orc_checker.specs.Checker.{State, EntersBy, AreCells}
 use Rattle.orc_term.proofs.Trees.{node}
-use Rattle.orc_checker.proofs.Moves.{written, turn, staying, Stays}
+use Rattle.orc_checker.proofs.Moves.{written, turn, staying, still_on, Stays}
 use Rattle.orc_env.proofs.Scopes.{close-site}
 use Rattle.orc_checker.proofs.CallsMade.{kept_length, map-more, is_due}
 
@@ -47,8 +47,8 @@ keeps_call x p r r' k m args cs c keeps free is_k found time adds =
 pub call-enters : (code : ℕ → Term) (sites : List Site) (s s' : State) (i q m k w f e : ℕ) (ps : List Param) (args : List Value) (c : Called) → at s.nodes q i (Leaf (Token m f e)) → code f ≡ site w ps
     → (AreOrdered s.scopes → values_of (map (close_param (env_of s.cells s.scopes e)) ps) ≡ Some args)
     → s'.nodes ≡ slice_set s.nodes i (node (Leaf (Waits k)) q) → s'.flags ≡ s.flags → s'.halts ≡ s.halts → s'.scopes ≡ s.scopes → s'.cells ≡ s.cells → s'.marks ≡ s.marks → k ≡ suc (length s.rest.calls)
-    → NextFound sites s.rest.counts w args c.found → c.at ≡ s.rest.time → AddsCall sites c w args s.rest s'.rest → s.rest.to_cancel ≡ [] → EntersBy sites code (entry.Call m k w args) s s'
-call-enters code sites s s' i q m k w f e ps args c a is values nodes flags halts scopes cells marks is_k found time rest free x of_sites p sp =
+    → NextFound sites s.rest.counts w args c.found → c.at ≡ s.rest.time → AddsCall sites c w args s.rest s'.rest → s.rest.to_cancel ≡ [] → s'.asked ≡ s.asked → EntersBy sites code (entry.Call m k w args) s s'
+call-enters code sites s s' i q m k w f e ps args c a is values nodes flags halts scopes cells marks is_k found time rest free asked x of_sites p sp =
     let env = env_of s.cells s.scopes in
     let b = written s s' i q (Token m f e) (Waits k) a refl refl (staying s s' scopes cells) tt nodes in
     let new = ap length nodes ∙ length-set s.nodes i (node (Leaf (Waits k)) q) in
@@ -71,6 +71,7 @@ call-enters code sites s s' i q m k w f e ps args c a is values nodes flags halt
         rest =
             keeps_call x p s.rest s'.rest k w args t.inside c sp.rest free is_k (subst (λ z. NextFound z s.rest.counts w args c.found) (sym of_sites) found) time
             (subst (λ z. AddsCall z c w args s.rest s'.rest) (sym of_sites) rest);
+        still = still_on x.definitions code s s' (staying s s' scopes cells) asked sp.still;
       },
     )
 
@@ -90,6 +91,7 @@ return-enters code sites s s' i q k a v c is_at call due nodes flags next st x o
         scopes = subst AreOrdered (sym st.scopes) sp.scopes;
         cells = subst (AreCells p.cells) (sym st.cells) sp.cells;
         rest = subst (Keeps x p.now p.calls p.to_cancel) (sym st.rest) sp.rest;
+        still = still_on x.definitions code s s' (staying s s' st.scopes st.cells) st.asked sp.still;
       },
     )
 
@@ -109,6 +111,7 @@ halt-enters code sites s s' i q k c is_at call due nodes len settles st x of_sit
         scopes = subst AreOrdered (sym st.scopes) sp.scopes;
         cells = subst (AreCells p.cells) (sym st.cells) sp.cells;
         rest = subst (Keeps x p.now p.calls p.to_cancel) (sym st.rest) sp.rest;
+        still = still_on x.definitions code s s' (staying s s' st.scopes st.cells) st.asked sp.still;
       },
     )
 

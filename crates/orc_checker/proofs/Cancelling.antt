@@ -10,6 +10,7 @@ use Rattle.orc_checker.specs.Calls.{Rest, told}
 use Rattle.orc_calls.specs.Counting.{AreCounted}
 use Rattle.orc_checker.specs.Checker.{State, Draws, Enters, AreCells}
 use Rattle.orc_env.specs.Names.{AreOrdered}
+use Rattle.orc_checker.proofs.Moves.{staying, still_on}
 
 -- the last number of a list is popped
 pub last_popped : (old new : List ℕ) (popped : Option ℕ) (n k : ℕ) → n ≡ length old → slice_get old (n - 1) ≡ Some k → ((d : ℕ) → 0 < n → popped ≡ Some (get_or old (n - 1) d)) → old ≡ new ++ option_to_list popped → reverse old ≡ k ∷ reverse new
@@ -38,8 +39,8 @@ draws_same code s s' m d nodes scopes cells halts flags =
     subst (λ z. Draws code z m) (λ j. record s' { nodes = (sym nodes) j; scopes = (sym scopes) j; cells = (sym cells) j; halts = (sym halts) j; flags = (sym flags) j }) so
 
 -- the next cancel is done
-pub cancel-enters : (code : ℕ → Term) (s s' : State) (k : ℕ) → s'.nodes ≡ s.nodes → s'.scopes ≡ s.scopes → s'.cells ≡ s.cells → s'.marks ≡ s.marks → s'.halts ≡ s.halts → s'.flags ≡ s.flags → s.rest ≡ record s'.rest { to_cancel = k ∷ s'.rest.to_cancel } → Enters code (entry.Cancel k) s s'
-cancel-enters code s s' k nodes scopes cells marks halts flags rest x p sp =
+pub cancel-enters : (code : ℕ → Term) (s s' : State) (k : ℕ) → s'.nodes ≡ s.nodes → s'.scopes ≡ s.scopes → s'.cells ≡ s.cells → s'.marks ≡ s.marks → s'.halts ≡ s.halts → s'.flags ≡ s.flags → s'.asked ≡ s.asked → s.rest ≡ record s'.rest { to_cancel = k ∷ s'.rest.to_cancel } → Enters code (entry.Cancel k) s s'
+cancel-enters code s s' k nodes scopes cells marks halts flags asked rest x p sp =
     let kept = sp.rest in (
       record p { to_cancel = s'.rest.to_cancel },
       (inl tt, (kept.due ∙ ap Rest.to_cancel rest, refl)),
@@ -49,5 +50,6 @@ cancel-enters code s s' k nodes scopes cells marks halts flags rest x p sp =
         scopes = subst AreOrdered (sym scopes) sp.scopes;
         cells = subst (AreCells p.cells) (sym cells) sp.cells;
         rest = record { time = kept.time ∙ ap Rest.time rest; calls_are = ap (map told) (sym (ap Rest.calls rest)) ∙ kept.calls_are; counted = subst (λ z. AreCounted x.sites z p.calls) (ap Rest.counts rest) kept.counted; numbered = kept.numbered; due = refl; cancels_are = kept.cancels_are ∙ ap Rest.cancels rest };
+        still = still_on x.definitions code s s' (staying s s' scopes cells) asked sp.still;
       },
     )

@@ -21,7 +21,7 @@ use Rattle.orc_rules.specs.Marked.{ended, erase, Emits, emits, is_bound}
 use Rattle.orc_rules.specs.Timed.{Context, AreDropped}
 use Rattle.orc_rules.specs.Journal.{Place}
 use Rattle.orc_rules.specs.Idle.{has_halted}
-use Rattle.orc_rules.specs.Nodes.{Listing, code}
+use Rattle.orc_rules.specs.Nodes.{Listing, code, definitions}
 use Rattle.orc_rules.specs.Sites.{Table}
 use Rattle.orc_rules.specs.Numbered.{IsNumbered, call, cell, times}
 use Rattle.orc_rules.proofs.Sources.{emits_source}
@@ -48,6 +48,7 @@ use Rattle.orc_env.proofs.Inside.{Confined}
 use Rattle.orc_term.proofs.Leaving.{Drops, drops, pruned_holds, pruned_once, calls_counted}
 use Rattle.orc_checker.proofs.Ending.{Over, own_filled, left_filled, stays_so, ends_drawn, times_left, are_dropped, unhalted_under}
 use Rattle.orc_env.proofs.Reached.{reached_numbered, reached_source, reached_confined}
+use Rattle.orc_checker.proofs.Moves.{still_none}
 
 -- the right side that takes it is the first one around
 pub record IsCaught (k : List Frame) (c j : ℕ) : Type 0 where
@@ -103,6 +104,7 @@ pub record Caught (s s' : State) (j c left right parent : ℕ) (side due : List 
   pub scopes : s'.scopes ≡ s.scopes
   pub marks : length s'.marks ≡ length s.marks
   pub halts : s'.halts ≡ s.halts
+  pub asked : s'.asked ≡ []
   pub rest : s'.rest ≡ record s.rest { to_cancel = due }
 
 -- what is kept besides the term, with other cancels due
@@ -206,5 +208,6 @@ catch-applies l t s s' i q m j c left right parent d tip v side due between is_a
         scopes = subst AreOrdered (sym st.scopes) sp.scopes;
         cells = (sp.cells.0, ap length cells ∙ length-set s.cells c (Is v) ∙ sp.cells.1, sp.cells.2, subst AreOwn (sym cells) (own_filled s.cells c (Is v) own st.unbound (λ z h. cc h)));
         rest = kept_due x p s.rest s'.rest due sp.rest st.rest;
+        still = still_none (definitions l) terms s' st.asked;
       },
     )

@@ -26,7 +26,7 @@ use Rattle.orc_checker.proofs.Flagging.{reflag_leaf_settled}
 use Rattle.orc_env.proofs.Scopes.{close-call, env-kept}
 use Rattle.orc_checker.proofs.Opening.{keeps_free}
 use Rattle.orc_term.proofs.Trees.{node}
-use Rattle.orc_checker.proofs.Moves.{written, turn, scope_there}
+use Rattle.orc_checker.proofs.Moves.{written, turn, scope_there, still_on}
 
 -- a definition of the code is one of the program
 pub defined : (l : Listing) (ds : List Declared) (e : ℕ) (d : Declared) → map routine_of ds ≡ l.routines → slice_get ds e ≡ Some d → slice_get (definitions l) e ≡ Some (definition_of l (routine_of d))
@@ -44,8 +44,8 @@ module _ (code : ℕ → Term) (s s' : State) (i q m f e : ℕ) (a : at s.nodes 
 
   pub def-enters : (x : Context) (d : Definition) (k b g n : ℕ) (ps : List Operand) (more : List Scope) → code f ≡ call k (map param_of ps) → slice_get x.definitions k ≡ Some d → code g ≡ d.body → b ≡ length s.marks
       → Adds s.cells s.scopes e d.params ps more n → s'.nodes ≡ slice_set s.nodes i (node (Leaf (Token b g n)) q) → length s'.flags ≡ length s.flags → Settles s'.nodes s.flags i (halt_flag s.halts g) s'.flags
-      → s'.scopes ≡ s.scopes ++ more → s'.cells ≡ s.cells → s'.halts ≡ s.halts → length s'.marks ≡ suc b → s'.rest ≡ s.rest → s.rest.to_cancel ≡ [] → Follows x code (entry.Def m b) s s'
-  def-enters x d k b g n ps more is_f is_d is_g next adds nodes flags settles scopes cells halts marks rest free p sp =
+      → s'.scopes ≡ s.scopes ++ more → s'.cells ≡ s.cells → s'.halts ≡ s.halts → length s'.marks ≡ suc b → s'.rest ≡ s.rest → s.rest.to_cancel ≡ [] → s'.asked ≡ s.asked → Follows x code (entry.Def m b) s s'
+  def-enters x d k b g n ps more is_f is_d is_g next adds nodes flags settles scopes cells halts marks rest free asked p sp =
       let there : e ≤ length s.scopes = scope_there code s p.marked sp.drawn i q m f e a in
       let grown : (j : ℕ) → env' j ≡ env_of s.cells (s.scopes ++ more) j = λ j w. env_of (cells w) (scopes w) j in
       let kept : (j : ℕ) → j ≤ length s.scopes → env j ≡ env' j = λ j le. env-kept s.cells s.scopes more j le ∙ sym (grown j) in
@@ -78,5 +78,6 @@ module _ (code : ℕ → Term) (s s' : State) (i q m f e : ℕ) (a : at s.nodes 
           scopes = subst AreOrdered (sym scopes) (adds.1 sp.scopes);
           cells = subst (AreCells p.cells) (sym cells) sp.cells;
           rest = keeps_free x p s.rest s'.rest sp.rest free rest;
+          still = still_on x.definitions code s s' (record { grows = grows; kept = kept }) asked sp.still;
         },
       )

@@ -1,5 +1,5 @@
 -- Sides that have halted, in the marked term and among its nodes.
-use Rattle.std.proofs.Common.{◌≡◌, ℕ, List, length, Some, None, refl, sym, ap, ◌∙◌, subst, Bool, true, false, cond, nat_eq, eqb-true, eq-eqb, ◌⊎◌, ⊎_elim}
+use Rattle.std.proofs.Common.{◌≡◌, ℕ, List, length, Some, None, refl, sym, ap, ◌∙◌, subst, Bool, true, false, cond, nat_eq, eqb-true, eq-eqb, ⊎_elim}
 use Rattle.orc_rules.specs.Term.{Term}
 use Rattle.orc_rules.specs.Idle.{has_halted}
 use Rattle.orc_rules.specs.Marked.{Marked, erase}

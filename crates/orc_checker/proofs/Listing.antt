@@ -1,5 +1,5 @@
--- Where no token of the list can move, none can.
-use Rattle.std.proofs.Common.{◌≡◌, ◌≤◌, ◌<◌, ℕ, List, length, get_or, refl, ap, sym, ◌∙◌, arith, Bool, true, false}
+-- Where no token that is asked can move, none can.
+use Rattle.std.proofs.Common.{◌≡◌, ◌≤◌, ◌<◌, ◌⊎◌, ℕ, zero, suc, List, [], ◌∷◌, length, refl, arith, inl, inr, ⊎_elim, Bool, true, false}
 use Rattle.orc_rules.specs.Term.{Term, Definition}
 use Rattle.orc_term.specs.declared.arena.Node.{Node}
 use Rattle.orc_env.specs.declared.names.Bound.{Bound}
@@ -10,8 +10,15 @@ use Rattle.orc_term.specs.declared.arena.Tip.TheVariants.{Gone, Ended, Token, Be
 use Rattle.orc_term.specs.declared.arena.Single.TheVariants.{Feeds, Entered, Passed}
 use Rattle.orc_term.specs.declared.arena.Double.TheVariants.{Both, Side}
 use Rattle.orc_term.specs.Settling.{kind_at}
-use Rattle.orc_term.specs.Hints.{restless, AreListed}
-use Rattle.orc_checker.specs.Stillness.{token_moves}
+use Rattle.orc_term.specs.Asking.{AreToAsk}
+use Rattle.orc_term.specs.Hints.{restless}
+use Rattle.orc_checker.specs.Stillness.{token_moves, AreStill, DoMove, DoMoveFrom, DoMoveOf}
+
+-- a number is below another, or isn't
+pub below_or : (i n : ℕ) → (i < n) ⊎ (n ≤ i)
+below_or i zero = inr (omega arith)
+below_or zero (suc n) = inl (omega arith)
+below_or (suc i) (suc n) = ⊎_elim (λ lt. inl (omega (arith, lt))) (λ le. inr (omega (arith, le))) (below_or i n)
 
 module _ (defs : List Definition) (code : ℕ → Term) (cells : List Bound) (scopes : List Scope) where
   abbrev moves : Kind → Bool
@@ -29,9 +36,17 @@ module _ (defs : List Definition) (code : ℕ → Term) (cells : List Bound) (sc
   over (Two Both p q) h = refl
   over (Two (Side c) p q) h = refl
 
-  pub none_moves : (nodes : List Node) (list : List ℕ) (n : ℕ) → AreListed nodes list → length list ≤ n → ((k : ℕ) → k < n → moves (kind_at nodes (get_or list k 0)) ≡ false) → (i : ℕ) → moves (kind_at nodes i) ≡ false
-  none_moves nodes list n all le still i = go (restless (kind_at nodes i)) refl
+  -- where there is no node, none moves
+  pub none_there : (nodes : List Node) (i : ℕ) → length nodes ≤ i → moves (kind_at nodes i) ≡ false
+  none_there [] i le = refl
+  none_there (x ∷ nodes) zero le = absurd (omega (arith, le))
+  none_there (x ∷ nodes) (suc i) le = none_there nodes i (omega (arith, le))
+
+  -- none can move where none that is asked can, and the others couldn't
+  pub none_moves : (nodes : List Node) (asked : List Kind) (waiting woken : List ℕ) (newer : ℕ) → AreToAsk nodes asked waiting woken newer → AreStill defs code cells scopes asked
+      → DoMoveOf moves nodes waiting false → DoMoveOf moves nodes woken false → DoMoveFrom moves nodes newer false → DoMove moves nodes false
+  none_moves nodes asked waiting woken newer all still of_waiting of_woken of_newer i = go (restless (kind_at nodes i)) refl
     where
       go : (b : Bool) → restless (kind_at nodes i) ≡ b → moves (kind_at nodes i) ≡ false
-      go true e = let w = all i e in ap (λ z. moves (kind_at nodes z)) (sym w.2) ∙ still w.0 (omega (arith, w.1, le))
+      go true e = ⊎_elim (of_newer i) (λ v. ⊎_elim (of_woken i) (λ w. ⊎_elim (of_waiting i) (λ h. (still (kind_at nodes i) h).0) w) v) (all i e)
       go false e = over (kind_at nodes i) e

@@ -14,7 +14,7 @@ use Rattle.orc_term.specs.declared.arena.Kind.TheVariants.{One, Two}
 use Rattle.orc_rules.specs.Term.{fill}
 use Rattle.orc_rules.specs.Marked.{in_opened, erase, fill_marked, Replaces, here}
 use Rattle.orc_rules.specs.Idle.{has_halted}
-use Rattle.orc_rules.specs.Nodes.{Listing, code}
+use Rattle.orc_rules.specs.Nodes.{Listing, code, definitions}
 use Rattle.orc_rules.specs.Sites.{Table}
 use Rattle.orc_rules.specs.Numbered.{IsNumbered, cell, times}
 use Rattle.orc_rules.proofs.Tests.{halted_by_test}
@@ -39,6 +39,7 @@ use Rattle.orc_term.proofs.Leaving.{Drops, drops, pruned_holds, pruned_once}
 use Rattle.orc_checker.proofs.Ending.{Over, own_filled, left_filled, stays_so, ends_drawn}
 use Rattle.orc_checker.proofs.Resuming.{at_node}
 use Rattle.orc_env.proofs.Reached.{reached_numbered, reached_confined}
+use Rattle.orc_checker.proofs.Moves.{still_none}
 
 double_or : Double → Kind → Double
 double_or d (Two e i j) = e
@@ -83,6 +84,7 @@ pub record Gone (s s' : State) (j q c left right : ℕ) (side : List ℕ) (betwe
   pub marks : length s'.marks ≡ length s.marks
   pub halts : s'.halts ≡ s.halts
   pub flags : s'.flags ≡ s.flags
+  pub asked : s'.asked ≡ []
   pub rest : s'.rest ≡ s.rest
 
 pub lose-applies : (l : Listing) (t : Table) (s s' : State) (j q c left right : ℕ) (side : List ℕ) (between : List Node) → at s.nodes q j (Two (Side c) left right) → flag s.flags right ≡ true → Gone s s' j q c left right side between → Applies l t (entry.Lost c) s s'
@@ -157,5 +159,6 @@ lose-applies l t s s' j q c left right side between is_at halted st cancels p r 
         scopes = subst AreOrdered (sym st.scopes) sp.scopes;
         cells = (sp.cells.0, ap length st.cells ∙ length-set s.cells c Void ∙ sp.cells.1, sp.cells.2, subst AreOwn (sym st.cells) (own_filled s.cells c Void own st.unbound (λ z h. cc h)));
         rest = keeps_free (context l t cancels) p s.rest s'.rest sp.rest st.free st.rest;
+        still = still_none (definitions l) terms s' st.asked;
       },
     )

@@ -1,16 +1,16 @@
 -- The moves of marks.
-use Rattle.std.proofs.Common.{◌≡◌, ◌≤◌, ◌+◌, ℕ, suc, List, [], ◌∷◌, ◌++◌, length, refl, sym, ap, ◌∙◌, subst, inr, arith, length-append, length-set}
+use Rattle.std.proofs.Common.{◌≡◌, ◌≤◌, ◌+◌, ℕ, suc, List, [], ◌∷◌, ◌++◌, length, refl, sym, ap, ◌∙◌, subst, inr, arith, false, length-append, length-set}
 use Rattle.std.specs.Prelude.{slice_get, slice_set, ◌&&◌}
 use Rattle.orc_rules.specs.declared.entry.Entry.TheVariants as entry
 use Rattle.orc_term.specs.declared.arena.Tip.{Tip}
-use Rattle.orc_term.specs.declared.arena.Tip.TheVariants.{Token, Ended}
+use Rattle.orc_term.specs.declared.arena.Tip.TheVariants.{Gone, Ended, Token, Bears, Waits}
 use Rattle.orc_term.specs.declared.arena.Single.{Single}
 use Rattle.orc_term.specs.declared.arena.Single.TheVariants.{Feeds, Entered}
 use Rattle.orc_term.specs.declared.arena.Double.{Double}
 use Rattle.orc_term.specs.declared.arena.Double.TheVariants.{Both}
 use Rattle.orc_term.specs.declared.arena.Kind.{Kind}
 use Rattle.orc_term.specs.declared.arena.Kind.TheVariants.{Leaf, One, Two}
-use Rattle.orc_rules.specs.Term.{Term, stop, par, seq, other}
+use Rattle.orc_rules.specs.Term.{Term, Definition, stop, par, seq, other}
 use Rattle.orc_rules.specs.Marked.{Marked, ended, token, in_par, in_seq, in_other, Replaces, here}
 use Rattle.orc_term.specs.Arena.{Tree, leaf, one, two, hits, at, TipIn, SingleIn, living, living_kind, spelled, plug}
 use Rattle.orc_env.specs.Scopes.{Env, env_of, close, without}
@@ -20,9 +20,10 @@ use Rattle.orc_checker.specs.Calls.{Keeps}
 use Rattle.orc_term.specs.Halting.{halt_flag}
 use Rattle.orc_term.specs.Settling.{HasFlags, Reflags}
 use Rattle.orc_checker.proofs.Flagging.{reflag_leaf, reflag_one, reflag_two}
-use Rattle.orc_rules.specs.Idle.{has_halted}
+use Rattle.orc_rules.specs.Idle.{has_halted, can_move}
+use Rattle.orc_checker.specs.Stillness.{token_moves, AreStill, HasScope}
 use Rattle.orc_rules.specs.Journal.{Place, Moves}
-use Rattle.orc_rules.specs.Timed.{Context}
+use Rattle.orc_rules.specs.Timed.{Context, IsIn}
 use Rattle.orc_term.proofs.Trees.{holds-out, node}
 use Rattle.orc_term.proofs.Lists.{get-set_same, get-set_other, get-append, get-end, living-set, living-push}
 use Rattle.orc_checker.proofs.Change.{says_of, Becomes, changed}
@@ -113,6 +114,10 @@ scope_there code s o d i q m f e a =
     let w = says_of s.nodes (length s.scopes) 0 i q (Token m f e) d.tree d.holds d.once a refl in
     (holds-out s.nodes (length s.scopes) 0 w.context (leaf i (Token m f e)) w.holds).1.1
 
+-- where all are asked again
+pub still_none : (defs : List Definition) (code : ℕ → Term) (s' : State) → s'.asked ≡ [] → AreStill defs code s'.cells s'.scopes s'.asked
+still_none defs code s' none k is = elim (subst (IsIn k) none is) [ ]
+
 -- one part changes, and the state draws what that leaves
 pub record Turn (code : ℕ → Term) (s' : State) (m x y : Marked) : Type 0 where
   pub after : Marked
@@ -141,9 +146,23 @@ pub record Stays (s s' : State) (new : ℕ) : Type 0 where
   pub marks : length s'.marks ≡ new
   pub rest : s'.rest ≡ s.rest
   pub halts : s'.halts ≡ s.halts
+  pub asked : s'.asked ≡ s.asked
 
 pub staying : (s s' : State) → s'.scopes ≡ s.scopes → s'.cells ≡ s.cells → Grows s s'
 staying s s' scopes cells = record { grows = omega (arith, ap length scopes); kept = λ e h. sym (λ j. env_of (cells j) (scopes j) e) }
+
+-- tokens that couldn't move still can't where the scopes that were there stay
+pub still_on : (defs : List Definition) (code : ℕ → Term) (s s' : State) → Grows s s' → s'.asked ≡ s.asked → AreStill defs code s.cells s.scopes s.asked → AreStill defs code s'.cells s'.scopes s'.asked
+still_on defs code s s' g asked still k is = go k (still k (subst (IsIn k) asked is))
+  where
+    go : (k : Kind) → (token_moves defs code s.cells s.scopes k ≡ false) × HasScope (length s.scopes) k → (token_moves defs code s'.cells s'.scopes k ≡ false) × HasScope (length s'.scopes) k
+    go (Leaf Gone) w = w
+    go (Leaf Ended) w = w
+    go (Leaf (Token m f e)) w = (ap (λ z. can_move defs (close z (code f))) (sym (g.kept e w.1)) ∙ w.0, omega (arith, w.1, g.grows))
+    go (Leaf (Bears m v)) w = w
+    go (Leaf (Waits k)) w = w
+    go (One a i) w = w
+    go (Two a i j) w = w
 
 module _ (code : ℕ → Term) (s s' : State) (i q m f e : ℕ) (a : at s.nodes q i (Leaf (Token m f e))) where
   abbrev env : ℕ → Env
@@ -153,8 +172,8 @@ module _ (code : ℕ → Term) (s s' : State) (i q m f e : ℕ) (a : at s.nodes 
   its t = token m (close (env e) t)
 
   -- a token's node becomes a tree
-  pub token_moves : (t' : Tree) (c : Term) (y : Marked) (new : ℕ) (x : Context) (p : Place) → Spells x code s p → Becomes s s' i q t' → Reflags code s.nodes s.halts s.flags s'.nodes s'.halts s'.flags i (leaf i (Token m f e)) t' → Stays s s' new → code f ≡ c → spelled code env t' ≡ y → (r : Place) × Moves p (its c) y new r × Spells x code s' r
-  token_moves t' c y new x p sp b fl st is its_y =
+  pub token_turns : (t' : Tree) (c : Term) (y : Marked) (new : ℕ) (x : Context) (p : Place) → Spells x code s p → Becomes s s' i q t' → Reflags code s.nodes s.halts s.flags s'.nodes s'.halts s'.flags i (leaf i (Token m f e)) t' → Stays s s' new → code f ≡ c → spelled code env t' ≡ y → (r : Place) × Moves p (its c) y new r × Spells x code s' r
+  token_turns t' c y new x p sp b fl st is its_y =
       let t = turn code s s' p.marked sp.drawn i q (Token m f e) t' a refl b fl in
       let at_env : (n : ℕ) → env_of s'.cells s'.scopes n ≡ env n = λ n j. env_of (st.cells j) (st.scopes j) n in
       let is_x : spelled code (env_of s'.cells s'.scopes) (leaf i (Token m f e)) ≡ its c = λ j. token m (close (at_env e j) (is j)) in
@@ -167,6 +186,7 @@ module _ (code : ℕ → Term) (s s' : State) (i q m f e : ℕ) (a : at s.nodes 
           scopes = subst AreOrdered (sym st.scopes) sp.scopes;
           cells = subst (AreCells p.cells) (sym st.cells) sp.cells;
           rest = subst (Keeps x p.now p.calls p.to_cancel) (sym st.rest) sp.rest;
+          still = still_on x.definitions code s s' (staying s s' st.scopes st.cells) st.asked sp.still;
         },
       )
 
@@ -183,7 +203,7 @@ module _ (code : ℕ → Term) (s s' : State) (i q m f e : ℕ) (a : at s.nodes 
       let b = written s s' i q (Token m f e) Ended a refl refl (staying s s' st.scopes st.cells) tt nodes in
       let new = ap length nodes ∙ length-set s.nodes i (node (Leaf Ended) q) in
       let fl = reflag_leaf code s.nodes s'.nodes s.halts s.flags s'.halts s'.flags i (Token m f e) st.halts Ended flags new (λ h. h f ∙ ap has_halted is) in
-      let r = token_moves (leaf i Ended) stop ended p.mark x p sp b fl (record { free = st.free; scopes = st.scopes; cells = st.cells; marks = st.marks ∙ sym sp.mark; rest = st.rest; halts = st.halts }) is refl in
+      let r = token_turns (leaf i Ended) stop ended p.mark x p sp b fl (record { free = st.free; scopes = st.scopes; cells = st.cells; marks = st.marks ∙ sym sp.mark; rest = st.rest; halts = st.halts; asked = st.asked }) is refl in
       (r.0, (inr (sp.rest.due ∙ st.free), subst (λ z. Moves p (token m z) ended p.mark r.0) (close-stop (env e)) r.1), r.2)
 
   pub fork-enters : (n b1 b2 g h : ℕ) → code f ≡ par (code g) (code h) → n ≡ length s.nodes → b1 ≡ length s.marks → b2 ≡ suc b1
@@ -195,7 +215,7 @@ module _ (code : ℕ → Term) (s s' : State) (i q m f e : ℕ) (a : at s.nodes 
       let first = slice_set s.nodes i (node (Two Both n (n + 1)) q) in
       let new : length s'.nodes ≡ suc (suc n) = omega (arith, is_n, ap length nodes, length-append (first ++ node (Leaf (Token b1 g e)) i ∷ []) (node (Leaf (Token b2 h e)) i ∷ []), length-append first (node (Leaf (Token b1 g e)) i ∷ []), length-set s.nodes i (node (Two Both n (n + 1)) q)) in
       let fl = reflag_two code s.nodes s'.nodes s.halts s.flags s'.halts s'.flags i (Token m f e) st.halts Both n (Token b1 g e) (Token b2 h e) (halt_flag s.halts g) (halt_flag s.halts h) flags is_n new (λ w. w f ∙ ap has_halted is ∙ (λ j. sym (w g) j && sym (w h) j)) refl refl in
-      let r = token_moves (two i Both (leaf n (Token b1 g e)) (leaf (n + 1) (Token b2 h e))) (par (code g) (code h)) _ (suc b2) x p sp b fl st is refl in (
+      let r = token_turns (two i Both (leaf n (Token b1 g e)) (leaf (n + 1) (Token b2 h e))) (par (code g) (code h)) _ (suc b2) x p sp b fl st is refl in (
         r.0,
         (
           inr (sp.rest.due ∙ st.free),
@@ -218,7 +238,7 @@ module _ (code : ℕ → Term) (s s' : State) (i q m f e : ℕ) (a : at s.nodes 
       let c = over_one s s' i q n (Token m f e) (Token b g e) a refl refl is_n (staying s s' st.scopes st.cells) inside (Feeds z h e) inside nodes in
       let new = grown (One (Feeds z h e) n) n (Token b g e) is_n nodes in
       let fl = reflag_one code s.nodes s'.nodes s.halts s.flags s'.halts s'.flags i (Token m f e) st.halts (Feeds z h e) n (Token b g e) (halt_flag s.halts g) flags is_n new (λ w. w f ∙ ap has_halted is ∙ sym (w g)) refl in
-      let r = token_moves (one i (Feeds z h e) (leaf n (Token b g e))) (seq (code g) z (code h)) _ (suc b) x p sp c fl st is refl in (
+      let r = token_turns (one i (Feeds z h e) (leaf n (Token b g e))) (seq (code g) z (code h)) _ (suc b) x p sp c fl st is refl in (
         r.0,
         (
           inr (sp.rest.due ∙ st.free),
@@ -241,7 +261,7 @@ module _ (code : ℕ → Term) (s s' : State) (i q m f e : ℕ) (a : at s.nodes 
       let c = over_one s s' i q n (Token m f e) (Token b g e) a refl refl is_n (staying s s' st.scopes st.cells) inside (Entered m h e) inside nodes in
       let new = grown (One (Entered m h e) n) n (Token b g e) is_n nodes in
       let fl = reflag_one code s.nodes s'.nodes s.halts s.flags s'.halts s'.flags i (Token m f e) st.halts (Entered m h e) n (Token b g e) (halt_flag s.halts g) flags is_n new (λ w. w f ∙ ap has_halted is) refl in
-      let r = token_moves (one i (Entered m h e) (leaf n (Token b g e))) (other (code g) (code h)) _ (suc b) x p sp c fl st is refl in (
+      let r = token_turns (one i (Entered m h e) (leaf n (Token b g e))) (other (code g) (code h)) _ (suc b) x p sp c fl st is refl in (
         r.0,
         (
           inr (sp.rest.due ∙ st.free),

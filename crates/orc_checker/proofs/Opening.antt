@@ -27,7 +27,7 @@ use Rattle.orc_rules.specs.Idle.{has_halted}
 use Rattle.orc_env.proofs.Closing.{close-prune, close-more}
 use Rattle.orc_checker.proofs.Growth.{env-kept, env-new, current-push, env-current}
 use Rattle.orc_term.proofs.Trees.{node}
-use Rattle.orc_checker.proofs.Moves.{over_two, turn, scope_there}
+use Rattle.orc_checker.proofs.Moves.{over_two, turn, scope_there, still_on}
 
 -- what is kept besides the term stays where no cancel comes due
 pub keeps_free : (x : Context) (p : Place) (r r' : Rest) → Keeps x p.now p.calls p.to_cancel r → r.to_cancel ≡ [] → r' ≡ r → Keeps x p.now p.calls [] r'
@@ -73,8 +73,8 @@ module _ (code : ℕ → Term) (s s' : State) (i q m f e : ℕ) (a : at s.nodes 
       → s'.scopes ≡ s.scopes ++ record { name = z; bound = Cell c; outer = e } ∷ [] → s'.cells ≡ s.cells ++ Cell c ∷ []
       → s'.halts ≡ s.halts → length s'.flags ≡ length ((s.flags ++ halt_flag s.halts g ∷ []) ++ halt_flag s.halts h ∷ [])
       → Settles s'.nodes ((s.flags ++ halt_flag s.halts g ∷ []) ++ halt_flag s.halts h ∷ []) i (halt_flag s.halts g && halt_flag s.halts h) s'.flags
-      → length s'.marks ≡ suc b2 → s'.rest ≡ s.rest → s.rest.to_cancel ≡ [] → Enters code (entry.Open m c b1 b2) s s'
-  open-enters n c b1 b2 g z h is_f is_n is_c is1 is2 nodes scopes cells halts flags_len settles marks rest free x p sp =
+      → length s'.marks ≡ suc b2 → s'.rest ≡ s.rest → s.rest.to_cancel ≡ [] → s'.asked ≡ s.asked → Enters code (entry.Open m c b1 b2) s s'
+  open-enters n c b1 b2 g z h is_f is_n is_c is1 is2 nodes scopes cells halts flags_len settles marks rest free asked x p sp =
       let there : e ≤ length s.scopes = scope_there code s p.marked sp.drawn i q m f e a in
       let new : Scope = record { name = z; bound = Cell c; outer = e } in
       let pushed : s'.cells ≡ s.cells ++ Cell (length s.cells) ∷ [] = cells ∙ ap (λ y. s.cells ++ Cell y ∷ []) is_c in
@@ -119,5 +119,6 @@ module _ (code : ℕ → Term) (s s' : State) (i q m f e : ℕ) (a : at s.nodes 
           scopes = subst AreOrdered (sym scopes) (ordered_push s.scopes new sp.scopes there);
           cells = cell.1;
           rest = keeps_free x p s.rest s'.rest sp.rest free rest;
+          still = still_on x.definitions code s s' (record { grows = omega (arith, longer); kept = kept }) asked sp.still;
         },
       )

@@ -26,7 +26,7 @@ use Rattle.orc_term.proofs.Settling.{flag_says, flagged-out, flag-set_same}
 use Rattle.orc_checker.proofs.Flagging.{risen_flags}
 use Rattle.orc_rules.specs.Idle.{has_halted}
 use Rattle.orc_checker.proofs.Change.{changed}
-use Rattle.orc_checker.proofs.Moves.{written, Stays, staying}
+use Rattle.orc_checker.proofs.Moves.{written, still_on, Stays, staying}
 use Rattle.orc_term.proofs.Rising.{plug-under}
 
 module _ (code : ℕ → Term) (env : ℕ → Env) where
@@ -110,5 +110,6 @@ publish-enters code s s' i q m l v a lives bears taker rises nodes_len flags_len
         scopes = subst AreOrdered (sym st.scopes) sp.scopes;
         cells = subst (AreCells p.cells) (sym st.cells) sp.cells;
         rest = subst (Keeps x p.now p.calls p.to_cancel) (sym st.rest) sp.rest;
+        still = still_on x.definitions code s s' (staying s s' st.scopes st.cells) st.asked sp.still;
       },
     )

@@ -28,6 +28,7 @@ use Rattle.orc_term.proofs.Settling.{flag_says, flagged-out}
 use Rattle.orc_checker.proofs.Flagging.{reflag_settled, flag-set_at}
 use Rattle.orc_checker.proofs.Spelling.{replaces}
 use Rattle.orc_term.proofs.Leaving.{Drops, drops, resumed_holds, resumed_once}
+use Rattle.orc_checker.proofs.Moves.{staying, still_on}
 
 single_or : Single → Kind → Single
 single_or d (One s i) = s
@@ -86,6 +87,7 @@ pub record Resumed (s s' : State) (j q left a g e : ℕ) (side : List ℕ) (betw
   pub cells : s'.cells ≡ s.cells
   pub marks : length s'.marks ≡ length s.marks + 1
   pub halts : s'.halts ≡ s.halts
+  pub asked : s'.asked ≡ s.asked
   pub rest : s'.rest ≡ s.rest
   pub flags_len : length s'.flags ≡ length s.flags
   pub settles : Settles s'.nodes s.flags j (halt_flag s.halts g) s'.flags
@@ -149,5 +151,6 @@ resume-enters code s s' j q m left g e a side between is_at halted st x p sp =
         scopes = subst AreOrdered (sym st.scopes) sp.scopes;
         cells = subst (AreCells p.cells) (sym st.cells) sp.cells;
         rest = keeps_free x p s.rest s'.rest sp.rest st.free st.rest;
+        still = still_on x.definitions code s s' (staying s s' st.scopes st.cells) st.asked sp.still;
       },
     )

@@ -38,7 +38,7 @@ use Rattle.orc_checker.proofs.Flagging.{sent_flags}
 use Rattle.orc_term.proofs.Trees.{holds-out, topped-plug, place-plug, node}
 use Rattle.orc_term.proofs.Lists.{get-more}
 use Rattle.orc_checker.proofs.Change.{changed}
-use Rattle.orc_checker.proofs.Moves.{written, Grows}
+use Rattle.orc_checker.proofs.Moves.{written, still_on, Grows}
 use Rattle.orc_term.proofs.Rising.{plug-under, get_or-some}
 use Rattle.orc_env.proofs.Closing.{close-more}
 use Rattle.orc_env.proofs.Scopes.{env-kept, env-new}
@@ -102,6 +102,7 @@ pub record Sent (s s' : State) (i at x g outer a : ℕ) (v : Value) (between : L
   pub next : a ≡ length s.marks
   pub rest : s'.rest ≡ s.rest
   pub halts : s'.halts ≡ s.halts
+  pub asked : s'.asked ≡ s.asked
   pub same_len : length between ≡ length s.nodes
   pub len : length s'.nodes ≡ length between + 2
   pub flags_len : length s'.flags ≡ length ((s.flags ++ false ∷ []) ++ halt_flag s.halts g ∷ [])
@@ -119,7 +120,7 @@ send-enters code s s' i q m fed x g outer part a l v between is_at lives bears t
     let env' = env_of s'.cells s'.scopes in
     let len : n' ≡ n + 1 = omega (arith, ap length st.scopes, length-append s.scopes (new ∷ [])) in
     let kept : (e : ℕ) → e ≤ n → env e ≡ env' e = λ e h. env-kept s.cells s.scopes (new ∷ []) e h ∙ sym (λ j. env_of (st.cells j) (st.scopes j) e) in
-    let mid : State = record { nodes = slice_set s.nodes i (node (Leaf Ended) q); scopes = s'.scopes; cells = s'.cells; marks = s.marks; halts = s.halts; flags = s.flags; rest = s.rest } in
+    let mid : State = record { nodes = slice_set s.nodes i (node (Leaf Ended) q); scopes = s'.scopes; cells = s'.cells; marks = s.marks; halts = s.halts; flags = s.flags; asked = s.asked; rest = s.rest } in
     let gr : Grows s mid = record { grows = omega (arith, len); kept = kept } in
     let ch = changed code s mid p.marked sp.drawn i q l (leaf i Ended) is_at lives (written s mid i q l Ended is_at lives refl gr tt refl) in
     let k = ch.context in
@@ -175,5 +176,6 @@ send-enters code s s' i q m fed x g outer part a l v between is_at lives bears t
         scopes = subst AreOrdered (sym st.scopes) (ordered-more s.scopes new sp.scopes below);
         cells = subst (AreCells p.cells) (sym st.cells) sp.cells;
         rest = subst (Keeps con p.now p.calls p.to_cancel) (sym st.rest) sp.rest;
+        still = still_on con.definitions code s s' (record { grows = omega (arith, len); kept = kept }) st.asked sp.still;
       },
     )

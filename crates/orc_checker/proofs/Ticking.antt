@@ -1,5 +1,5 @@
 -- The time goes on to the next due time.
-use Rattle.std.proofs.Common.{◌≡◌, ◌<◌, ◌+◌, ℕ, zero, suc, List, [], ◌∷◌, map, length, Option, Some, None, refl, sym, ap, ◌∙◌, subst, inl, inr, ⊎_elim, arith, Bool, false, length-append}
+use Rattle.std.proofs.Common.{◌≡◌, ◌<◌, ◌+◌, ℕ, zero, suc, List, [], ◌∷◌, map, length, Option, Some, None, refl, sym, ap, ◌∙◌, subst, inl, inr, ⊎_elim, arith, Bool, true, false, length-append}
 use Rattle.std.specs.Prelude.{slice_get}
 use Rattle.orc_rules.specs.declared.value.Found.{Found}
 use Rattle.orc_rules.specs.declared.entry.Entry.TheVariants as entry
@@ -13,8 +13,9 @@ use Rattle.orc_rules.specs.Lost.{IsSource}
 use Rattle.orc_rules.specs.Pending.{PendsDue, IsNextDue}
 use Rattle.orc_rules.specs.Tests.{TickByTest}
 use Rattle.orc_term.specs.declared.arena.Node.{Node}
-use Rattle.orc_term.specs.declared.arena.Kind.TheVariants.{Leaf}
-use Rattle.orc_term.specs.declared.arena.Tip.TheVariants.{Waits}
+use Rattle.orc_term.specs.declared.arena.Kind.{Kind}
+use Rattle.orc_term.specs.declared.arena.Kind.TheVariants.{Leaf, One, Two}
+use Rattle.orc_term.specs.declared.arena.Tip.TheVariants.{Gone, Ended, Token, Bears, Waits}
 use Rattle.orc_checker.specs.declared.rest.Called.{Called}
 use Rattle.orc_term.specs.Arena.{at, leaf, spelled}
 use Rattle.orc_env.specs.Scopes.{env_of}
@@ -22,11 +23,13 @@ use Rattle.orc_checker.specs.Calls.{AreNumbered, told, told_of}
 use Rattle.orc_checker.specs.Checker.{State, Spells, Follows}
 use Rattle.orc_term.specs.Settling.{kind_at}
 use Rattle.orc_checker.specs.NextDue.{IsDueAt, IsNext}
-use Rattle.orc_checker.specs.Stillness.{DoStir}
+use Rattle.orc_checker.specs.Stillness.{token_moves, AreStill, DoStir, HasScope}
 use Rattle.orc_term.proofs.Lists.{get-append, get-end, get-more}
 use Rattle.orc_checker.proofs.Change.{says_of as found_there}
 use Rattle.orc_checker.proofs.Pends.{waits_for, pends_around}
-use Rattle.orc_checker.proofs.Moving.{kind_of, moves_are}
+use Rattle.orc_term.specs.Asking.{AreOfNodes}
+use Rattle.orc_checker.proofs.Moves.{scope_there}
+use Rattle.orc_checker.proofs.Moving.{kind_of, moves_are, tokens_stir}
 
 length-told : (sites : List Site) (calls : List CallMade) → length (told_of sites calls) ≡ length calls
 length-told sites [] = refl
@@ -152,10 +155,36 @@ movement x code s p defs b sp m =
     let d = sp.drawn in
     moves_are defs code s.cells s.scopes s.flags s.halts s.nodes d.flags.are_halts d.flags.len (length s.scopes) 0 d.tree d.holds d.flags.each d.once b m ∙ ap (λ z. can_move defs (erase z)) (sym d.marked)
 
-pub tick-follows : (x : Context) (code : ℕ → Term) (s s' : State) (t : ℕ) → ((i : ℕ) → IsSource (code i)) → TickByTest → s.rest.to_cancel ≡ []
+token_there : (nodes : List Node) (i m f e : ℕ) → kind_at nodes i ≡ Leaf (Token m f e) → (q : ℕ) × at nodes q i (Leaf (Token m f e))
+token_there [] i m f e h = absurd (cc h)
+token_there (x ∷ nodes) zero m f e h = (x.parent, λ j. Some (record { kind = h j; parent = x.parent }))
+token_there (x ∷ nodes) (suc i) m f e h = token_there nodes i m f e h
+
+-- where the term can't move, no token can, and each has its scope
+pub all_still : (x : Context) (code : ℕ → Term) (s : State) (p : Place) (kinds : List Kind) → Spells x code s p → can_move x.definitions (erase p.marked) ≡ false → AreOfNodes s.nodes kinds → AreStill x.definitions code s.cells s.scopes kinds
+all_still x code s p kinds sp still of k is =
+    let w = of k is in
+    (go (token_moves x.definitions code s.cells s.scopes k) refl w.0 w.1, inside k w.0 w.1)
+  where
+    go : (b : Bool) → token_moves x.definitions code s.cells s.scopes k ≡ b → (i : ℕ) → kind_at s.nodes i ≡ k → token_moves x.definitions code s.cells s.scopes k ≡ false
+    go false e i h = e
+    go true e i h =
+        let m = tokens_stir x.definitions code s.cells s.scopes s.flags s.nodes (i, ap (token_moves x.definitions code s.cells s.scopes) h ∙ e) in
+        absurd (cc (movement x code s p x.definitions true sp m ∙ still))
+
+    inside : (k : Kind) (i : ℕ) → kind_at s.nodes i ≡ k → HasScope (length s.scopes) k
+    inside (Leaf Gone) i h = tt
+    inside (Leaf Ended) i h = tt
+    inside (Leaf (Token m f e)) i h = let w = token_there s.nodes i m f e h in scope_there code s p.marked sp.drawn i w.0 m f e w.1
+    inside (Leaf (Bears m v)) i h = tt
+    inside (Leaf (Waits k)) i h = tt
+    inside (One a j) i h = tt
+    inside (Two a j l) i h = tt
+
+pub tick-follows : (x : Context) (code : ℕ → Term) (s s' : State) (t : ℕ) (kinds : List Kind) → ((i : ℕ) → IsSource (code i)) → TickByTest → s.rest.to_cancel ≡ []
     → ((p : Place) → Spells x code s p → can_move x.definitions (erase p.marked) ≡ false) → IsNext s.nodes s.rest.calls (Some t) → s.rest.time < t
-    → s' ≡ record s { rest = record (State.rest s) { time = t } } → Follows x code (entry.Tick t) s s'
-tick-follows x code s s' t source law free still next later is p sp =
+    → AreOfNodes s.nodes kinds → s' ≡ record s { asked = kinds; rest = record (State.rest s) { time = t } } → Follows x code (entry.Tick t) s s'
+tick-follows x code s s' t kinds source law free still next later of is p sp =
     let tick = (law x (moment p) (Some t) (next_is x code s p sp source (Some t) next) t).1
     (still p sp, refl, omega (arith, later, sp.rest.time)) in
     let r = sp.rest in (
@@ -168,5 +197,6 @@ tick-follows x code s s' t source law free still next later is p sp =
             scopes = sp.scopes;
             cells = sp.cells;
             rest = record { time = refl; calls_are = r.calls_are; counted = r.counted; numbered = r.numbered; due = r.due; cancels_are = r.cancels_are };
+            still = all_still x code s p kinds sp (still p sp) of;
           }),
     )

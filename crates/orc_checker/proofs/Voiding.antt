@@ -22,7 +22,7 @@ use Rattle.orc_term.specs.Settling.{Settles}
 use Rattle.orc_checker.proofs.Flagging.{reflag_leaf_settled}
 use Rattle.orc_checker.proofs.Refusing.{sort, sort_under, operand_node, site_node}
 use Rattle.orc_term.proofs.Trees.{node}
-use Rattle.orc_checker.proofs.Moves.{Stays, staying, written, token_moves}
+use Rattle.orc_checker.proofs.Moves.{Stays, staying, written, token_turns}
 
 -- the test finds a void one
 pub void_among : (ps : List Param) → has_void ps ≡ true → HasVoid ps
@@ -66,7 +66,7 @@ module _ (code : ℕ → Term) (s s' : State) (i q m f e : ℕ) (a : at s.nodes 
       let b = written s s' i q (Token m f e) Ended a refl refl (staying s s' st.scopes st.cells) tt nodes in
       let new = ap length nodes ∙ length-set s.nodes i (node (Leaf Ended) q) in
       let fl = reflag_leaf_settled code s.nodes s'.nodes s.halts s.flags s'.halts s'.flags i (Token m f e) st.halts Ended true flags new (λ h. h f ∙ running) refl settles in
-      let r = token_moves code s s' i q m f e a (leaf i Ended) (code f) ended p.mark x p sp b fl (record { free = st.free; scopes = st.scopes; cells = st.cells; marks = st.marks ∙ sym sp.mark; rest = st.rest; halts = st.halts }) refl refl in (
+      let r = token_turns code s s' i q m f e a (leaf i Ended) (code f) ended p.mark x p sp b fl (record { free = st.free; scopes = st.scopes; cells = st.cells; marks = st.marks ∙ sym sp.mark; rest = st.rest; halts = st.halts; asked = st.asked }) refl refl in (
         r.0,
         (
           inr (sp.rest.due ∙ st.free),

@@ -36,29 +36,29 @@ past (x ∷ xs) d (suc i) le = past xs d i (omega (arith, le))
 pub parts_total : (nodes : List TermNode) (i : ℕ) → ArePartsFirst nodes → HasParts i (node_of nodes i)
 parts_total nodes i first = ⊎_elim (λ (lt : i < length nodes). parts_in nodes i first lt) (λ (le : length nodes ≤ i). subst (HasParts i) (sym (past nodes Stop i le)) tt) (less_or i (length nodes))
 
-is_set : (active active' : List Bool) (f : ℕ) → active' ≡ slice_set active f true → flag active' f ≡ true
-is_set active active' f e = ap (λ z. flag z f) e ∙ flag-set_same active f
+is_set : (queued queued' : List Bool) (f : ℕ) → queued' ≡ slice_set queued f true → flag queued' f ≡ true
+is_set queued queued' f e = ap (λ z. flag z f) e ∙ flag-set_same queued f
 
-keeps_set : (active active' : List Bool) (f : ℕ) → active' ≡ slice_set active f true → (k : ℕ) → flag active k ≡ true → flag active' k ≡ true
-keeps_set active active' f e k h =
+keeps_set : (queued queued' : List Bool) (f : ℕ) → queued' ≡ slice_set queued f true → (k : ℕ) → flag queued k ≡ true → flag queued' k ≡ true
+keeps_set queued queued' f e k h =
     ap (λ z. flag z k) e ∙
-    ⊎_elim (λ (same : k ≡ f). ap (flag (slice_set active f true)) same ∙ flag-set_same active f)
-    (λ (z : hits k f ≡ 0). flag-set_other active f k true (λ same. omega (arith, z, hit f, ap (λ w. hits w f) same)) ∙ h)
+    ⊎_elim (λ (same : k ≡ f). ap (flag (slice_set queued f true)) same ∙ flag-set_same queued f)
+    (λ (z : hits k f ≡ 0). flag-set_other queued f k true (λ same. omega (arith, z, hit f, ap (λ w. hits w f) same)) ∙ h)
     (hits-both k f)
 
 -- what is set now was set before, or is the one that was set
-was_set : (active active' : List Bool) (f : ℕ) → active' ≡ slice_set active f true → (k : ℕ) → flag active' k ≡ true → (flag active k ≡ true) ⊎ (k ≡ f)
-was_set active active' f e k h =
+was_set : (queued queued' : List Bool) (f : ℕ) → queued' ≡ slice_set queued f true → (k : ℕ) → flag queued' k ≡ true → (flag queued k ≡ true) ⊎ (k ≡ f)
+was_set queued queued' f e k h =
     ⊎_elim (λ (same : k ≡ f). inr same)
-    (λ (z : hits k f ≡ 0). inl (sym (flag-set_other active f k true (λ same. omega (arith, z, hit f, ap (λ w. hits w f) same))) ∙ sym (ap (λ w. flag w k) e) ∙ h))
+    (λ (z : hits k f ≡ 0). inl (sym (flag-set_other queued f k true (λ same. omega (arith, z, hit f, ap (λ w. hits w f) same))) ∙ sym (ap (λ w. flag w k) e) ∙ h))
     (hits-both k f)
 
 or_right : (a b : Bool) → b ≡ true → (a || b) ≡ true
 or_right true b h = refl
 or_right false b h = h
 
-module _ (moves : ℕ → Bool) (active active' : List Bool) (i : ℕ) where
-  pub wakes_itself : (b : Bool) → active' ≡ active → moves i ≡ b → Wakes moves active active' i b
+module _ (moves : ℕ → Bool) (queued queued' : List Bool) (i : ℕ) where
+  pub wakes_itself : (b : Bool) → queued' ≡ queued → moves i ≡ b → Wakes moves queued queued' i b
   wakes_itself b same is =
       record {
         by_itself = λ yes. is ∙ yes;
@@ -67,42 +67,42 @@ module _ (moves : ℕ → Bool) (active active' : List Bool) (i : ℕ) where
         woken = λ k on. inl (sym (ap (λ z. flag z k) same) ∙ on);
       }
 
-  pub wakes_one : (f : ℕ) (b : Bool) → f < i → active' ≡ slice_set active f true → moves i ≡ (moves f || b) → Wakes moves active active' i b
+  pub wakes_one : (f : ℕ) (b : Bool) → f < i → queued' ≡ slice_set queued f true → moves i ≡ (moves f || b) → Wakes moves queued queued' i b
   wakes_one f b lt same is =
       record {
         by_itself = λ yes. is ∙ or_right (moves f) b yes;
-        by_parts = λ no h. is ∙ (λ j. h f lt (is_set active active' f same) j || no j);
-        kept = keeps_set active active' f same;
-        woken = λ k on. ⊎_elim (λ was. inl was) (λ (e : k ≡ f). inr (λ yes. is ∙ ap (λ z. z || b) (sym (ap moves e) ∙ yes))) (was_set active active' f same k on);
+        by_parts = λ no h. is ∙ (λ j. h f lt (is_set queued queued' f same) j || no j);
+        kept = keeps_set queued queued' f same;
+        woken = λ k on. ⊎_elim (λ was. inl was) (λ (e : k ≡ f). inr (λ yes. is ∙ ap (λ z. z || b) (sym (ap moves e) ∙ yes))) (was_set queued queued' f same k on);
       }
 
-  pub wakes_two : (f g : ℕ) (mid : List Bool) → f < i → g < i → mid ≡ slice_set active f true → active' ≡ slice_set mid g true → moves i ≡ (moves f || moves g) → Wakes moves active active' i false
+  pub wakes_two : (f g : ℕ) (mid : List Bool) → f < i → g < i → mid ≡ slice_set queued f true → queued' ≡ slice_set mid g true → moves i ≡ (moves f || moves g) → Wakes moves queued queued' i false
   wakes_two f g mid lt lt' first second is =
       record {
         by_itself = λ yes. absurd (cc yes);
-        by_parts = λ no h. is ∙ (λ j. h f lt (keeps_set mid active' g second f (is_set active mid f first)) j || h g lt' (is_set mid active' g second) j);
-        kept = λ k on. keeps_set mid active' g second k (keeps_set active mid f first k on);
+        by_parts = λ no h. is ∙ (λ j. h f lt (keeps_set mid queued' g second f (is_set queued mid f first)) j || h g lt' (is_set mid queued' g second) j);
+        kept = λ k on. keeps_set mid queued' g second k (keeps_set queued mid f first k on);
         woken = λ k on.
             ⊎_elim
-            (λ was. ⊎_elim (λ before. inl before) (λ (e : k ≡ f). inr (λ yes. is ∙ ap (λ z. z || moves g) (sym (ap moves e) ∙ yes))) (was_set active mid f first k was))
+            (λ was. ⊎_elim (λ before. inl before) (λ (e : k ≡ f). inr (λ yes. is ∙ ap (λ z. z || moves g) (sym (ap moves e) ∙ yes))) (was_set queued mid f first k was))
             (λ (e : k ≡ g). inr (λ yes. is ∙ or_right (moves f) (moves g) (sym (ap moves e) ∙ yes)))
-            (was_set mid active' g second k on);
+            (was_set mid queued' g second k on);
       }
 
--- the nodes of a term are looked at from the last to the first: it can move exactly where an active one can
-pub record Looks (moves : ℕ → Bool) (node : ℕ) (active : List Bool) (n : ℕ) : Type 0 where
-  pub down : ((k : ℕ) → k < n → flag active k ≡ true → moves k ≡ false) → moves node ≡ false
-  pub up : (k : ℕ) → k < n → flag active k ≡ true → moves k ≡ true → moves node ≡ true
+-- the nodes of a term are looked at from the last to the first: it can move exactly where a queued one can
+pub record Looks (moves : ℕ → Bool) (node : ℕ) (queued : List Bool) (n : ℕ) : Type 0 where
+  pub down : ((k : ℕ) → k < n → flag queued k ≡ true → moves k ≡ false) → moves node ≡ false
+  pub up : (k : ℕ) → k < n → flag queued k ≡ true → moves k ≡ true → moves node ≡ true
 
-module _ (moves : ℕ → Bool) (node : ℕ) (active active' : List Bool) where
-  pub looks_first : Wakes moves active active' node false → ((k : ℕ) → k < node → flag active k ≡ true → moves k ≡ false) → Looks moves node active' node
+module _ (moves : ℕ → Bool) (node : ℕ) (queued queued' : List Bool) where
+  pub looks_first : Wakes moves queued queued' node false → ((k : ℕ) → k < node → flag queued k ≡ true → moves k ≡ false) → Looks moves node queued' node
   looks_first w none =
       record {
         down = w.by_parts refl;
         up = λ k lt on yes. ⊎_elim (λ was. absurd (cc (sym yes ∙ none k lt was))) (λ f. f yes) (w.woken k on);
       }
 
-  pub looks_on : (m n : ℕ) → m ≡ n + 1 → flag active n ≡ true → Wakes moves active active' n false → Looks moves node active m → Looks moves node active' n
+  pub looks_on : (m n : ℕ) → m ≡ n + 1 → flag queued n ≡ true → Wakes moves queued queued' n false → Looks moves node queued m → Looks moves node queued' n
   looks_on m n is here w l =
       record {
         down = λ h. l.down (λ k lt on. ⊎_elim (λ (a : k < n). h k a (w.kept k on)) (λ same. ap moves same ∙ w.by_parts refl h) (below_or k n (omega (arith, lt, is))));
@@ -111,18 +111,18 @@ module _ (moves : ℕ → Bool) (node : ℕ) (active active' : List Bool) where
 
 -- the flags of the nodes before n are cleared
 abbrev pub AreCleared : List Bool → ℕ → Type 0
-AreCleared active n = (k : ℕ) → k < n → k < length active → flag active k ≡ false
+AreCleared queued n = (k : ℕ) → k < n → k < length queued → flag queued k ≡ false
 
-set_off : (active : List Bool) (n : ℕ) → n < length active → flag (slice_set active n false) n ≡ false
+set_off : (queued : List Bool) (n : ℕ) → n < length queued → flag (slice_set queued n false) n ≡ false
 set_off [] n lt = absurd (omega (arith, lt))
-set_off (b ∷ active) zero lt = refl
-set_off (b ∷ active) (suc n) lt = set_off active n (omega (arith, lt))
+set_off (b ∷ queued) zero lt = refl
+set_off (b ∷ queued) (suc n) lt = set_off queued n (omega (arith, lt))
 
-pub clears : (active active' : List Bool) (n : ℕ) → active' ≡ slice_set active n false → length active' ≡ length active → AreCleared active n → AreCleared active' (n + 1)
-clears active active' n same len h k lt there =
+pub clears : (queued queued' : List Bool) (n : ℕ) → queued' ≡ slice_set queued n false → length queued' ≡ length queued → AreCleared queued n → AreCleared queued' (n + 1)
+clears queued queued' n same len h k lt there =
     ap (λ z. flag z k) same ∙
-    ⊎_elim (λ (a : k < n). flag-set_other active n k false (λ e. omega (arith, a, e)) ∙ h k a (omega (arith, there, len)))
-    (λ (e : k ≡ n). ap (flag (slice_set active n false)) e ∙ set_off active n (omega (arith, there, len, e)))
+    ⊎_elim (λ (a : k < n). flag-set_other queued n k false (λ e. omega (arith, a, e)) ∙ h k a (omega (arith, there, len)))
+    (λ (e : k ≡ n). ap (flag (slice_set queued n false)) e ∙ set_off queued n (omega (arith, there, len, e)))
     (below_or k n lt)
 
 both_hold : (a b : Bool) → (a && b) ≡ true → (a ≡ true) × (b ≡ true)
@@ -144,10 +144,10 @@ halted_stays defs e (other f g) s h = absurd (cc h)
 halted_stays defs e (pending k) s h = absurd (cc h)
 halted_stays defs e (opened f c g) s h = elim s [ ]
 
--- no node that is active after the clearing can move: there is no flag for it
-pub none_active : (defs : List Definition) (code : ℕ → Term) (e : Env) (halts active : List Bool) (n : ℕ) → ((i : ℕ) → IsSource (code i)) → ((i : ℕ) → halt_flag halts i ≡ has_halted (code i)) → length halts ≤ length active → AreCleared active n
-    → (k : ℕ) → k < n → flag active k ≡ true → can_move defs (close e (code k)) ≡ false
-none_active defs code e halts active n source are room clear k lt on =
-    ⊎_elim (λ (a : k < length active). absurd (cc (sym on ∙ clear k lt a)))
-    (λ (le : length active ≤ k). halted_stays defs e (code k) (source k) (sym (are k) ∙ past halts true k (omega (arith, le, room))))
-    (less_or k (length active))
+-- no node that is queued after the clearing can move: there is no flag for it
+pub none_active : (defs : List Definition) (code : ℕ → Term) (e : Env) (halts queued : List Bool) (n : ℕ) → ((i : ℕ) → IsSource (code i)) → ((i : ℕ) → halt_flag halts i ≡ has_halted (code i)) → length halts ≤ length queued → AreCleared queued n
+    → (k : ℕ) → k < n → flag queued k ≡ true → can_move defs (close e (code k)) ≡ false
+none_active defs code e halts queued n source are room clear k lt on =
+    ⊎_elim (λ (a : k < length queued). absurd (cc (sym on ∙ clear k lt a)))
+    (λ (le : length queued ≤ k). halted_stays defs e (code k) (source k) (sym (are k) ∙ past halts true k (omega (arith, le, room))))
+    (less_or k (length queued))

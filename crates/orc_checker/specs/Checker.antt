@@ -1,6 +1,7 @@
 -- The state of the checker, and the places that it spells.
 use Rattle.std.specs.Prelude.{◌≡◌, ℕ, zero, suc, Bool, List, [], ◌∷◌, length}
 use Rattle.orc_term.specs.declared.arena.Node.{Node}
+use Rattle.orc_term.specs.declared.arena.Kind.{Kind}
 use Rattle.orc_env.specs.declared.names.Bound.{Bound}
 use Rattle.orc_env.specs.declared.names.Scope.{Scope}
 use Rattle.orc_rules.specs.declared.entry.Entry.{Entry}
@@ -15,6 +16,7 @@ use Rattle.orc_env.specs.Scopes.{env_of}
 use Rattle.orc_env.specs.Names.{AreOrdered}
 use Rattle.orc_env.specs.Parameters.{AreOwn}
 use Rattle.orc_checker.specs.Calls.{Rest, Keeps}
+use Rattle.orc_checker.specs.Stillness.{AreStill}
 use Rattle.orc_term.specs.Settling.{HasFlags}
 
 -- what callers of the checker see
@@ -25,6 +27,7 @@ pub record State : Type 0 where
   pub marks : List ℕ  -- the node on which each mark was put; there is no mark 0
   pub halts : List Bool  -- for each node of the program, whether its term has halted
   pub flags : List Bool  -- for each node, whether it has halted
+  pub asked : List Kind  -- the kinds of nodes that needn't be asked again whether they can move
   pub rest : Rest
 
 -- the numbers from 1 to n, the greatest first
@@ -53,6 +56,7 @@ pub record Spells (x : Context) (code : ℕ → Term) (s : State) (p : Place) : 
   pub scopes : AreOrdered s.scopes
   pub cells : AreCells p.cells s.cells
   pub rest : Keeps x p.now p.calls p.to_cancel s.rest
+  pub still : AreStill x.definitions code s.cells s.scopes s.asked
 
 -- the context of a run: the program's definitions, the table's sites, and whether cancels are recorded
 abbrev pub context : Listing → Table → Bool → Context

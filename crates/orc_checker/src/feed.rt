@@ -34,6 +34,7 @@ fn graft(nodes: &mut Nodes, at: u32, tip: Tip)
     requires there { at < length nodes.old.items }
     requires room { 2 ≤ nodes.old.room }
     ensures grafts { Grafts nodes.old.items at tip nodes.new.items }
+    ensures asked { nodes.new.asked ≡ nodes.old.asked }
     ensures len { length nodes.new.items ≡ length nodes.old.items + 2 }
     ensures calls { waits (AtLeaf tip) ≡ false → NoMoreWait nodes.old.items nodes.new.items }
     ensures sides { NoNewSides (length nodes.old.items) nodes.old.items nodes.new.items }

@@ -16,16 +16,16 @@ pub struct Halts {
     pub(crate) flags: Vec<bool>,
     /// A flag for each node, scratch memory of `stillness`: asking whether a token can move overwrites these flags, and so needs no memory of its
     /// own.
-    pub(crate) active: Vec<bool>,
+    pub(crate) queued: Vec<bool>,
 }
 
-// In contracts a `Halts` is the list of its `flags`. The scratch flags `active` are at least as many.
+// In contracts a `Halts` is the list of its `flags`. The scratch flags `queued` are at least as many.
 impl Model for Halts {
     ghost Value = { List Bool };
 
     ghost view = { λ h. h.flags.items };
 
-    ghost invariant = { λ h. length h.flags.items ≤ length h.active.items };
+    ghost invariant = { λ h. length h.flags.items ≤ length h.queued.items };
 }
 
 // Whether the term of `node`, a node of the program, has halted. `flags` has the flags of the nodes before it, and its parts, f and g, are among
@@ -49,15 +49,15 @@ impl Halts {
         ensures { IfOk result (λ h. AreHalts (code program.now) h) }
     {
         let mut flags = Vec::new(alloc);
-        let mut active = Vec::new(alloc);
+        let mut queued = Vec::new(alloc);
         // Facts that the prover is shown; nothing runs. Each node stands behind its parts, so that their flags are known when its turn comes.
         program.are_unfolded();
         program.are_parts_first();
         for i in 0..program.len() {
             flags.push(flag_of(&flags, program.node(i)))?;
-            active.push(false)?;
+            queued.push(false)?;
         }
-        Ok(Halts { flags, active })
+        Ok(Halts { flags, queued })
     }
 
     /// A copy of the flags. The error is refused memory.
@@ -65,8 +65,8 @@ impl Halts {
         ensures { IfOk result (λ h. h ≡ self.now) }
     {
         let flags = Vec::from_slice(alloc, &self.flags)?;
-        let active = Vec::from_slice(alloc, &self.active)?;
-        Ok(Halts { flags, active })
+        let queued = Vec::from_slice(alloc, &self.queued)?;
+        Ok(Halts { flags, queued })
     }
 
     /// Whether the term of the program's node of number `node` has halted before anything has happened in it, as `stop` has; true where there is no

@@ -87,7 +87,7 @@ impl Model for Marked {
 
     ghost Value = { State };
 
-    ghost view = { λ m. record { nodes = m.nodes.items; scopes = m.scopes.items; cells = m.cells.items; marks = m.marks.items; halts = m.halts; flags = m.flags.items; rest = m.rest } };
+    ghost view = { λ m. record { nodes = m.nodes.items; scopes = m.scopes.items; cells = m.cells.items; marks = m.marks.items; halts = m.halts; flags = m.flags.items; asked = m.nodes.asked; rest = m.rest } };
 
     ghost invariant = { λ m. AreNoted m.nodes.items m.rest.calls m.due × AreKnown m.nodes.items m.flags.items m.candidates × AreIndexed m.nodes.items (record { marks = m.marks.items; prunings = m.prunings.items; calls = m.rest.calls; cells = m.cells.items }) × (length m.prunings.items ≡ length m.cells.items) };
 }

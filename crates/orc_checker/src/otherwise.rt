@@ -21,7 +21,7 @@ use crate::marked::Marked;
 use orc_rules::entry::RuleFault;
 use orc_term::arena::{Kind, Node, Tip};
 use orc_term::flags::settle;
-use orc_term::room::{push_within, reserve};
+use orc_term::room::{push_within, reserve_wake};
 use orc_term::side::{drop_nodes, nodes_of};
 
 /// Where an entered otherwise stands, and its right side, which hasn't started.
@@ -103,8 +103,8 @@ impl Marked {
         // The nodes of the left side, to be dropped below.
         let side = self.side_at(otherwise.left)?;
         // Memory for what is added below comes first, so that nothing fails once the term has changed.
-        reserve(&mut self.nodes, &mut self.flags, &mut self.marks).map_err(|_| RuleFault::Memory)?;
-        // `wake` writes the node, and lists it among those with tokens, since an otherwise has none.
+        reserve_wake(&mut self.nodes, &mut self.marks).map_err(|_| RuleFault::Memory)?;
+        // `wake` writes the node, and notes that it has a token now, since an otherwise has none.
         self.nodes.wake(
             otherwise.at,
             Node {

@@ -271,6 +271,8 @@ impl Marked {
             halted,
         );
         bind_cell(&mut self.cells, c, Bound::Is(v));
+        // Tokens that wait for the cell may be able to move now. Which these are isn't known, so all are asked again.
+        self.nodes.forget_asked();
         // The cancels of the calls that were dropped are due now, that of the least call first. No cancel is due if the journal doesn't record them.
         self.rest.set_cancels(calls);
         Ok(())
@@ -335,6 +337,8 @@ impl Marked {
         );
         drop_nodes(&mut self.nodes, &side);
         bind_cell(&mut self.cells, c, Bound::Void);
+        // Tokens that wait for the cell may be able to move now. Which these are isn't known, so all are asked again.
+        self.nodes.forget_asked();
         Ok(())
     }
 }

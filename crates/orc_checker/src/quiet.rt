@@ -41,7 +41,7 @@ impl Marked {
         if let Some(_) = ended_side(&self.nodes, &self.flags, &mut self.candidates) {
             return true;
         }
-        // Shortens the list of nodes that `can_some_move` looks at: those without a token go.
+        // If the nodes that wait are asked again, those without a token go out of their list.
         self.nodes.tidy();
         can_some_move(
             program,

@@ -22,7 +22,7 @@ use orc_rules::param::Operand;
 use orc_rules::program::{Definition, Program, TermNode};
 use orc_term::arena::{Kind, Node, Tip};
 use orc_term::flags::settle;
-use orc_term::room::{fits, push_within};
+use orc_term::room::{fits, push_within, reserve_wake};
 use std::alloc::Global;
 
 /// The definition of number `number`, from 0, as calls in the program name it. None if there is no such definition, which no checked program calls.
@@ -141,11 +141,12 @@ impl Marked {
         )?;
         // The new token keeps the body's number in 32 bits.
         fits(called.body).map_err(|_| RuleFault::Memory)?;
-        self.marks.try_reserve(1).map_err(|_| RuleFault::Memory)?;
+        reserve_wake(&mut self.nodes, &mut self.marks).map_err(|_| RuleFault::Memory)?;
         // The last step that can fail: it changes nothing then.
         extend_scopes(&mut self.scopes, &added)?;
-        self.nodes.write_node(
-            spot.at as usize,
+        // `wake` writes the node, and notes that it has another token now.
+        self.nodes.wake(
+            spot.at,
             Node {
                 kind: Kind::Leaf(Tip::Token(a, called.body as u32, scope)),
                 parent: spot.parent,

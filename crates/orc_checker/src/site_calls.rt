@@ -27,7 +27,7 @@ use orc_rules::program::{Program, TermNode};
 use orc_rules::value::{Answer, Args, Value};
 use orc_term::arena::{Kind, Node, Tip};
 use orc_term::flags::settle;
-use orc_term::room::{push_within, reserve};
+use orc_term::room::{push_within, reserve_wake};
 
 /// A call that pends.
 #[derive(Clone, Copy)]
@@ -170,9 +170,8 @@ impl Marked {
         self.expect_mark(a)?;
         is_due_now(pending.called, Answer::Value(v), self.rest.time())?;
         // Memory for what is added below comes first, so that nothing fails once the term has changed.
-        reserve(&mut self.nodes, &mut self.flags, &mut self.marks).map_err(|_| RuleFault::Memory)?;
-        // `wake` writes the node, and lists it among those with tokens. No flag changes: neither the call that pends nor a token on a value has
-        // halted.
+        reserve_wake(&mut self.nodes, &mut self.marks).map_err(|_| RuleFault::Memory)?;
+        // `wake` writes the node, and notes that it has a token now. No flag changes: neither the call that pends nor a token on a value has halted.
         self.nodes.wake(
             pending.at,
             Node {

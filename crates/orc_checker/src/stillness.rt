@@ -2,9 +2,10 @@
 //!
 //! A token may stand on a node of the program in whose parts a rule can be used, though they have no tokens of their own yet: `(1 | f()) >x> g` can
 //! move since `1` can. So a question about a node goes down to its parts. It doesn't recur: a part has a lower number than the node, so a loop from
-//! the node's number down to 0 comes to each node before its parts. `active` flags the parts that the loop has to look at.
+//! the node's number down to 0 comes to each node before its parts. `queued` flags the parts that the loop has to look at.
 //!
-//! In contracts `AreOrdered` says that each scope extends an earlier one, and `AreHalts` that the flags say which of the program's terms have halted.
+//! In contracts `AreOrdered` says that each scope extends an earlier one, `AreHalts` that the flags say which of the program's terms have halted, and
+//! `AreStill` that no token on a node of one of these kinds can move.
 
 ghost use Rattle.std.specs.Prelude.{◌≡◌, ◌≤◌, ◌||◌, ℕ, true, false, List, length, is_some};
 ghost use Rattle.orc_rules.specs.Idle.{is_ready, has_void};
@@ -13,7 +14,7 @@ ghost use Rattle.orc_rules.specs.Term.{values_of};
 ghost use Rattle.orc_env.specs.Scopes.{close_param, env_of};
 ghost use Rattle.orc_term.specs.Halting.{AreHalts};
 ghost use Rattle.orc_env.specs.Names.{AreOrdered};
-ghost use Rattle.orc_checker.specs.Stillness.{params_in, term_moves, token_moves, DoMove, Wakes};
+ghost use Rattle.orc_checker.specs.Stillness.{params_in, term_moves, token_moves, AreStill, DoMove, DoMoveFrom, DoMoveOf, Wakes};
 
 use crate::halts::Halts;
 use crate::routines::definition;
@@ -64,19 +65,19 @@ fn is_callable(scopes: &[StoredScope], cells: &[Bound], operands: &[Operand], sc
 }
 
 /// Whether a node of the program can move in scope `scope` by a rule of its own, not by one of its parts. `cells` says what has become of each cell.
-/// `halts` says for each node whether its term has halted. The function flags in `active` the parts by whose moves the node can move too, and clears
+/// `halts` says for each node whether its term has halted. The function flags in `queued` the parts by whose moves the node can move too, and clears
 /// no flag.
 fn wakes(
     program: &Program,
     halts: &Vec<bool>,
     scopes: &[StoredScope],
     cells: &[Bound],
-    active: &mut Vec<bool>,
+    queued: &mut Vec<bool>,
     node: usize,
     scope: usize,
 ) -> bool
-    ensures wakes { AreHalts (code program.now) halts.now.items → AreOrdered scopes.now → Wakes (term_moves (definitions program.now) (code program.now) cells.now scopes.now scope) active.old.items active.new.items node result }
-    ensures len { length active.new.items ≡ length active.old.items }
+    ensures wakes { AreHalts (code program.now) halts.now.items → AreOrdered scopes.now → Wakes (term_moves (definitions program.now) (code program.now) cells.now scopes.now scope) queued.old.items queued.new.items node result }
+    ensures len { length queued.new.items ≡ length queued.old.items }
 {
     // A fact that the prover is shown: each node stands behind its parts. Nothing runs.
     program.are_parts_first();
@@ -92,39 +93,39 @@ fn wakes(
         },
         // A `|` moves by its sides alone: both are flagged, and the caller looks at them.
         TermNode::Par(f, g) => {
-            write_flag(active, f, true);
-            write_flag(active, g, true);
+            write_flag(queued, f, true);
+            write_flag(queued, g, true);
             false
         }
         // The right side starts when the left one publishes, which is a move of the left one.
         TermNode::Seq(f, _, _) => {
-            write_flag(active, f, true);
+            write_flag(queued, f, true);
             false
         }
         // A token on `f <x< g` can open it.
         TermNode::Prune(_, _, _) => true,
         // Once the left side has halted, the right one can start.
         TermNode::Other(f, _) => {
-            write_flag(active, f, true);
+            write_flag(queued, f, true);
             flag_at(halts, f)
         }
     }
 }
 
 /// Whether the term at node `node` of the program can move in scope `scope`: the node itself or one of its parts. `halts` says for each node whether
-/// its term has halted, and `cells` what has become of each cell. `active` has a flag for each node of the program and is overwritten.
+/// its term has halted, and `cells` what has become of each cell. `queued` has a flag for each node of the program and is overwritten.
 fn can_term_move(
     program: &Program,
     halts: &Vec<bool>,
     scopes: &[StoredScope],
     cells: &[Bound],
-    active: &mut Vec<bool>,
+    queued: &mut Vec<bool>,
     node: usize,
     scope: usize,
 ) -> bool
-    requires { length halts.now.items ≤ length active.old.items }
+    requires { length halts.now.items ≤ length queued.old.items }
     ensures moves { AreHalts (code program.now) halts.now.items → AreOrdered scopes.now → result ≡ term_moves (definitions program.now) (code program.now) cells.now scopes.now scope node }
-    ensures len { length active.new.items ≡ length active.old.items }
+    ensures len { length queued.new.items ≡ length queued.old.items }
 {
     // An operand and a call of a site have no parts, so the answer needs no flags. Most tokens that can't move stand on one of these.
     match program.node(node) {
@@ -139,26 +140,26 @@ fn can_term_move(
     program_is_source();
     // Takes back the flags of an earlier question.
     for i in 0..node {
-        write_flag(active, i, false);
+        write_flag(queued, i, false);
     }
-    if wakes(program, halts, scopes, cells, active, node, scope) {
+    if wakes(program, halts, scopes, cells, queued, node, scope) {
         return true;
     }
     // `above` goes down: the nodes from it on have been looked at. Parts have lower numbers, so each has its flag before the loop gets to it.
     let mut above = node;
     while above > 0 {
         above -= 1;
-        if !flag_at(active, above) {
+        if !flag_at(queued, above) {
             continue;
         }
-        if wakes(program, halts, scopes, cells, active, above, scope) {
+        if wakes(program, halts, scopes, cells, queued, above, scope) {
             return true;
         }
     }
     false
 }
 
-/// Whether the token on a node of this kind of the marked term can move; false where no token is on it. Of `halts` only the scratch flags `active`
+/// Whether the token on a node of this kind of the marked term can move; false where no token is on it. Of `halts` only the scratch flags `queued`
 /// change.
 fn can_token_move(
     program: &Program,
@@ -176,7 +177,7 @@ fn can_token_move(
             &halts.flags,
             scopes,
             cells,
-            &mut halts.active,
+            &mut halts.queued,
             node as usize,
             scope as usize,
         ),
@@ -187,8 +188,50 @@ fn can_token_move(
     }
 }
 
-/// Whether some token of the marked term can move. All tokens are on the nodes of the list `restless`, so no others are looked at. Of `halts` only
-/// scratch flags change.
+/// Whether a token on one of the nodes in `list` can move. Of `halts` only scratch flags change.
+fn can_listed_move(
+    program: &Program,
+    halts: &mut Halts,
+    scopes: &[StoredScope],
+    cells: &[Bound],
+    nodes: &Nodes,
+    list: &[u32],
+) -> bool
+    ensures moves { AreHalts (code program.now) halts.old → AreOrdered scopes.now → DoMoveOf (token_moves (definitions program.now) (code program.now) cells.now scopes.now) nodes.now.items list.now result }
+    ensures same { halts.new ≡ halts.old }
+{
+    for index in 0..list.len() {
+        let kind = nodes.node_at(list[index] as usize).kind;
+        if can_token_move(program, halts, scopes, cells, kind) {
+            return true;
+        }
+    }
+    false
+}
+
+/// Whether a token on a node from number `first` on can move. Of `halts` only scratch flags change.
+fn can_new_move(
+    program: &Program,
+    halts: &mut Halts,
+    scopes: &[StoredScope],
+    cells: &[Bound],
+    nodes: &Nodes,
+    first: usize,
+) -> bool
+    ensures moves { AreHalts (code program.now) halts.old → AreOrdered scopes.now → DoMoveFrom (token_moves (definitions program.now) (code program.now) cells.now scopes.now) nodes.now.items first result }
+    ensures same { halts.new ≡ halts.old }
+{
+    for place in first..nodes.len() {
+        let kind = nodes.node_at(place).kind;
+        if can_token_move(program, halts, scopes, cells, kind) {
+            return true;
+        }
+    }
+    false
+}
+
+/// Whether some token of the marked term can move. Tokens on nodes of the kinds in `nodes.asked` aren't asked: `AreStill` says that they can't. Of
+/// `halts` only scratch flags change.
 pub(crate) fn can_some_move(
     program: &Program,
     halts: &mut Halts,
@@ -196,15 +239,11 @@ pub(crate) fn can_some_move(
     cells: &[Bound],
     nodes: &Nodes,
 ) -> bool
-    ensures moves { AreHalts (code program.now) halts.old → AreOrdered scopes.now → DoMove (token_moves (definitions program.now) (code program.now) cells.now scopes.now) nodes.now.items result }
+    ensures moves { AreHalts (code program.now) halts.old → AreOrdered scopes.now → AreStill (definitions program.now) (code program.now) cells.now scopes.now nodes.now.asked → DoMove (token_moves (definitions program.now) (code program.now) cells.now scopes.now) nodes.now.items result }
     ensures same { halts.new ≡ halts.old }
 {
-    let list = nodes.restless();
-    for i in 0..list.len() {
-        let kind = nodes.node_at(list[i] as usize).kind;
-        if can_token_move(program, halts, scopes, cells, kind) {
-            return true;
-        }
-    }
-    false
+    let to_ask = nodes.to_ask();
+    can_listed_move(program, halts, scopes, cells, nodes, to_ask.waiting)
+        || can_listed_move(program, halts, scopes, cells, nodes, to_ask.woken)
+        || can_new_move(program, halts, scopes, cells, nodes, to_ask.first_new)
 }

@@ -42,6 +42,8 @@ impl Marked {
         if self.can_move(program) {
             return Err(RuleFault::Time);
         }
+        // All tokens were asked, and none can move. The next tick need not ask those again that stand as they do now.
+        self.nodes.note_asked();
         self.rest.set_time(t);
         Ok(())
     }

@@ -1,8 +1,6 @@
--- What a change of the nodes leaves of their hints and of their list.
-use Rattle.std.proofs.Common.{◌≡◌, ◌<◌, ◌+◌, ◌-◌, ℕ, zero, suc, List, [], ◌∷◌, ◌++◌, length, get_or, Option, Some, None, refl, sym, ap, ◌∙◌, subst, arith, Bool, true, false, cond, nat_eq, eq-eqb, inl, inr, ⊎_elim, ◌⊎◌, length-append, length-set}
-use Rattle.std.proofs.Math.Seq.{get_or-append_seam}
+-- What a change of the nodes leaves of their hints.
+use Rattle.std.proofs.Common.{◌≡◌, ◌<◌, ◌+◌, ℕ, zero, suc, List, [], ◌∷◌, ◌++◌, length, get_or, Option, Some, None, refl, sym, ap, ◌∙◌, subst, arith, Bool, true, false, cond, nat_eq, eq-eqb, inl, inr, ⊎_elim, ◌⊎◌, length-append, length-set}
 use Rattle.std.proofs.lemmas.Bool.{ne_eqb, eqb-true}
-use Rattle.std.proofs.lemmas.List.{get_or_append_left}
 use Rattle.std.specs.Prelude.{slice_get, slice_set}
 use Rattle.orc_term.specs.declared.arena.Node.{Node}
 use Rattle.orc_term.specs.declared.arena.Kind.{Kind}
@@ -13,11 +11,10 @@ use Rattle.orc_term.specs.declared.arena.Tip.TheVariants.{Gone, Ended, Token, Be
 use Rattle.orc_term.specs.declared.arena.Single.TheVariants.{Feeds, Entered, Passed}
 use Rattle.orc_term.specs.declared.arena.Double.TheVariants.{Both, Side}
 use Rattle.orc_term.specs.Arena.{hits, at}
-use Rattle.orc_term.specs.Settling.{kind_at}
 use Rattle.orc_term.specs.Bearers.{Carries}
 use Rattle.orc_term.specs.Rising.{nowhere, pass_kind, pass_node}
 use Rattle.orc_term.specs.Grafting.{relink}
-use Rattle.orc_term.specs.Hints.{lets, Skips, IsAbove, AreHints, restless, AreListed, IsHintBelow, Follows, CanBecome, CanWake, IsBeside, lifted}
+use Rattle.orc_term.specs.Hints.{lets, Skips, IsAbove, AreHints, restless, IsHintBelow, Follows, CanBecome, CanWake, IsBeside, lifted}
 use Rattle.orc_term.proofs.Trees.{hits-both, hit}
 use Rattle.orc_term.proofs.Lists.{get-set_same, get-set_other, get-append, get-end, get-more}
 
@@ -297,85 +294,6 @@ length_lifted nodes i j =
 pub hints_lifted : (nodes : List Node) (hints : List ℕ) (i j : ℕ) → IsBeside nodes i j → AreHints nodes hints → AreHints (lifted nodes i j) hints
 hints_lifted nodes hints i j beside h = hints_on nodes (lifted nodes i j) hints (goes_lifted nodes i j beside) (length_lifted nodes i j) h
 
--- a node that can move after a write could before it
-back : (nodes : List Node) (i j : ℕ) (y : Node) → ((x : Node) → slice_get nodes i ≡ Some x → restless y.kind ≡ true → restless x.kind ≡ true) → restless (kind_at (slice_set nodes i y) j) ≡ true → restless (kind_at nodes j) ≡ true
-back [] i j y f h = h
-back (x ∷ nodes) zero zero y f h = f x refl h
-back (x ∷ nodes) zero (suc j) y f h = h
-back (x ∷ nodes) (suc i) zero y f h = h
-back (x ∷ nodes) (suc i) (suc j) y f h = back nodes i j y f h
-
-pub listed_written : (nodes : List Node) (list : List ℕ) (i : ℕ) (y : Node) → CanBecome nodes i y → AreListed nodes list → AreListed (slice_set nodes i y) list
-listed_written nodes list i y can all j h = all j (back nodes i j y (λ x e. (can x e).1) h)
-
-kind_set : (nodes : List Node) (i j : ℕ) (y : Node) → (kind_at (slice_set nodes i y) j ≡ kind_at nodes j) ⊎ (j ≡ i)
-kind_set [] i j y = inl refl
-kind_set (x ∷ nodes) zero zero y = inr refl
-kind_set (x ∷ nodes) zero (suc j) y = inl refl
-kind_set (x ∷ nodes) (suc i) zero y = inl refl
-kind_set (x ∷ nodes) (suc i) (suc j) y = ⊎_elim (λ e. inl e) (λ e. inr (ap suc e)) (kind_set nodes i j y)
-
--- a node is written, and listed
-pub listed_woken : (nodes : List Node) (list : List ℕ) (i : ℕ) (y : Node) → AreListed nodes list → AreListed (slice_set nodes i y) (list ++ i ∷ [])
-listed_woken nodes list i y all j h =
-    let longer = length-append list (i ∷ []) in
-    ⊎_elim
-    (λ e. let w = all j (sym (ap restless e) ∙ h) in (w.0, omega (arith, w.1, longer), get_or_append_left list (i ∷ []) 0 w.0 w.1 ∙ w.2))
-    (λ e. (length list, omega (arith, longer), get_or-append_seam list i [] 0 ∙ sym e))
-    (kind_set nodes i j y)
-
-kind_more : (nodes : List Node) (y : Node) (j : ℕ) → (kind_at (nodes ++ y ∷ []) j ≡ kind_at nodes j) ⊎ (j ≡ length nodes)
-kind_more [] y zero = inr refl
-kind_more [] y (suc j) = inl refl
-kind_more (x ∷ nodes) y zero = inl refl
-kind_more (x ∷ nodes) y (suc j) = ⊎_elim (λ e. inl e) (λ e. inr (ap suc e)) (kind_more nodes y j)
-
-pub listed_more : (nodes : List Node) (list : List ℕ) (y : Node) → AreListed nodes list → AreListed (nodes ++ y ∷ []) (list ++ length nodes ∷ [])
-listed_more nodes list y all j h =
-    let longer = length-append list (length nodes ∷ []) in
-    ⊎_elim
-    (λ e. let w = all j (sym (ap restless e) ∙ h) in (w.0, omega (arith, w.1, longer), get_or_append_left list (length nodes ∷ []) 0 w.0 w.1 ∙ w.2))
-    (λ e. (length list, omega (arith, longer), get_or-append_seam list (length nodes) [] 0 ∙ sym e))
-    (kind_more nodes y j)
-
-relinked_restless : (k : Kind) (i j : ℕ) → restless (relink k i j) ≡ true → restless k ≡ true
-relinked_restless (Leaf t) i j h = h
-relinked_restless (One (Feeds x g e) p) i j h = h
-relinked_restless (One (Entered m g e) p) i j h = h
-relinked_restless (One Passed p) i j h = h
-relinked_restless (Two Both p q) i j h = go (nat_eq p i) h
-  where
-    go : (b : Bool) → restless (cond b (Two Both j q) (Two Both p j)) ≡ true → restless (Two Both p q) ≡ true
-    go true h = h
-    go false h = h
-relinked_restless (Two (Side c) p q) i j h = go (nat_eq p i) h
-  where
-    go : (b : Bool) → restless (cond b (Two (Side c) j q) (Two (Side c) p j)) ≡ true → restless (Two (Side c) p q) ≡ true
-    go true h = h
-    go false h = h
-
-pub listed_lifted : (nodes : List Node) (list : List ℕ) (i j : ℕ) → AreListed nodes list → AreListed (lifted nodes i j) list
-listed_lifted nodes list i j all v h =
-    let x = get_or nodes i nowhere in
-    let own : Node = record { kind = x.kind; parent = j } in
-    let below = slice_set nodes i own in
-    let y = get_or below x.parent nowhere in
-    let top : Node = record { kind = relink y.kind i j; parent = y.parent } in
-    all v
-    (back nodes i v own (λ z e r. sym (ap (λ w. restless (Node.kind w)) (some_or nodes i nowhere z e)) ∙ r)
-    (back below x.parent v top (λ z e r. sym (ap (λ w. restless (Node.kind w)) (some_or below x.parent nowhere z e)) ∙ relinked_restless y.kind i j r) h))
-
--- an entry that is taken out, with the last one in its place
-pub listed_less : (nodes : List Node) (list list' : List ℕ) (k : ℕ) → restless (kind_at nodes (get_or list k 0)) ≡ false → k < length list → length list' + 1 ≡ length list
-    → (k + 1 < length list → get_or list' k 0 ≡ get_or list (length list - 1) 0) → ((j : ℕ) → (j ≡ k → ⊥) → j + 1 < length list → get_or list' j 0 ≡ get_or list j 0) → AreListed nodes list → AreListed nodes list'
-listed_less nodes list list' k still lt len last others all i h =
-    let w = all i h in
-    let off : w.0 ≡ k → ⊥ = λ e. cc (sym still ∙ ap (λ z. restless (kind_at nodes (get_or list z 0))) (sym e) ∙ ap (λ z. restless (kind_at nodes z)) w.2 ∙ h) in
-    ⊎_elim
-    (λ (e : w.0 + 1 ≡ length list). (k, omega (arith, e, off, lt, len), last (omega (arith, e, off, lt)) ∙ ap (λ z. get_or list z 0) (let a : length list - 1 ≡ w.0 = omega (arith, e) in a) ∙ w.2))
-    (λ (a : w.0 + 1 ≡ length list → ⊥). (w.0, omega (arith, a, w.1, len), others w.0 off (omega (arith, a, w.1)) ∙ w.2))
-    (same_or (w.0 + 1) (length list))
-
 -- a node that lets nothing through can become any, which may move from now on
 pub can_wake : (nodes nodes' : List Node) (q i : ℕ) (k l : Kind) → nodes' ≡ nodes → at nodes q i k → ((v : ℕ) → lets k v ≡ false) → CanWake nodes' i (record { kind = l; parent = q })
 can_wake nodes nodes' q i k l is a none x e =
@@ -386,15 +304,9 @@ can_wake nodes nodes' q i k l is a none x e =
 pub can_rest : (nodes nodes' : List Node) (q i : ℕ) (k l : Kind) → nodes' ≡ nodes → at nodes q i k → ((v : ℕ) → lets k v ≡ false) → restless l ≡ false → CanBecome nodes' i (record { kind = l; parent = q })
 can_rest nodes nodes' q i k l is a none rests x e = (can_wake nodes nodes' q i k l is a none x e, λ h. absurd (cc (sym rests ∙ h)))
 
--- one that can move can become any
-pub can_turn : (nodes nodes' : List Node) (q i : ℕ) (k l : Kind) → nodes' ≡ nodes → at nodes q i k → ((v : ℕ) → lets k v ≡ false) → restless k ≡ true → CanBecome nodes' i (record { kind = l; parent = q })
-can_turn nodes nodes' q i k l is a none moves x e =
-    let s : record { kind = k; parent = q } ≡ x = same_some _ x (sym a ∙ ap (λ z. slice_get z i) (sym is) ∙ e) in
-    (can_wake nodes nodes' q i k l is a none x e, λ h. sym (ap (λ z. restless (Node.kind z)) s) ∙ moves)
-
--- a token's node
-pub can_publish : (nodes nodes' : List Node) (q i s : ℕ) (k : Tip) (l : Kind) → nodes' ≡ nodes → at nodes q i (Leaf k) → Carries s k → CanBecome nodes' i (record { kind = l; parent = q })
-can_publish nodes nodes' q i s k l is a c = can_turn nodes nodes' q i (Leaf k) l is a (go k c) (its k c)
+-- a token's node becomes one without a token
+pub can_publish : (nodes nodes' : List Node) (q i s : ℕ) (k : Tip) (l : Kind) → nodes' ≡ nodes → at nodes q i (Leaf k) → Carries s k → restless l ≡ false → CanBecome nodes' i (record { kind = l; parent = q })
+can_publish nodes nodes' q i s k l is a c rests = can_rest nodes nodes' q i (Leaf k) l is a (go k c) rests
   where
     go : (k : Tip) → Carries s k → (v : ℕ) → lets (Leaf k) v ≡ false
     go (Token m f e) c v = refl
@@ -403,18 +315,11 @@ can_publish nodes nodes' q i s k l is a c = can_turn nodes nodes' q i (Leaf k) l
     go Ended c v = elim c [ ]
     go (Waits j) c v = elim c [ ]
 
-    its : (k : Tip) → Carries s k → restless (Leaf k) ≡ true
-    its (Token m f e) c = refl
-    its (Bears m x) c = refl
-    its Gone c = elim c [ ]
-    its Ended c = elim c [ ]
-    its (Waits j) c = elim c [ ]
-
 -- an otherwise is left
 pub can_pass : (nodes : List Node) (i : ℕ) → CanBecome nodes i (pass_node (get_or nodes i nowhere))
 can_pass nodes i x e =
     let s = some_or nodes i nowhere x e in
-    (record { parent = ap Node.parent s; passes = λ v h. go (Node.kind (get_or nodes i nowhere)) v (ap (λ z. lets (Node.kind z) v) s ∙ h) }, λ h. sym (ap (λ z. restless (Node.kind z)) s) ∙ its (Node.kind (get_or nodes i nowhere)) h)
+    (record { parent = ap Node.parent s; passes = λ v h. go (Node.kind (get_or nodes i nowhere)) v (ap (λ z. lets (Node.kind z) v) s ∙ h) }, λ h. its (Node.kind (get_or nodes i nowhere)) h ∙ ap Node.kind s)
   where
     go : (k : Kind) (v : ℕ) → lets k v ≡ true → lets (pass_kind k) v ≡ true
     go (Leaf t) v h = h
@@ -423,12 +328,12 @@ can_pass nodes i x e =
     go (One Passed p) v h = h
     go (Two d p q) v h = h
 
-    its : (k : Kind) → restless (pass_kind k) ≡ true → restless k ≡ true
-    its (Leaf t) h = h
-    its (One (Feeds x g e) p) h = h
-    its (One (Entered m g e) p) h = h
-    its (One Passed p) h = h
-    its (Two d p q) h = h
+    its : (k : Kind) → restless (pass_kind k) ≡ true → pass_kind k ≡ k
+    its (Leaf t) h = refl
+    its (One (Feeds x g e) p) h = refl
+    its (One (Entered m g e) p) h = cc h
+    its (One Passed p) h = refl
+    its (Two d p q) h = refl
 
 -- a node goes
 pub can_go : (nodes : List Node) (i : ℕ) → CanBecome nodes i (record { kind = Leaf Gone; parent = Node.parent (get_or nodes i nowhere) })

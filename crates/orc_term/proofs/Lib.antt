@@ -1,3 +1,4 @@
+pub mod Asking
 pub mod Climbing
 pub mod Dropping
 pub mod Feeding

@@ -1,5 +1,4 @@
--- The indexes that are kept with the nodes: a hint for each, by which a walk upward leaves out the nodes that let publications through, and a list
--- of the nodes with tokens.
+-- What callers see of the nodes, and the hints that are kept with them: by these a walk upward leaves out the nodes that let publications through.
 use Rattle.std.specs.Prelude.{◌≡◌, ◌<◌, ◌⊎◌, ◌+◌, ℕ, zero, suc, List, Bool, true, false, nat_eq, length, Some, slice_get, slice_set, slice_index_or}
 use Rattle.orc_term.specs.declared.arena.Node.{Node}
 use Rattle.orc_term.specs.declared.arena.Kind.{Kind}
@@ -8,13 +7,15 @@ use Rattle.orc_term.specs.declared.arena.Tip.TheVariants.{Gone, Token, Bears}
 use Rattle.orc_term.specs.declared.arena.Single.TheVariants.{Passed}
 use Rattle.orc_term.specs.declared.arena.Double.TheVariants.{Both, Side}
 use Rattle.orc_term.specs.Rising.{nowhere}
-use Rattle.orc_term.specs.Settling.{kind_at}
 use Rattle.orc_term.specs.Grafting.{relink}
 
--- what callers see of the nodes: themselves, and how many more there is room for
+-- what callers see of the nodes: themselves, how many more there is room for, how many more of them can get a token by `wake`, and the kinds of
+-- those that needn't be asked again whether they can move
 pub record Stock : Type 0 where
   pub items : List Node
   pub room : ℕ
+  pub wakes : ℕ
+  pub asked : List Kind
 
 -- whether what part i of a node publishes goes through the node and leaves it as it is; true of a node that is gone, which has no parts
 abbrev pub lets : Kind → ℕ → Bool
@@ -45,14 +46,6 @@ restless (Leaf (Token s f e)) = true
 restless (Leaf (Bears s v)) = true
 restless _ = false
 
--- the number is in the list
-abbrev pub IsListed : ℕ → List ℕ → Type 0
-IsListed i list = (k : ℕ) × (k < length list) × (slice_index_or list k 0 ≡ i)
-
--- each node with a token is in the list
-abbrev pub AreListed : List Node → List ℕ → Type 0
-AreListed nodes list = (i : ℕ) → restless (kind_at nodes i) ≡ true → IsListed i list
-
 -- a hint for a new node: the node itself, or the hint of the node above, if that lets through what the new node publishes
 abbrev pub IsHintBelow : List Node → List ℕ → ℕ → ℕ → ℕ → Type 0
 IsHintBelow nodes hints i parent hint = (hint ≡ i) ⊎ ((y : Node) × (slice_get nodes parent ≡ Some y) × (lets y.kind i ≡ true) × (hint ≡ slice_index_or hints parent parent))
@@ -66,9 +59,9 @@ pub record Follows (x y : Node) : Type 0 where
 abbrev pub CanWake : List Node → ℕ → Node → Type 0
 CanWake nodes i y = (x : Node) → slice_get nodes i ≡ Some x → Follows x y
 
--- node i can become y, which has a token only if node i had one
+-- node i can become y, which has no token, or that of node i
 abbrev pub CanBecome : List Node → ℕ → Node → Type 0
-CanBecome nodes i y = (x : Node) → slice_get nodes i ≡ Some x → Follows x y × (restless y.kind ≡ true → restless x.kind ≡ true)
+CanBecome nodes i y = (x : Node) → slice_get nodes i ≡ Some x → Follows x y × (restless y.kind ≡ true → y.kind ≡ x.kind)
 
 -- node j, newer than node i, is a `|` with the same parent and with node i as its left part; its right part is node j + 1
 abbrev pub IsBeside : List Node → ℕ → ℕ → Type 0

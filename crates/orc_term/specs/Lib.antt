@@ -1,5 +1,6 @@
 pub mod Arena
 pub mod Around
+pub mod Asking
 pub mod Bearers
 pub mod Dropping
 pub mod Grafting

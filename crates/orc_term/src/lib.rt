@@ -8,10 +8,12 @@
 #![tactic(auto)]
 
 pub mod arena;
+mod asked;
 pub mod candidates;
 pub mod flags;
 pub mod nodes;
 mod ranks;
+mod restless;
 pub mod room;
 pub mod side;
 pub mod slot;

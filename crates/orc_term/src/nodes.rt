@@ -1,13 +1,15 @@
-//! The nodes of a marked term by their numbers, with three indexes that save time: hints, the list of restless nodes, and ranks.
+//! The nodes of a marked term by their numbers, with three indexes that save time: hints, where the restless nodes are, and ranks.
 
 ghost use Rattle.std.specs.Prelude.{◌≡◌, ◌∷◌, ◌++◌, [], ◌+◌, ◌≤◌, ◌<◌, ◌^◌, List, length, slice_get, slice_set, slice_index_or, vec_len, vec_capacity, IfOk, IfSome};
 ghost use Rattle.orc_term.specs.Grafting.{relink};
-ghost use Rattle.orc_term.specs.Hints.{lets, lifted, restless, AreListed, IsAbove, IsHintBelow, IsBeside, CanBecome, CanWake};
+ghost use Rattle.orc_term.specs.Hints.{lets, lifted, IsAbove, IsHintBelow, IsBeside, CanBecome, CanWake};
 ghost use Rattle.orc_term.specs.Ranks.{AreLevelsAtMost};
+ghost use Rattle.orc_term.specs.Asking.{AreOfNodes, AreToAsk};
 ghost use Rattle.orc_term.specs.Rising.{nowhere};
 
 use crate::arena::{Double, Kind, Node, Single, Tip};
 use crate::ranks::Ranks;
+use crate::restless::{Restless, ToAsk};
 use crate::room::{fits, push_within};
 use crate::slot::Slot;
 use std::alloc::{AllocError, Global};
@@ -21,26 +23,27 @@ pub struct Nodes {
     /// Each node's *hint*: the node itself, or a node above it such that this one and all between let through what is published below them, and don't
     /// change by it. A walk upward goes from hint to hint, so that its cost doesn't grow with the number of `|` on its way.
     hints: Vec<u32>,
-    /// The numbers of all *restless* nodes, those with a token, which can move now or later, and of some without. The question whether a token can
-    /// move looks at these alone, so that its cost doesn't grow with what has ended or waits for a call.
-    restless: Vec<u32>,
+    /// Where the *restless* nodes are, those with a token, which can move now or later, and which of them were asked whether they can (`restless.rt`).
+    /// The question whether a token can move looks at the others and at new nodes alone, so that tokens that wait cost it nothing.
+    restless: Restless,
     /// Numbers that grow downwards. They bound how deep the nodes nest (`ranks.rt`).
     ranks: Ranks,
 }
 
-// Contracts see the nodes, and `room`: how many more `push_within` can add. The invariant says that hints, list and ranks are as the fields' comments
-// say.
+// Contracts see the nodes, `room`: how many more `push_within` can add, `wakes`: how many more can get a token by `wake`, and `asked`: the kinds of
+// the nodes that needn't be asked again. The invariant says that hints, restless nodes and ranks are as the fields' comments say.
 
 impl Model for Nodes {
     ghost use Rattle.std.specs.Prelude.{◌-◌, ◌^◌, min, vec_len, vec_capacity};
-    ghost use Rattle.orc_term.specs.Hints.{Stock, AreHints, AreListed};
+    ghost use Rattle.orc_term.specs.Hints.{Stock, AreHints};
+    ghost use Rattle.orc_term.specs.Asking.{asked_kinds, AreNoted};
     ghost use Rattle.orc_term.specs.Ranks.{AreKept};
 
     ghost Value = { Stock };
 
-    ghost view = { λ n. record { items = n.items.items; room = min (2 ^ 32 - 1 - vec_len n.items) (min (vec_capacity n.items - vec_len n.items) (min (vec_capacity n.hints - vec_len n.hints) (vec_capacity n.restless - vec_len n.restless))) } };
+    ghost view = { λ n. record { items = n.items.items; room = min (2 ^ 32 - 1 - vec_len n.items) (min (vec_capacity n.items - vec_len n.items) (vec_capacity n.hints - vec_len n.hints)); wakes = vec_capacity n.restless.woken - vec_len n.restless.woken; asked = asked_kinds n.restless } };
 
-    ghost invariant = { λ n. AreHints n.items.items n.hints.items × AreListed n.items.items n.restless.items × AreKept n.items.items n.ranks };
+    ghost invariant = { λ n. AreHints n.items.items n.hints.items × AreNoted n.items.items n.restless × AreKept n.items.items n.ranks };
 }
 
 /// The node of that number; where there is none, one that is gone, with parent 0.
@@ -84,53 +87,6 @@ fn lets_through(kind: Kind, part: u32) -> bool
         // A `>x>` takes what its part publishes, an otherwise loses its right side by it, and a node without parts has none that publishes.
         _ => false,
     }
-}
-
-// Whether a node has a token, which can move now or later; `Bears` is a token with the answer of a call.
-fn is_restless(kind: Kind) -> bool
-    ensures { result ≡ restless kind }
-{
-    match kind {
-        Kind::Leaf(Tip::Token(_, _, _)) | Kind::Leaf(Tip::Bears(_, _)) => true,
-        _ => false,
-    }
-}
-
-// Takes out of a list of node numbers those whose nodes have no token any more. If all nodes with a token were in the list, they still are. The list
-// loses its order.
-fn keep_restless(items: &Vec<Slot>, list: &mut Vec<u32>)
-    ensures { AreListed items.now.items list.old.items → AreListed items.now.items list.new.items }
-{
-    let mut next = 0;
-    // Not a `for`: the list shrinks, and its last number comes to the place of one that is taken out.
-    while next < list.len() {
-        if is_restless(item(items, list[next] as usize).kind) {
-            next += 1;
-        } else {
-            let _number = list.swap_remove(next);
-        }
-    }
-}
-
-// Makes room for two more in the list of nodes with tokens. A full list first drops the nodes without one, and grows only if half of its room or more
-// stays taken. So it has room for at most four times the tokens that there are at one time, and half of it is filled between two looks at all of it.
-// The error is refused memory.
-fn reserve_listed(items: &Vec<Slot>, list: &mut Vec<u32>) -> Result<(), AllocError>
-    ensures listed { AreListed items.now.items list.old.items → AreListed items.now.items list.new.items }
-    ensures room { IfOk result (λ _. vec_len list.new + 2 ≤ vec_capacity list.new) }
-{
-    // Two more fit already.
-    if list.capacity() - list.len() >= 2 {
-        return Ok(());
-    }
-    keep_restless(items, list);
-    let len = list.len();
-    if len < list.capacity() / 2 {
-        // Less than half of the room is taken, so two more fit.
-        return Ok(());
-    }
-    // The room doubles; a short list gets the two that are asked for.
-    list.try_reserve(len.max(2))
 }
 
 // The hint of node `i`: the node itself, or one above it up to which nothing takes or is changed by what the node publishes. `i` where there is no
@@ -199,10 +155,11 @@ impl Nodes {
     pub fn new(alloc: Global) -> Result<Nodes, AllocError>
         ensures items { IfOk result (λ n. n.items ≡ []) }
         ensures room { IfOk result (λ n. 2 ≤ n.room) }
+        ensures asked { IfOk result (λ n. n.asked ≡ []) }
     {
         let items = Vec::with_capacity(alloc, 2)?;
         let hints = Vec::with_capacity(alloc, 2)?;
-        let restless = Vec::with_capacity(alloc, 2)?;
+        let restless = Restless::new(alloc);
         Ok(Nodes {
             items,
             hints,
@@ -213,11 +170,12 @@ impl Nodes {
 
     /// A copy of the nodes with their indexes. It may have no room for more. The error is refused memory.
     pub fn copy(&self, alloc: Global) -> Result<Nodes, AllocError>
-        ensures { IfOk result (λ n. n.items ≡ self.now.items) }
+        ensures items { IfOk result (λ n. n.items ≡ self.now.items) }
+        ensures asked { IfOk result (λ n. n.asked ≡ self.now.asked) }
     {
         let items = Vec::from_slice(alloc, &self.items)?;
         let hints = Vec::from_slice(alloc, &self.hints)?;
-        let restless = Vec::from_slice(alloc, &self.restless)?;
+        let restless = self.restless.copy(alloc)?;
         let ranks = self.ranks.copy(alloc)?;
         Ok(Nodes {
             items,
@@ -294,11 +252,29 @@ impl Nodes {
         }
     }
 
-    /// The numbers of all nodes with tokens, which can move now or later, and of some without. They are in no order, and a number may come twice.
-    pub fn restless(&self) -> &Vec<u32>
-        ensures { AreListed self.now.items result.now.items }
+    /// The nodes whose tokens have to be asked whether they can move: all with a token but those whose kinds are in `asked`. Some of the nodes have no
+    /// token, and a number may come twice.
+    pub fn to_ask(&self) -> ToAsk<'_>
+        ensures { AreToAsk self.now.items self.now.asked result.waiting.now result.woken.now result.first_new }
     {
-        &self.restless
+        self.restless.to_ask()
+    }
+
+    /// Notes that all tokens were asked: none of them is asked again until `forget_asked`, or until its node gets another token by `wake`. If memory is
+    /// refused, all are asked again. The nodes stay.
+    pub fn note_asked(&mut self)
+        ensures items { self.new.items ≡ self.old.items }
+        ensures asked { AreOfNodes self.new.items self.new.asked }
+    {
+        self.restless.note_asked(&self.items);
+    }
+
+    /// Has all tokens asked again. The nodes stay.
+    pub fn forget_asked(&mut self)
+        ensures items { self.new.items ≡ self.old.items }
+        ensures asked { self.new.asked ≡ [] }
+    {
+        self.restless.forget_asked();
     }
 
     /// A bound on how many nodes are one below another under node 0: the greatest rank, since each node has a greater rank than its parent. None
@@ -321,24 +297,34 @@ impl Nodes {
         self.ranks.renew(&self.items);
     }
 
-    /// Takes out of the list of `restless` the nodes that have no token any more. The nodes stay.
+    /// If the nodes that wait are asked again, takes those out of their list that have no token any more. The nodes stay.
     pub fn tidy(&mut self)
-        ensures { self.new.items ≡ self.old.items }
+        ensures items { self.new.items ≡ self.old.items }
+        ensures asked { self.new.asked ≡ self.old.asked }
     {
-        keep_restless(&self.items, &mut self.restless);
+        self.restless.tidy(&self.items);
     }
 
     /// Reserves memory for two more nodes, whose numbers have 32 bits. The error is refused memory, or that 32 bits are too few. The nodes stay.
     pub fn reserve(&mut self) -> Result<(), AllocError>
         ensures items { self.new.items ≡ self.old.items }
+        ensures asked { self.new.asked ≡ self.old.asked }
         ensures room { IfOk result (λ _. 2 ≤ self.new.room) }
     {
         // The numbers of both new nodes have to fit 32 bits.
         fits(self.items.len() + 2)?;
         self.items.try_reserve(2)?;
         self.hints.try_reserve(2)?;
-        reserve_listed(&self.items, &mut self.restless)?;
         Ok(())
+    }
+
+    /// Reserves memory for one node that gets a token by `wake`. The error is refused memory. The nodes stay.
+    pub fn reserve_wake(&mut self) -> Result<(), AllocError>
+        ensures items { self.new.items ≡ self.old.items }
+        ensures asked { self.new.asked ≡ self.old.asked }
+        ensures room { IfOk result (λ _. 1 ≤ self.new.wakes) }
+    {
+        self.restless.reserve(&self.items)
     }
 
     /// Adds a node at the end, with the number `next_number`. Room for it has to be reserved, and is used up. Refused memory for its rank is no
@@ -347,6 +333,7 @@ impl Nodes {
     pub fn push_within(&mut self, node: Node)
         requires { 1 ≤ self.old.room }
         ensures items { self.new.items ≡ self.old.items ++ node ∷ [] }
+        ensures asked { self.new.asked ≡ self.old.asked }
         ensures room { self.old.room ≤ self.new.room + 1 }
     {
         let number = self.items.len() as u32;
@@ -356,16 +343,16 @@ impl Nodes {
         // Each of these calls is of the function in `room.rt` that adds an item to one list.
         push_within(&mut self.items, Slot::new(node));
         push_within(&mut self.hints, hint);
-        // Whether the node has a token isn't asked here: nodes without one are taken out later.
-        push_within(&mut self.restless, number);
+        // Nothing is noted in `restless`: a new node is asked in any case.
     }
 
-    /// Replaces a node. The new one has the same parent, lets through all that the old one let through, and has a token only if that had one: so the
-    /// hints and the list of restless nodes stay right.
+    /// Replaces a node. The new one has the same parent, lets through all that the old one let through, and has no token, or the one that was there: so
+    /// the hints stay right, and no restless node is missed.
     #[inline(always)]
     pub fn write_node(&mut self, i: usize, node: Node)
         requires { CanBecome self.old.items i node }
         ensures items { self.new.items ≡ slice_set self.old.items i node }
+        ensures asked { self.new.asked ≡ self.old.asked }
         ensures room { self.new.room ≡ self.old.room }
     {
         // No rank changes. `write` notes whether the ranks still fit the parts of the new node.
@@ -373,18 +360,19 @@ impl Nodes {
         set_item(&mut self.items, i, node);
     }
 
-    /// Replaces a node as `write_node` does, but the new one may have a token though the old one had none. It uses up room for one node, since the
-    /// list of restless nodes gets one more.
+    /// Replaces a node as `write_node` does, but the new one may have a token that the old one hadn't. Room for that has to be reserved
+    /// (`reserve_wake`).
     #[inline(always)]
     pub fn wake(&mut self, i: u32, node: Node)
-        requires room { 1 ≤ self.old.room }
+        requires room { 1 ≤ self.old.wakes }
         requires node { CanWake self.old.items i node }
-        ensures { self.new.items ≡ slice_set self.old.items i node }
+        ensures items { self.new.items ≡ slice_set self.old.items i node }
+        ensures asked { self.new.asked ≡ self.old.asked }
     {
         // No rank changes. `write` notes whether the ranks still fit the parts of the new node.
         self.ranks.write(&self.items, i as usize, node);
         set_item(&mut self.items, i as usize, node);
-        push_within(&mut self.restless, i);
+        self.restless.wake(i);
     }
 
     /// Puts the `|` with the number `both` in the place of node `i`, and node `i` with all that is below it under the `|`. The `|` is newer than node
@@ -394,6 +382,7 @@ impl Nodes {
     pub fn lift(&mut self, i: u32, both: u32)
         requires { IsBeside self.old.items i both }
         ensures items { self.new.items ≡ lifted self.old.items i both }
+        ensures asked { self.new.asked ≡ self.old.asked }
         ensures room { self.new.room ≡ self.old.room }
     {
         let node = item(&self.items, i as usize);

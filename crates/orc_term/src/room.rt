@@ -22,6 +22,7 @@ pub fn reserve(
     marks: &mut Vec<u32>,
 ) -> Result<(), AllocError>
     ensures nodes { nodes.new.items ≡ nodes.old.items }
+    ensures asked { nodes.new.asked ≡ nodes.old.asked }
     ensures flags { flags.new.items ≡ flags.old.items }
     ensures marks { marks.new.items ≡ marks.old.items }
     ensures room { IfOk result (λ _. (2 ≤ nodes.new.room) × (vec_len flags.new + 2 ≤ vec_capacity flags.new) × (vec_len marks.new + 2 ≤ vec_capacity marks.new)) }
@@ -29,6 +30,19 @@ pub fn reserve(
     nodes.reserve()?;
     flags.try_reserve(2)?;
     marks.try_reserve(2)?;
+    Ok(())
+}
+
+/// Reserves memory for one more mark, and for the note that a node gets its token (`Nodes::wake`). `marks` has the node of each mark. The error is
+/// refused memory. What the lists have stays.
+pub fn reserve_wake(nodes: &mut Nodes, marks: &mut Vec<u32>) -> Result<(), AllocError>
+    ensures nodes { nodes.new.items ≡ nodes.old.items }
+    ensures asked { nodes.new.asked ≡ nodes.old.asked }
+    ensures marks { marks.new.items ≡ marks.old.items }
+    ensures room { IfOk result (λ _. (1 ≤ nodes.new.wakes) × (vec_len marks.new < vec_capacity marks.new)) }
+{
+    nodes.reserve_wake()?;
+    marks.try_reserve(1)?;
     Ok(())
 }
 
@@ -53,6 +67,7 @@ pub fn reserve_numbered(
     second: usize,
 ) -> Result<(), AllocError>
     ensures nodes { nodes.new.items ≡ nodes.old.items }
+    ensures asked { nodes.new.asked ≡ nodes.old.asked }
     ensures flags { flags.new.items ≡ flags.old.items }
     ensures marks { marks.new.items ≡ marks.old.items }
     ensures room { IfOk result (λ _. (2 ≤ nodes.new.room) × (vec_len flags.new + 2 ≤ vec_capacity flags.new) × (vec_len marks.new + 2 ≤ vec_capacity marks.new)) }

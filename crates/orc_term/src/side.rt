@@ -79,6 +79,7 @@ pub fn drop_nodes(nodes: &mut Nodes, found: &Vec<u32>)
     ensures dropped { IsDropped nodes.old.items found.now.items nodes.new.items }
     ensures len { length nodes.new.items ≡ length nodes.old.items }
     ensures sides { (n : ℕ) → NoNewSides n nodes.old.items nodes.new.items }
+    ensures asked { nodes.new.asked ≡ nodes.old.asked }
 {
     for next in 0..found.len() {
         let place = found[next] as usize;

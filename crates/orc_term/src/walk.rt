@@ -82,6 +82,7 @@ pub fn rise(nodes: &mut Nodes, from: u32)
     ensures rises { Rises nodes.old.items from nodes.new.items }
     ensures passes { Passes nodes.old.items nodes.new.items }
     ensures room { nodes.new.room ≡ nodes.old.room }
+    ensures asked { nodes.new.asked ≡ nodes.old.asked }
     ensures len { length nodes.new.items ≡ length nodes.old.items }
 {
     let mut place = from;

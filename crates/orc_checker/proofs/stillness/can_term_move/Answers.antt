@@ -15,14 +15,14 @@ loop-above-init c =
     let scopes = c.args.scopes.now in
     let node = c.args.node in
     let halts = c.args.halts.now.items in
-    let active = c.loop-i.active.items in
-    let active' = c.wakes.new.active.items in
+    let queued = c.loop-i.queued.items in
+    let queued' = c.wakes.new.queued.items in
     let moves = term_moves (definitions l) (code l) cells scopes c.args.scope in
-    let room : length halts ≤ length active = omega (arith, c.requires, c.loop-i.invariant.0) in (
+    let room : length halts ≤ length queued = omega (arith, c.requires, c.loop-i.invariant.0) in (
       c.wakes.ensures.len ∙ c.loop-i.invariant.0,
       λ are ordered.
-          looks_first moves node active active' (subst (Wakes moves active active' node) c.if-wakes.false (c.wakes.ensures.wakes are ordered))
-          (none_active (definitions l) (code l) (env_of cells scopes c.args.scope) halts active node (c.program_is_source.ensures l).0 are room
+          looks_first moves node queued queued' (subst (Wakes moves queued queued' node) c.if-wakes.false (c.wakes.ensures.wakes are ordered))
+          (none_active (definitions l) (code l) (env_of cells scopes c.args.scope) halts queued node (c.program_is_source.ensures l).0 are room
           (λ k lt. c.loop-i.invariant.1 k (omega (arith, lt, c.loop-i-test.false, c.loop-i.auto.i-end)))),
     )
 

@@ -7,12 +7,12 @@ use Rattle.orc_checker.proofs.Waking.{AreCleared, Looks}
 use Rattle.orc_checker.proofs.stillness.can_term_move.Given as goal
 
 abbrev pub invariant-loop-i : goal.invariant-loop-i
-invariant-loop-i l = (length l.active.items ≡ length l.fn.active.items) × AreCleared l.active.items l.i
+invariant-loop-i l = (length l.queued.items ≡ length l.fn.queued.items) × AreCleared l.queued.items l.i
 
 abbrev pub invariant-loop-above : goal.invariant-loop-above
 invariant-loop-above l =
-    (length l.active.items ≡ length l.fn.active.items)
-    × (AreHalts (code l.program) l.halts.items → AreOrdered l.scopes → Looks (term_moves (definitions l.program) (code l.program) l.cells l.scopes l.scope) l.node l.active.items l.above)
+    (length l.queued.items ≡ length l.fn.queued.items)
+    × (AreHalts (code l.program) l.halts.items → AreOrdered l.scopes → Looks (term_moves (definitions l.program) (code l.program) l.cells l.scopes l.scope) l.node l.queued.items l.above)
 
 abbrev pub decreases-loop-above : goal.decreases-loop-above
 decreases-loop-above l = l.above

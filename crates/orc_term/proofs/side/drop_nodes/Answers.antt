@@ -24,4 +24,5 @@ loop-next-preserved c =
           (take_more found next i (omega (arith, c.loop-next-test.true, c.len-next-end.ensures)) ∙ ap (λ z. take next found ++ z ∷ []) (sym c.index.ensures)),
       ap length c.write_node.ensures.items ∙ length-set c.loop-next.nodes.items _ _ ∙ c.loop-next.invariant.1,
       λ n. sides_on n c.args.nodes.now.items nodes c.write_node.new.self.items (c.loop-next.invariant.2 n) (sides_written n nodes c.write_node.new.self.items i _ c.write_node.ensures.items (subst (λ z. CanBecome nodes i (gone (Node.parent z))) (sym c.node_at-parent.ensures) (can_go nodes i)) (λ p lt. refl)),
+      c.write_node.ensures.asked ∙ c.loop-next.invariant.3,
     )

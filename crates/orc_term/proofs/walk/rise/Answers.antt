@@ -45,6 +45,7 @@ loop-steps-preserved c =
       ap length is ∙ length-set nodes place _ ∙ c.loop-steps.invariant.1,
       passes_on old nodes c.shorten.new.self.items place c.loop-steps.invariant.2 is,
       ap Stock.room c.shorten.ensures ∙ c.write_node.ensures.room ∙ c.loop-steps.invariant.3,
+      ap Stock.asked c.shorten.ensures ∙ c.write_node.ensures.asked ∙ c.loop-steps.invariant.4,
     )
 
 pub returns-clause-rises : goal.returns-clause-rises

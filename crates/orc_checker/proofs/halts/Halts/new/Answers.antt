@@ -5,7 +5,7 @@ use Rattle.orc_checker.proofs.Halting.{AreHaltsBelow, none_yet, flag_right, next
 use Rattle.orc_checker.proofs.halts.Halts.new.Goals as goal
 
 pub loop-i-init : goal.loop-i-init
-loop-i-init c = (subst (λ z. AreHaltsBelow (code c.args.program.now) 0 z) (sym c.new-flags.ensures.items) (none_yet (code c.args.program.now)), ap length c.new-active.ensures.items)
+loop-i-init c = (subst (λ z. AreHaltsBelow (code c.args.program.now) 0 z) (sym c.new-flags.ensures.items) (none_yet (code c.args.program.now)), ap length c.new-queued.ensures.items)
 
 pub loop-i-preserved : goal.loop-i-preserved
 loop-i-preserved c =
@@ -16,7 +16,7 @@ loop-i-preserved c =
     let right = c.flag_of.ensures ∙ flag_right (code l) l.lists flags c.loop-i.i c.node.result c.loop-i.invariant.0 parts ∙ ap has_halted (sym c.node.ensures.term) in (
       subst (λ z. AreHaltsBelow (code l) (c.loop-i.i + 1) z) (sym c.in_ok-push.ensures.items)
           (subst (λ z. AreHaltsBelow (code l) z (flags ++ c.flag_of.result ∷ [])) (omega arith) (next_right (code l) flags c.loop-i.i c.flag_of.result c.loop-i.invariant.0 right)),
-      omega (arith, ap length c.in_ok-push-2.ensures.items, length-append c.loop-i.active.items (false ∷ []), c.loop-i.invariant.1),
+      omega (arith, ap length c.in_ok-push-2.ensures.items, length-append c.loop-i.queued.items (false ∷ []), c.loop-i.invariant.1),
     )
 
 pub returns : goal.returns

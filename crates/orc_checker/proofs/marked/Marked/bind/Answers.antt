@@ -4,6 +4,9 @@ use Rattle.orc_term.specs.declared.arena.Node.{Node}
 use Rattle.orc_env.specs.declared.names.Bound.TheVariants.{Is}
 use Rattle.orc_term.specs.declared.walk.Taker.TheVariants.{Bound}
 use Rattle.orc_term.specs.Settling.{flag, Settles}
+use Rattle.orc_term.specs.Dropping.{IsDropped}
+use Rattle.orc_term.specs.Sides.{AreKnown}
+use Rattle.orc_checker.specs.NextDue.{AreNoted}
 use Rattle.orc_term.specs.Rising.{nowhere, TakesThere, IsTaker, Stands}
 use Rattle.orc_term.specs.declared.arena.Single.TheVariants.{Passed}
 use Rattle.orc_term.specs.declared.arena.Kind.TheVariants.{One}
@@ -14,7 +17,7 @@ use Rattle.orc_term.proofs.Hints.{can_end}
 use Rattle.orc_checker.specs.Calls.{Rest}
 use Rattle.orc_checker.proofs.Noting.{still_noted, wait_on, wait_written, wait_dropped}
 use Rattle.orc_term.proofs.KeptSides.{known_kept, sides_on, sides_written}
-use Rattle.orc_checker.specs.Index.{name_of}
+use Rattle.orc_checker.specs.Index.{name_of, AreIndexed}
 use Rattle.orc_checker.proofs.Indexed.{indexed_bound, indexed_calls}
 use Rattle.std.proofs.lemmas.Result.{err_from_is_err_and}
 use Rattle.orc_rules.specs.Step.{binds}
@@ -49,17 +52,19 @@ returns-clause-done c t =
       unbound = c.in_ok-unbound.ensures.open;
       all = r.ensures.nodes;
       nodes = c.write_node.ensures.items ∙ ap (λ (z : State). slice_set z.nodes place (node (One Passed k.left) pruning.parent)) v;
-      dropped = c.drop_nodes.ensures.dropped;
-      len = c.drop_nodes.ensures.len ∙ ap length c.write_node.ensures.items ∙ length-set c.self.inside.nodes.items place _ ∙ ap (λ (z : State). length z.nodes) v;
+      dropped = subst (IsDropped c.write_node.new.self.items r.side.items) (sym c.forget_asked.ensures.items) c.drop_nodes.ensures.dropped;
+      len = ap length c.forget_asked.ensures.items ∙ c.drop_nodes.ensures.len ∙ ap length c.write_node.ensures.items ∙ length-set c.self.inside.nodes.items place _ ∙ ap (λ (z : State). length z.nodes) v;
       scopes = ap State.scopes v;
       marks = ap (λ (z : State). length z.marks) v;
+      asked = c.forget_asked.ensures.asked;
       halts = ap State.halts v;
       rest = c.set_cancels.ensures ∙ ap (λ (z : State). record z.rest { to_cancel = reverse r.calls.items }) v;
     })
     (c.bind_cell.ensures ∙ ap (λ (z : State). slice_set z.cells c.args.c (Is c.args.v)) v)
     (c.settle.ensures.len ∙ ap (λ (z : State). length z.flags) v)
+    (subst (λ z. Settles z s.flags place (flag s.flags k.left) c.settle.new.flags.items) (sym c.forget_asked.ensures.items)
     (subst (λ (z : State). Settles c.drop_nodes.new.nodes.items z.flags place (flag z.flags k.left) c.settle.new.flags.items) v
-    (subst (λ z. Settles c.drop_nodes.new.nodes.items c.self.inside.flags.items place z c.settle.new.flags.items) c.flag_at-halted.ensures c.settle.ensures.settles))
+    (subst (λ z. Settles c.drop_nodes.new.nodes.items c.self.inside.flags.items place z c.settle.new.flags.items) c.flag_at-halted.ensures c.settle.ensures.settles)))
     r.ensures.recorded
     (λ e. ap reverse (r.ensures.not_recorded e))
 
@@ -67,12 +72,13 @@ pub write_node-requires : goal.write_node-requires
 write_node-requires c = can_end c.self.inside.nodes.items c.in-Bound.at c.in-Two.left _ (ap Node.parent c.node_at-pruning.ensures)
 
 pub invariant_of-self : goal.invariant_of-self
-invariant_of-self c = (
-  still_noted _ _ _ _ _ (wait_on _ _ _ (wait_written _ _ _ _ c.write_node.ensures.items refl) (wait_dropped _ _ _ c.drop_nodes.ensures.dropped)) (ap Rest.calls c.set_cancels.ensures) c.self.invariant.0,
-  known_kept _ _ _ _ _ _ _ c.self.invariant.1 (sides_on (length c.self.inside.nodes.items) _ _ _ (sides_written (length c.self.inside.nodes.items) _ _ _ _ c.write_node.ensures.items (can_end c.self.inside.nodes.items c.in-Bound.at c.in-Two.left _ (ap Node.parent c.node_at-pruning.ensures)) (λ p lt. refl)) (c.drop_nodes.ensures.sides (length c.self.inside.nodes.items))) c.settle.ensures.known c.settle.ensures.kept refl c.settle.ensures.len (c.drop_nodes.ensures.len ∙ ap length c.write_node.ensures.items ∙ length-set c.self.inside.nodes.items _ _),
-  indexed_calls _ _ _ _ _ _ (ap Rest.calls c.set_cancels.ensures) (indexed_bound _ _ _ _ _ _ _ _ _ _ _ _ _ c.self.invariant.2 (ap name_of (subst (TakesThere c.self.inside.nodes.items) (c.in-Bound.is ∙ ap (λ z. Bound z c.in-Bound.at) c.if-cell-c.false) c.in-Some.ensures.there).2) c.write_node.ensures.items refl c.drop_nodes.ensures.dropped c.bind_cell.ensures),
-  c.self.invariant.3 ∙ sym (ap length c.bind_cell.ensures ∙ length-set _ _ _),
-)
+invariant_of-self c =
+    let nodes = sym c.forget_asked.ensures.items in (
+      subst (λ z. AreNoted z (Rest.calls c.set_cancels.new.self) c.self.inside.due) nodes (still_noted _ _ _ _ _ (wait_on _ _ _ (wait_written _ _ _ _ c.write_node.ensures.items refl) (wait_dropped _ _ _ c.drop_nodes.ensures.dropped)) (ap Rest.calls c.set_cancels.ensures) c.self.invariant.0),
+      subst (λ z. AreKnown z c.settle.new.flags.items c.settle.new.candidates) nodes (known_kept _ _ _ _ _ _ _ c.self.invariant.1 (sides_on (length c.self.inside.nodes.items) _ _ _ (sides_written (length c.self.inside.nodes.items) _ _ _ _ c.write_node.ensures.items (can_end c.self.inside.nodes.items c.in-Bound.at c.in-Two.left _ (ap Node.parent c.node_at-pruning.ensures)) (λ p lt. refl)) (c.drop_nodes.ensures.sides (length c.self.inside.nodes.items))) c.settle.ensures.known c.settle.ensures.kept refl c.settle.ensures.len (c.drop_nodes.ensures.len ∙ ap length c.write_node.ensures.items ∙ length-set c.self.inside.nodes.items _ _)),
+      subst (λ z. AreIndexed z (record { marks = c.self.inside.marks.items; prunings = c.self.inside.prunings.items; calls = Rest.calls c.set_cancels.new.self; cells = c.bind_cell.new.cells.items })) nodes (indexed_calls _ _ _ _ _ _ (ap Rest.calls c.set_cancels.ensures) (indexed_bound _ _ _ _ _ _ _ _ _ _ _ _ _ c.self.invariant.2 (ap name_of (subst (TakesThere c.self.inside.nodes.items) (c.in-Bound.is ∙ ap (λ z. Bound z c.in-Bound.at) c.if-cell-c.false) c.in-Some.ensures.there).2) c.write_node.ensures.items refl c.drop_nodes.ensures.dropped c.bind_cell.ensures)),
+      c.self.invariant.3 ∙ sym (ap length c.bind_cell.ensures ∙ length-set _ _ _),
+    )
 
 pub returns-in_err-bearer-clause-reason : goal.returns-in_err-bearer-clause-reason
 returns-in_err-bearer-clause-reason c =

@@ -11,7 +11,7 @@ use Rattle.orc_checker.specs.Calls.{Rest, AddsCall}
 use Rattle.orc_calls.specs.Counting.{NextFound}
 use Rattle.orc_term.proofs.Trees.{node}
 use Rattle.orc_checker.proofs.CallEntries.{call-enters}
-use Rattle.orc_term.proofs.Hints.{can_turn}
+use Rattle.orc_term.proofs.Hints.{can_rest}
 use Rattle.orc_checker.proofs.Earliest.{noted_call, noted_more}
 use Rattle.orc_checker.proofs.Noting.{still_noted, same_wait}
 use Rattle.orc_term.proofs.KeptSides.{known_kept, flags_same, sides_written}
@@ -50,9 +50,10 @@ returns-clause-done c =
     (c.time.ensures ∙ ap (λ (z : State). Rest.time z.rest) v)
     (subst (λ (z : State). AddsCall sites called c.args.site c.args.args.now z.rest c.add.new.self) v c.in_ok-add.ensures.added)
     c.in_ok-spot.ensures.free
+    (c.write_node.ensures.asked ∙ ap State.asked v)
 
 pub write_node-requires : goal.write_node-requires
-write_node-requires c = can_turn c.args.self.now.nodes _ _ _ _ _ (ap State.nodes c.self.view_is) c.in_ok-spot.ensures.there (λ v. refl) refl
+write_node-requires c = can_rest c.args.self.now.nodes _ _ _ _ _ (ap State.nodes c.self.view_is) c.in_ok-spot.ensures.there (λ v. refl) refl
 
 pub invariant_of-self : goal.invariant_of-self
 invariant_of-self c = (noted_more _ _ _ _ c.note.ensures.kept c.self.invariant.0, c.self.invariant.1, c.self.invariant.2, c.self.invariant.3)
@@ -64,7 +65,7 @@ pub invariant_of-self-2 : goal.invariant_of-self-2
 invariant_of-self-2 c = (
   noted_call _ _ _ _ _ _ c.in_ok-spot.spot.at c.in_ok-spot.spot.parent c.args.k _ c.due_time.result c.self.invariant.0 (c.in_ok-expect_call.ensures.next ∙ ap (λ (z : State). suc (length (Rest.calls z.rest))) (sym c.self.view_is)) c.write_node.ensures.items
       (ap Rest.calls c.in_ok-add.ensures.added.same) c.due_time.ensures c.in_ok-note.ensures.noted c.note.ensures.kept,
-  known_kept _ _ _ _ _ _ _ c.self.invariant.1 (sides_written (length c.self.inside.nodes.items) _ _ _ _ c.write_node.ensures.items (can_turn c.args.self.now.nodes _ _ _ _ _ (ap State.nodes c.self.view_is) c.in_ok-spot.ensures.there (λ v. refl) refl) (λ p lt. refl)) (flags_same _ _ _ _ refl) (λ p m. m) refl refl (ap length c.write_node.ensures.items ∙ length-set c.self.inside.nodes.items _ _),
+  known_kept _ _ _ _ _ _ _ c.self.invariant.1 (sides_written (length c.self.inside.nodes.items) _ _ _ _ c.write_node.ensures.items (can_rest c.args.self.now.nodes _ _ _ _ _ (ap State.nodes c.self.view_is) c.in_ok-spot.ensures.there (λ v. refl) refl) (λ p lt. refl)) (flags_same _ _ _ _ refl) (λ p m. m) refl refl (ap length c.write_node.ensures.items ∙ length-set c.self.inside.nodes.items _ _),
   indexed_call _ _ _ _ _ _ _ _ _ _ _ c.self.invariant.2 c.write_node.ensures.items refl (c.in_ok-expect_call.ensures.next ∙ ap (λ (z : State). suc (length (Rest.calls z.rest))) (sym c.self.view_is)) (ap Rest.calls c.in_ok-add.ensures.added.same) refl,
   c.self.invariant.3,
 )

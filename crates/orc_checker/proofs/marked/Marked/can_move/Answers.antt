@@ -4,13 +4,14 @@ use Rattle.orc_rules.specs.Marked.{erase}
 use Rattle.orc_rules.specs.Term.{Definition}
 use Rattle.orc_rules.specs.Nodes.{code, definitions}
 use Rattle.orc_term.specs.declared.arena.Node.{Node}
+use Rattle.orc_term.specs.declared.arena.Kind.{Kind}
 use Rattle.orc_env.specs.declared.names.Bound.{Bound}
 use Rattle.orc_env.specs.declared.names.Scope.{Scope}
 use Rattle.orc_checker.specs.Checker.{State}
 use Rattle.orc_term.specs.Halting.{AreHalts}
 use Rattle.orc_env.specs.Names.{AreOrdered}
 use Rattle.orc_term.specs.Sides.{HasEnded}
-use Rattle.orc_checker.specs.Stillness.{token_moves, DoMove, DoStir}
+use Rattle.orc_checker.specs.Stillness.{token_moves, AreStill, DoMove, DoStir}
 use Rattle.orc_checker.proofs.Moving.{tokens_stir, sides_stir}
 use Rattle.orc_checker.proofs.Ticking.{movement}
 use Rattle.orc_checker.proofs.marked.Marked.can_move.Goals as goal
@@ -34,9 +35,10 @@ returns-clause-moves c x p own sp =
     let b = c.can_some_move.result in
     let n = c.self.inside in
     let none = subst (HasEnded n.nodes.items n.flags.items) c.in_default.is c.ended_side.ensures.ends in
-    let its = subst (λ z. AreHalts (code l) n.halts → AreOrdered n.scopes.items → DoMove (token_moves (definitions l) (code l) n.cells.items n.scopes.items) z b) c.tidy.ensures
-    (subst (λ ss. AreHalts (code l) n.halts → AreOrdered ss → DoMove (token_moves (definitions l) (code l) n.cells.items ss) c.tidy.new.self.items b) c.deref.ensures.value
-    (subst (λ cs. AreHalts (code l) n.halts → AreOrdered c.deref.result.now → DoMove (token_moves (definitions l) (code l) cs c.deref.result.now) c.tidy.new.self.items b) c.deref-2.ensures.value c.can_some_move.ensures.moves)) in
-    let m = subst (λ (z : State). AreHalts (code l) z.halts → AreOrdered z.scopes → DoMove (token_moves (definitions l) (code l) z.cells z.scopes) z.nodes b) c.self.view_is its in
+    let asks : List Bound → List Scope → List Node → List Kind → Type 0 = λ cells scopes nodes asked. AreHalts (code l) n.halts → AreOrdered scopes → AreStill (definitions l) (code l) cells scopes asked → DoMove (token_moves (definitions l) (code l) cells scopes) nodes b in
+    let its : asks n.cells.items n.scopes.items n.nodes.items n.nodes.asked = subst (λ z. asks n.cells.items n.scopes.items z n.nodes.asked) c.tidy.ensures.items (subst (asks n.cells.items n.scopes.items c.tidy.new.self.items) c.tidy.ensures.asked
+    (subst (λ ss. asks n.cells.items ss c.tidy.new.self.items c.tidy.new.self.asked) c.deref.ensures.value
+    (subst (λ cs. asks cs c.deref.result.now c.tidy.new.self.items c.tidy.new.self.asked) c.deref-2.ensures.value c.can_some_move.ensures.moves))) in
+    let m = subst (λ (z : State). AreHalts (code l) z.halts → AreOrdered z.scopes → AreStill (definitions l) (code l) z.cells z.scopes z.asked → DoMove (token_moves (definitions l) (code l) z.cells z.scopes) z.nodes b) c.self.view_is its in
     let ends = subst (λ (z : State). HasEnded z.nodes z.flags None) c.self.view_is none in
-    movement x (code l) c.args.self.now p (definitions l) b sp (stirs (definitions l) (code l) c.args.self.now.cells c.args.self.now.scopes c.args.self.now.flags c.args.self.now.nodes b ends (m sp.drawn.flags.are_halts sp.scopes)) ∙ ap (λ z. can_move z (erase p.marked)) (sym own)
+    movement x (code l) c.args.self.now p (definitions l) b sp (stirs (definitions l) (code l) c.args.self.now.cells c.args.self.now.scopes c.args.self.now.flags c.args.self.now.nodes b ends (m sp.drawn.flags.are_halts sp.scopes (subst (λ z. AreStill z (code l) c.args.self.now.cells c.args.self.now.scopes c.args.self.now.asked) own sp.still))) ∙ ap (λ z. can_move z (erase p.marked)) (sym own)

@@ -16,7 +16,7 @@ pub returns-clause-done : goal.returns-clause-done
 returns-clause-done c =
     let v = c.self.view_is in
     by_case c.cancel.result c.cancel.ensures.done
-    (λ e. cancel-enters (code c.args.program.now) c.args.self.now _ c.args.k (ap State.nodes v) (ap State.scopes v) (ap State.cells v) (ap State.marks v) (ap State.halts v) (ap State.flags v) (sym (ap State.rest v) ∙ e))
+    (λ e. cancel-enters (code c.args.program.now) c.args.self.now _ c.args.k (ap State.nodes v) (ap State.scopes v) (ap State.cells v) (ap State.marks v) (ap State.halts v) (ap State.flags v) (ap State.asked v) (sym (ap State.rest v) ∙ e))
 
 pub returns-clause-reason : goal.returns-clause-reason
 returns-clause-reason c =

@@ -1,4 +1,4 @@
-use Rattle.std.proofs.Common.{◌≡◌, sym, refl, ap, ◌∙◌, length, subst, [], ◌++◌, length-set, arith, None}
+use Rattle.std.proofs.Common.{rules, ◌≡◌, sym, refl, ap, ◌∙◌, length, subst, [], ◌++◌, length-set, arith, None}
 use Rattle.std.specs.Prelude.{IfNone, slice_get, slice_set, slice_index_or}
 use Rattle.orc_rules.specs.Nodes.{code, unfold_node, definition_of, definitions}
 use Rattle.orc_rules.specs.Programs.{routine_of}
@@ -12,9 +12,9 @@ use Rattle.orc_checker.specs.Checker.{State, context}
 use Rattle.orc_term.proofs.Trees.{node}
 use Rattle.orc_checker.proofs.Answering.{one_more}
 use Rattle.orc_checker.proofs.Defining.{def-enters}
-use Rattle.orc_term.proofs.Hints.{can_turn}
-use Rattle.orc_checker.proofs.Noting.{still_noted, wait_written}
-use Rattle.orc_term.proofs.KeptSides.{known_kept, sides_written}
+use Rattle.orc_term.proofs.Hints.{can_wake}
+use Rattle.orc_checker.proofs.Noting.{still_noted, same_wait, wait_on, wait_written}
+use Rattle.orc_term.proofs.KeptSides.{known_kept, sides_on, sides_same, sides_woken}
 use Rattle.orc_checker.proofs.Indexed.{indexed_token}
 use Rattle.std.proofs.lemmas.Result.{err_from_is_err_and}
 use Rattle.orc_rules.specs.declared.entry.Entry.TheVariants as entry
@@ -43,25 +43,26 @@ returns-clause-done c = λ table cancels p reached.
     (subst (λ ss. Adds c.self.inside.cells.items ss t.scope d.params.items c.operands-operands.result.now more n) c.deref.ensures.value
     (subst (λ cs. Adds cs c.deref.result.now t.scope d.params.items c.operands-operands.result.now more n) c.deref-2.ensures.value
     (subst (λ z. Adds c.deref-2.result.now c.deref.result.now t.scope z c.operands-operands.result.now more n) c.deref-3.ensures.value c.in_ok-added.ensures.added)))))
-    (c.write_node.ensures.items ∙ ap (λ (z : State). slice_set z.nodes t.at (node (Leaf (Token c.args.a d.body n)) t.parent)) v)
+    (c.wake.ensures.items ∙ ap (λ z. slice_set z t.at (node (Leaf (Token c.args.a d.body n)) t.parent)) (c.reserve_wake.ensures.nodes ∙ ap State.nodes v))
     (c.settle.ensures.len ∙ ap (λ (z : State). length z.flags) v)
-    (subst (λ (z : State). Settles c.write_node.new.self.items z.flags t.at (halt_flag s.halts d.body) c.settle.new.flags.items) v (subst (λ b. Settles c.write_node.new.self.items c.self.inside.flags.items t.at b c.settle.new.flags.items) halted c.settle.ensures.settles))
+    (subst (λ (z : State). Settles c.wake.new.self.items z.flags t.at (halt_flag s.halts d.body) c.settle.new.flags.items) v (subst (λ b. Settles c.wake.new.self.items c.self.inside.flags.items t.at b c.settle.new.flags.items) halted c.settle.ensures.settles))
     (c.in_ok-extend_scopes.ensures.items ∙ ap (λ z. z ++ more) (ap State.scopes v))
     (ap State.cells v)
     (ap State.halts v)
-    (one_more s.marks _ _ _ c.args.a (c.try_reserve.ensures.items ∙ ap State.marks v) c.push_within.ensures.items c.in_ok-expect_mark.ensures.next)
+    (one_more s.marks _ _ _ c.args.a (c.reserve_wake.ensures.marks ∙ ap State.marks v) c.push_within.ensures.items c.in_ok-expect_mark.ensures.next)
     (ap State.rest v)
     c.in_ok-spot.ensures.free
+    (c.wake.ensures.asked ∙ c.reserve_wake.ensures.asked ∙ ap State.asked v)
     p
 
-pub write_node-requires : goal.write_node-requires
-write_node-requires c = can_turn c.args.self.now.nodes _ _ _ _ _ (ap State.nodes c.self.view_is) c.in_ok-spot.ensures.there (λ v. refl) refl
+pub wake-requires : goal.wake-requires
+wake-requires c = record { room = search rules; node = can_wake c.args.self.now.nodes _ _ _ _ _ (c.reserve_wake.ensures.nodes ∙ ap State.nodes c.self.view_is) c.in_ok-spot.ensures.there (λ v. refl) }
 
 pub invariant_of-self-2 : goal.invariant_of-self-2
 invariant_of-self-2 c = (
-  still_noted _ _ _ _ _ (wait_written _ _ _ _ c.write_node.ensures.items refl) refl c.self.invariant.0,
-  known_kept _ _ _ _ _ _ _ c.self.invariant.1 (sides_written (length c.self.inside.nodes.items) _ _ _ _ c.write_node.ensures.items (can_turn c.args.self.now.nodes _ _ _ _ _ (ap State.nodes c.self.view_is) c.in_ok-spot.ensures.there (λ v. refl) refl) (λ p lt. refl)) c.settle.ensures.known c.settle.ensures.kept refl c.settle.ensures.len (ap length c.write_node.ensures.items ∙ length-set c.self.inside.nodes.items _ _),
-  indexed_token _ _ _ _ _ _ _ _ _ _ _ _ c.self.invariant.2 refl c.write_node.ensures.items refl (c.in_ok-expect_mark.ensures.next ∙ ap (λ (z : State). length z.marks) (sym c.self.view_is)) c.try_reserve.ensures.items c.push_within.ensures.items,
+  still_noted _ _ _ _ _ (wait_on _ _ _ (same_wait _ _ c.reserve_wake.ensures.nodes) (wait_written _ _ _ _ c.wake.ensures.items refl)) refl c.self.invariant.0,
+  known_kept _ _ _ _ _ _ _ c.self.invariant.1 (sides_on (length c.self.inside.nodes.items) _ _ _ (sides_same (length c.self.inside.nodes.items) _ _ c.reserve_wake.ensures.nodes) (sides_woken (length c.self.inside.nodes.items) _ _ _ _ c.wake.ensures.items (can_wake c.args.self.now.nodes _ _ _ _ _ (c.reserve_wake.ensures.nodes ∙ ap State.nodes c.self.view_is) c.in_ok-spot.ensures.there (λ v. refl)) (λ p lt. refl))) c.settle.ensures.known c.settle.ensures.kept refl c.settle.ensures.len (ap length c.wake.ensures.items ∙ length-set c.reserve_wake.new.nodes.items _ _ ∙ ap length c.reserve_wake.ensures.nodes),
+  indexed_token _ _ _ _ _ _ _ _ _ _ _ _ c.self.invariant.2 c.reserve_wake.ensures.nodes c.wake.ensures.items refl (c.in_ok-expect_mark.ensures.next ∙ ap (λ (z : State). length z.marks) (sym c.self.view_is)) c.reserve_wake.ensures.marks c.push_within.ensures.items,
   c.self.invariant.3,
 )
 

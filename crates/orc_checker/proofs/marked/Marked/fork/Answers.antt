@@ -4,7 +4,7 @@ use Rattle.orc_checker.specs.Checker.{State}
 use Rattle.orc_term.specs.Halting.{halt_flag}
 use Rattle.orc_checker.proofs.Moves.{fork-enters}
 use Rattle.orc_checker.proofs.Answering.{set_two, two_more}
-use Rattle.orc_term.proofs.Hints.{can_turn}
+use Rattle.orc_term.proofs.Hints.{can_rest}
 use Rattle.orc_term.specs.declared.arena.Node.{Node}
 use Rattle.orc_checker.specs.NextDue.{waits}
 use Rattle.orc_term.specs.Sides.{is_side}
@@ -32,10 +32,10 @@ returns-clause-done c =
     b_is
     (set_two c.args.self.now.nodes _ _ _ t.at _ _ _ _ _ (c.reserve_numbered.ensures.nodes ∙ ap State.nodes v) (c.push_within.ensures.items ∙ ap (λ z. z ++ c.token_node.result ∷ []) c.write_node.ensures.items) c.push_within-2.ensures.items c.token_node.ensures c.token_node-2.ensures)
     (c.push_flag-2.ensures.items ∙ (λ j. (c.push_flag.ensures.items ∙ (λ j. (c.reserve_numbered.ensures.flags ∙ ap State.flags v) j ++ (c.at-left.ensures ∙ ap (λ (z : State). halt_flag z.halts k.f) v) j ∷ [])) j ++ (c.at-right.ensures ∙ ap (λ (z : State). halt_flag z.halts k.g) v) j ∷ []))
-    (record { free = c.in_ok-spot.ensures.free; scopes = ap State.scopes v; cells = ap State.cells v; marks = two_more c.args.self.now.marks _ _ _ _ _ c.args.a c.args.b (c.reserve_numbered.ensures.marks ∙ ap State.marks v) c.push_within-3.ensures.items c.push_within-4.ensures.items next b_is; rest = ap State.rest v; halts = ap State.halts v })
+    (record { free = c.in_ok-spot.ensures.free; scopes = ap State.scopes v; cells = ap State.cells v; marks = two_more c.args.self.now.marks _ _ _ _ _ c.args.a c.args.b (c.reserve_numbered.ensures.marks ∙ ap State.marks v) c.push_within-3.ensures.items c.push_within-4.ensures.items next b_is; rest = ap State.rest v; halts = ap State.halts v; asked = c.push_within-2.ensures.asked ∙ c.push_within.ensures.asked ∙ c.write_node.ensures.asked ∙ c.reserve_numbered.ensures.asked ∙ ap State.asked v })
 
 pub write_node-requires : goal.write_node-requires
-write_node-requires c = can_turn c.args.self.now.nodes _ _ _ _ _ (c.reserve_numbered.ensures.nodes ∙ ap State.nodes c.self.view_is) c.in_ok-spot.ensures.there (λ v. refl) refl
+write_node-requires c = can_rest c.args.self.now.nodes _ _ _ _ _ (c.reserve_numbered.ensures.nodes ∙ ap State.nodes c.self.view_is) c.in_ok-spot.ensures.there (λ v. refl) refl
 
 pub invariant_of-self-2 : goal.invariant_of-self-2
 invariant_of-self-2 c = (
@@ -43,7 +43,7 @@ invariant_of-self-2 c = (
       (wait_on _ _ _ (wait_on _ _ _ (same_wait _ _ c.reserve_numbered.ensures.nodes) (wait_written _ _ _ _ c.write_node.ensures.items refl))
       (wait_on _ _ _ (wait_more _ _ _ c.push_within.ensures.items (ap (λ (z : Node). waits z.kind) c.token_node.ensures)) (wait_more _ _ _ c.push_within-2.ensures.items (ap (λ (z : Node). waits z.kind) c.token_node-2.ensures))))
       refl c.self.invariant.0,
-  known_two _ _ _ _ _ _ _ c.self.invariant.1 (sides_two c.self.inside.nodes.items c.reserve_numbered.new.nodes.items c.in_ok-spot.spot.at _ c.reserve_numbered.ensures.nodes (can_turn c.args.self.now.nodes _ _ _ _ _ (c.reserve_numbered.ensures.nodes ∙ ap State.nodes c.self.view_is) c.in_ok-spot.ensures.there (λ v. refl) refl) (λ p lt. refl) _ _ _ _ (c.push_within.ensures.items ∙ ap (λ z. z ++ c.token_node.result ∷ []) c.write_node.ensures.items) c.push_within-2.ensures.items (λ p lt. ap (λ (z : Node). is_side z.kind p) c.token_node.ensures) (λ p lt. ap (λ (z : Node). is_side z.kind p) c.token_node-2.ensures)) (flags_same _ _ _ _ refl) (λ p m. c.push_flag-2.ensures.kept p (c.push_flag.ensures.kept p m)) _ _ _ (c.push_flag-2.ensures.items ∙ ap (λ z. z ++ c.at-right.result ∷ []) (c.push_flag.ensures.items ∙ ap (λ z. z ++ c.at-left.result ∷ []) c.reserve_numbered.ensures.flags)) refl (length_two c.self.inside.nodes.items c.reserve_numbered.new.nodes.items c.in_ok-spot.spot.at _ c.reserve_numbered.ensures.nodes (can_turn c.args.self.now.nodes _ _ _ _ _ (c.reserve_numbered.ensures.nodes ∙ ap State.nodes c.self.view_is) c.in_ok-spot.ensures.there (λ v. refl) refl) (λ p lt. refl) _ _ _ _ (c.push_within.ensures.items ∙ ap (λ z. z ++ c.token_node.result ∷ []) c.write_node.ensures.items) c.push_within-2.ensures.items) (c.next_number-n.ensures.count ∙ ap length c.reserve_numbered.ensures.nodes) (λ e. c.push_flag-2.ensures.kept _ (c.push_flag.ensures.known e)) c.push_flag-2.ensures.known,
+  known_two _ _ _ _ _ _ _ c.self.invariant.1 (sides_two c.self.inside.nodes.items c.reserve_numbered.new.nodes.items c.in_ok-spot.spot.at _ c.reserve_numbered.ensures.nodes (can_rest c.args.self.now.nodes _ _ _ _ _ (c.reserve_numbered.ensures.nodes ∙ ap State.nodes c.self.view_is) c.in_ok-spot.ensures.there (λ v. refl) refl) (λ p lt. refl) _ _ _ _ (c.push_within.ensures.items ∙ ap (λ z. z ++ c.token_node.result ∷ []) c.write_node.ensures.items) c.push_within-2.ensures.items (λ p lt. ap (λ (z : Node). is_side z.kind p) c.token_node.ensures) (λ p lt. ap (λ (z : Node). is_side z.kind p) c.token_node-2.ensures)) (flags_same _ _ _ _ refl) (λ p m. c.push_flag-2.ensures.kept p (c.push_flag.ensures.kept p m)) _ _ _ (c.push_flag-2.ensures.items ∙ ap (λ z. z ++ c.at-right.result ∷ []) (c.push_flag.ensures.items ∙ ap (λ z. z ++ c.at-left.result ∷ []) c.reserve_numbered.ensures.flags)) refl (length_two c.self.inside.nodes.items c.reserve_numbered.new.nodes.items c.in_ok-spot.spot.at _ c.reserve_numbered.ensures.nodes (can_rest c.args.self.now.nodes _ _ _ _ _ (c.reserve_numbered.ensures.nodes ∙ ap State.nodes c.self.view_is) c.in_ok-spot.ensures.there (λ v. refl) refl) (λ p lt. refl) _ _ _ _ (c.push_within.ensures.items ∙ ap (λ z. z ++ c.token_node.result ∷ []) c.write_node.ensures.items) c.push_within-2.ensures.items) (c.next_number-n.ensures.count ∙ ap length c.reserve_numbered.ensures.nodes) (λ e. c.push_flag-2.ensures.kept _ (c.push_flag.ensures.known e)) c.push_flag-2.ensures.known,
   indexed_two _ _ _ _ _ _ _ _ _ _ _ _ _ _ _ _ _ _ _ _ _ c.self.invariant.2 c.reserve_numbered.ensures.nodes c.write_node.ensures.items c.push_within.ensures.items c.push_within-2.ensures.items (λ m e. cc e) (ap (λ (z : Node). name_of z.kind) c.token_node.ensures) (ap (λ (z : Node). name_of z.kind) c.token_node-2.ensures) c.next_number-n.ensures.count (c.in_ok-expect_mark.ensures.next ∙ ap (λ (z : State). length z.marks) (sym c.self.view_is)) c.in_ok-expect_after.ensures.next c.reserve_numbered.ensures.marks c.push_within-3.ensures.items c.push_within-4.ensures.items (λ d k e. e) (λ d e. e),
   c.self.invariant.3,
 )

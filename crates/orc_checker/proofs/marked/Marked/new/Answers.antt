@@ -1,5 +1,6 @@
 use Rattle.std.proofs.Common.{Bool, ◌∷◌, ◌++◌, [], ap, sym, ◌∙◌, subst, ℕ, List}
 use Rattle.orc_term.specs.declared.arena.Node.{Node}
+use Rattle.orc_term.specs.declared.arena.Kind.{Kind}
 use Rattle.orc_env.specs.declared.names.Bound.{Bound}
 use Rattle.orc_env.specs.declared.names.Scope.{Scope}
 use Rattle.orc_rules.specs.Nodes.{source}
@@ -15,8 +16,8 @@ use Rattle.orc_term.proofs.Trees.{node}
 use Rattle.orc_checker.proofs.Beginning.{spells_first}
 use Rattle.orc_checker.proofs.marked.Marked.new.Goals as goal
 
-abbrev state : List Node → List Scope → List Bound → List ℕ → List Bool → List Bool → Rest → State
-state ns ss cs ms hs fs r = record { nodes = ns; scopes = ss; cells = cs; marks = ms; halts = hs; flags = fs; rest = r }
+abbrev state : List Node → List Scope → List Bound → List ℕ → List Bool → List Bool → List Kind → Rest → State
+state ns ss cs ms hs fs ks r = record { nodes = ns; scopes = ss; cells = cs; marks = ms; halts = hs; flags = fs; asked = ks; rest = r }
 
 pub returns : goal.returns
 returns c =
@@ -27,4 +28,5 @@ returns c =
     let halts = c.in_ok-halts.halts in
     let halted = c.at-halted.result in
     let flags = c.push_within-7.ensures.items ∙ ap (λ z. z ++ halted ∷ []) (c.push_within-6.ensures.items ∙ ap (λ z. z ++ halted ∷ []) c.in_ok-flags.ensures.items) in
-    subst (λ z. Begins l c.args.cancels z (begin (source l))) (sym (λ j. state (nodes j) (c.new-3.ensures.items j) (cells j) (marks j) halts (flags j) (c.new-4.ensures j))) (spells_first l c.args.cancels halts halted c.in_ok-halts.ensures (c.at-halted.ensures ∙ ap (halt_flag halts) c.source-root.ensures))
+    let asked = c.push_within-2.ensures.asked ∙ c.push_within.ensures.asked ∙ c.in_ok-nodes.ensures.asked in
+    subst (λ z. Begins l c.args.cancels z (begin (source l))) (sym (λ j. state (nodes j) (c.new-3.ensures.items j) (cells j) (marks j) halts (flags j) (asked j) (c.new-4.ensures j))) (spells_first l c.args.cancels halts halted c.in_ok-halts.ensures (c.at-halted.ensures ∙ ap (halt_flag halts) c.source-root.ensures))

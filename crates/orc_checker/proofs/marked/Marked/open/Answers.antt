@@ -12,7 +12,7 @@ use Rattle.orc_term.specs.Settling.{Settles}
 use Rattle.orc_term.proofs.Trees.{node}
 use Rattle.orc_checker.proofs.Opening.{open-enters}
 use Rattle.orc_checker.proofs.Answering.{set_two, two_more}
-use Rattle.orc_term.proofs.Hints.{can_turn}
+use Rattle.orc_term.proofs.Hints.{can_rest}
 use Rattle.orc_term.specs.declared.arena.Node.{Node}
 use Rattle.orc_checker.specs.NextDue.{waits}
 use Rattle.orc_term.specs.Sides.{is_side}
@@ -56,9 +56,10 @@ returns-clause-done c =
     (two_more s.marks _ _ _ _ _ c.args.a c.args.b (c.reserve_numbered.ensures.marks ∙ ap State.marks v) c.push_within-5.ensures.items c.push_within-6.ensures.items next b_is)
     (ap State.rest v)
     c.in_ok-spot.ensures.free
+    (c.push_within-4.ensures.asked ∙ c.push_within-3.ensures.asked ∙ c.write_node.ensures.asked ∙ c.reserve_numbered.ensures.asked ∙ ap State.asked v)
 
 pub write_node-requires : goal.write_node-requires
-write_node-requires c = can_turn c.args.self.now.nodes _ _ _ _ _ (c.reserve_numbered.ensures.nodes ∙ ap State.nodes c.self.view_is) c.in_ok-spot.ensures.there (λ v. refl) refl
+write_node-requires c = can_rest c.args.self.now.nodes _ _ _ _ _ (c.reserve_numbered.ensures.nodes ∙ ap State.nodes c.self.view_is) c.in_ok-spot.ensures.there (λ v. refl) refl
 
 pub invariant_of-self-2 : goal.invariant_of-self-2
 invariant_of-self-2 c =
@@ -68,7 +69,7 @@ invariant_of-self-2 c =
           (wait_on _ _ _ (wait_on _ _ _ (same_wait _ _ c.reserve_numbered.ensures.nodes) (wait_written _ _ _ _ c.write_node.ensures.items refl))
           (wait_on _ _ _ (wait_more _ _ _ c.push_within-3.ensures.items (ap (λ (z : Node). waits z.kind) c.token_node.ensures)) (wait_more _ _ _ c.push_within-4.ensures.items (ap (λ (z : Node). waits z.kind) c.token_node-2.ensures))))
           refl c.self.invariant.0,
-      known_two _ _ _ _ _ _ _ c.self.invariant.1 (sides_two c.self.inside.nodes.items c.reserve_numbered.new.nodes.items c.in_ok-spot.spot.at _ c.reserve_numbered.ensures.nodes (can_turn c.args.self.now.nodes _ _ _ _ _ (c.reserve_numbered.ensures.nodes ∙ ap State.nodes c.self.view_is) c.in_ok-spot.ensures.there (λ v. refl) refl) (λ p lt. ne_eqb _ p (λ e. omega (arith, lt, e, c.next_number-n.ensures.count, ap length c.reserve_numbered.ensures.nodes))) _ _ _ _ (c.push_within-3.ensures.items ∙ ap (λ z. z ++ c.token_node.result ∷ []) c.write_node.ensures.items) c.push_within-4.ensures.items (λ p lt. ap (λ (z : Node). is_side z.kind p) c.token_node.ensures) (λ p lt. ap (λ (z : Node). is_side z.kind p) c.token_node-2.ensures)) c.settle.ensures.known (λ p m. c.settle.ensures.kept p (c.push_flag-2.ensures.kept p (c.push_flag.ensures.kept p m))) _ _ _ (c.push_flag-2.ensures.items ∙ ap (λ z. z ++ c.at-right.result ∷ []) (c.push_flag.ensures.items ∙ ap (λ z. z ++ c.at-left.result ∷ []) c.reserve_numbered.ensures.flags)) c.settle.ensures.len (length_two c.self.inside.nodes.items c.reserve_numbered.new.nodes.items c.in_ok-spot.spot.at _ c.reserve_numbered.ensures.nodes (can_turn c.args.self.now.nodes _ _ _ _ _ (c.reserve_numbered.ensures.nodes ∙ ap State.nodes c.self.view_is) c.in_ok-spot.ensures.there (λ v. refl) refl) (λ p lt. ne_eqb _ p (λ e. omega (arith, lt, e, c.next_number-n.ensures.count, ap length c.reserve_numbered.ensures.nodes))) _ _ _ _ (c.push_within-3.ensures.items ∙ ap (λ z. z ++ c.token_node.result ∷ []) c.write_node.ensures.items) c.push_within-4.ensures.items) (c.next_number-n.ensures.count ∙ ap length c.reserve_numbered.ensures.nodes) (λ e. c.settle.ensures.kept _ (c.push_flag-2.ensures.kept _ (c.push_flag.ensures.known e))) (λ e. c.settle.ensures.kept _ (c.push_flag-2.ensures.known e)),
+      known_two _ _ _ _ _ _ _ c.self.invariant.1 (sides_two c.self.inside.nodes.items c.reserve_numbered.new.nodes.items c.in_ok-spot.spot.at _ c.reserve_numbered.ensures.nodes (can_rest c.args.self.now.nodes _ _ _ _ _ (c.reserve_numbered.ensures.nodes ∙ ap State.nodes c.self.view_is) c.in_ok-spot.ensures.there (λ v. refl) refl) (λ p lt. ne_eqb _ p (λ e. omega (arith, lt, e, c.next_number-n.ensures.count, ap length c.reserve_numbered.ensures.nodes))) _ _ _ _ (c.push_within-3.ensures.items ∙ ap (λ z. z ++ c.token_node.result ∷ []) c.write_node.ensures.items) c.push_within-4.ensures.items (λ p lt. ap (λ (z : Node). is_side z.kind p) c.token_node.ensures) (λ p lt. ap (λ (z : Node). is_side z.kind p) c.token_node-2.ensures)) c.settle.ensures.known (λ p m. c.settle.ensures.kept p (c.push_flag-2.ensures.kept p (c.push_flag.ensures.kept p m))) _ _ _ (c.push_flag-2.ensures.items ∙ ap (λ z. z ++ c.at-right.result ∷ []) (c.push_flag.ensures.items ∙ ap (λ z. z ++ c.at-left.result ∷ []) c.reserve_numbered.ensures.flags)) c.settle.ensures.len (length_two c.self.inside.nodes.items c.reserve_numbered.new.nodes.items c.in_ok-spot.spot.at _ c.reserve_numbered.ensures.nodes (can_rest c.args.self.now.nodes _ _ _ _ _ (c.reserve_numbered.ensures.nodes ∙ ap State.nodes c.self.view_is) c.in_ok-spot.ensures.there (λ v. refl) refl) (λ p lt. ne_eqb _ p (λ e. omega (arith, lt, e, c.next_number-n.ensures.count, ap length c.reserve_numbered.ensures.nodes))) _ _ _ _ (c.push_within-3.ensures.items ∙ ap (λ z. z ++ c.token_node.result ∷ []) c.write_node.ensures.items) c.push_within-4.ensures.items) (c.next_number-n.ensures.count ∙ ap length c.reserve_numbered.ensures.nodes) (λ e. c.settle.ensures.kept _ (c.push_flag-2.ensures.kept _ (c.push_flag.ensures.known e))) (λ e. c.settle.ensures.kept _ (c.push_flag-2.ensures.known e)),
       indexed_two _ _ _ _ _ _ _ _ _ _ _ _ _ _ _ _ _ _ _ _ _ c.self.invariant.2 c.reserve_numbered.ensures.nodes c.write_node.ensures.items c.push_within-3.ensures.items c.push_within-4.ensures.items (opened_put _ c.args.c c.next_number-n.result (c.next_number-n.result + 1) _ (get_last _ _ _ c.args.c prunings (c.in_ok-expect_cell.ensures.next ∙ ap (λ (z : State). length z.cells) (sym c.self.view_is) ∙ sym c.self.invariant.3)) (get_last _ _ _ c.args.c cells (c.in_ok-expect_cell.ensures.next ∙ ap (λ (z : State). length z.cells) (sym c.self.view_is)))) (ap (λ (z : Node). name_of z.kind) c.token_node.ensures) (ap (λ (z : Node). name_of z.kind) c.token_node-2.ensures) c.next_number-n.ensures.count (c.in_ok-expect_mark.ensures.next ∙ ap (λ (z : State). length z.marks) (sym c.self.view_is)) c.in_ok-expect_after.ensures.next c.reserve_numbered.ensures.marks c.push_within-5.ensures.items c.push_within-6.ensures.items (get_grown _ _ _ prunings) (λ d e. get_grown _ _ _ cells d (Cell d) e),
       omega (arith, ap length prunings, ap length cells, length-append c.self.inside.prunings.items (c.in_ok-spot.spot.at ∷ []), length-append c.self.inside.cells.items (Cell c.args.c ∷ []), c.self.invariant.3),
     )

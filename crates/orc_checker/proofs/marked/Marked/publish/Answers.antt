@@ -34,15 +34,15 @@ returns-clause-done c =
     (c.rise.ensures.len ∙ ap length c.write_node.ensures.items ∙ length-set c.self.inside.nodes.items t.at (node (Leaf Ended) t.parent) ∙ ap (λ (z : State). length z.nodes) v)
     (c.settle.ensures.len ∙ ap (λ (z : State). length z.flags) v)
     (subst (λ z. Settles c.rise.new.nodes.items z t.at true c.settle.new.flags.items) (ap State.flags v) c.settle.ensures.settles)
-    (record { free = c.in_ok-bearer.ensures.free; scopes = ap State.scopes v; cells = ap State.cells v; marks = ap (λ (z : State). length z.marks) v; rest = ap State.rest v; halts = ap State.halts v })
+    (record { free = c.in_ok-bearer.ensures.free; scopes = ap State.scopes v; cells = ap State.cells v; marks = ap (λ (z : State). length z.marks) v; rest = ap State.rest v; halts = ap State.halts v; asked = c.rise.ensures.asked ∙ c.write_node.ensures.asked ∙ ap State.asked v })
 
 pub write_node-requires : goal.write_node-requires
-write_node-requires c = can_publish c.args.self.now.nodes _ _ _ c.args.s _ _ (ap State.nodes c.self.view_is) c.in_ok-bearer.ensures.there c.in_ok-bearer.ensures.carries
+write_node-requires c = can_publish c.args.self.now.nodes _ _ _ c.args.s _ _ (ap State.nodes c.self.view_is) c.in_ok-bearer.ensures.there c.in_ok-bearer.ensures.carries refl
 
 pub invariant_of-self : goal.invariant_of-self
 invariant_of-self c = (
   still_noted _ _ _ _ _ (wait_on _ _ _ (wait_written _ _ _ _ c.write_node.ensures.items refl) (wait_passed _ _ c.rise.ensures.passes)) refl c.self.invariant.0,
-  known_kept _ _ _ _ _ _ _ c.self.invariant.1 (sides_on (length c.self.inside.nodes.items) _ _ _ (sides_written (length c.self.inside.nodes.items) _ _ _ _ c.write_node.ensures.items (can_publish c.args.self.now.nodes _ _ _ c.args.s _ _ (ap State.nodes c.self.view_is) c.in_ok-bearer.ensures.there c.in_ok-bearer.ensures.carries) (λ p lt. refl)) (sides_passed (length c.self.inside.nodes.items) _ _ c.rise.ensures.passes)) c.settle.ensures.known c.settle.ensures.kept refl c.settle.ensures.len (c.rise.ensures.len ∙ ap length c.write_node.ensures.items ∙ length-set c.self.inside.nodes.items _ _),
+  known_kept _ _ _ _ _ _ _ c.self.invariant.1 (sides_on (length c.self.inside.nodes.items) _ _ _ (sides_written (length c.self.inside.nodes.items) _ _ _ _ c.write_node.ensures.items (can_publish c.args.self.now.nodes _ _ _ c.args.s _ _ (ap State.nodes c.self.view_is) c.in_ok-bearer.ensures.there c.in_ok-bearer.ensures.carries refl) (λ p lt. refl)) (sides_passed (length c.self.inside.nodes.items) _ _ c.rise.ensures.passes)) c.settle.ensures.known c.settle.ensures.kept refl c.settle.ensures.len (c.rise.ensures.len ∙ ap length c.write_node.ensures.items ∙ length-set c.self.inside.nodes.items _ _),
   indexed_kept _ _ _ c.self.invariant.2 (names_on _ _ _ _ (names_written _ _ _ _ _ c.write_node.ensures.items refl) (names_passed _ _ _ c.rise.ensures.passes)),
   c.self.invariant.3,
 )

@@ -27,25 +27,25 @@ returns-clause-done c code =
     let s = c.args.self.now in
     return-enters code c.args.answers.now.sites s _ t.at t.parent c.args.k c.args.a c.args.v t.called c.in_ok-pending.ensures.there c.in_ok-pending.ensures.call
     (due_at t.called _ _ _ (c.time.ensures ∙ ap (λ (z : State). Rest.time z.rest) v) c.in_ok-is_due_now.ensures.due)
-    (c.wake.ensures ∙ ap (λ z. slice_set z t.at (node (Leaf (Bears c.args.a c.args.v)) t.parent)) (c.reserve.ensures.nodes ∙ ap State.nodes v))
-    (c.reserve.ensures.flags ∙ ap State.flags v)
+    (c.wake.ensures.items ∙ ap (λ z. slice_set z t.at (node (Leaf (Bears c.args.a c.args.v)) t.parent)) (c.reserve_wake.ensures.nodes ∙ ap State.nodes v))
+    (ap State.flags v)
     c.in_ok-expect_mark.ensures.next
-    (record { free = c.in_ok-pending.ensures.free; scopes = ap State.scopes v; cells = ap State.cells v; marks = one_more s.marks _ _ _ c.args.a (c.reserve.ensures.marks ∙ ap State.marks v) c.push_within.ensures.items c.in_ok-expect_mark.ensures.next; rest = ap State.rest v; halts = ap State.halts v })
+    (record { free = c.in_ok-pending.ensures.free; scopes = ap State.scopes v; cells = ap State.cells v; marks = one_more s.marks _ _ _ c.args.a (c.reserve_wake.ensures.marks ∙ ap State.marks v) c.push_within.ensures.items c.in_ok-expect_mark.ensures.next; rest = ap State.rest v; halts = ap State.halts v; asked = c.wake.ensures.asked ∙ c.reserve_wake.ensures.asked ∙ ap State.asked v })
 
 pub wake-requires : goal.wake-requires
-wake-requires c = record { room = search rules; node = can_wake c.args.self.now.nodes _ _ _ _ _ (c.reserve.ensures.nodes ∙ ap State.nodes c.self.view_is) c.in_ok-pending.ensures.there (λ v. refl) }
+wake-requires c = record { room = search rules; node = can_wake c.args.self.now.nodes _ _ _ _ _ (c.reserve_wake.ensures.nodes ∙ ap State.nodes c.self.view_is) c.in_ok-pending.ensures.there (λ v. refl) }
 
 pub next_due-due-requires : goal.next_due-due-requires
-next_due-due-requires c = still_noted _ _ _ _ _ (wait_on _ _ _ (same_wait _ _ c.reserve.ensures.nodes) (wait_written _ _ _ _ c.wake.ensures refl)) refl c.self.invariant.0
+next_due-due-requires c = still_noted _ _ _ _ _ (wait_on _ _ _ (same_wait _ _ c.reserve_wake.ensures.nodes) (wait_written _ _ _ _ c.wake.ensures.items refl)) refl c.self.invariant.0
 
 pub invariant_of-self-2 : goal.invariant_of-self-2
 invariant_of-self-2 c = (
   c.next_due-due.ensures.noted,
   known_kept _ _ _ _ _ _ _ c.self.invariant.1
-      (sides_on (length c.self.inside.nodes.items) _ _ _ (sides_same (length c.self.inside.nodes.items) _ _ c.reserve.ensures.nodes) (sides_woken (length c.self.inside.nodes.items) _ _ _ _ c.wake.ensures (can_wake c.args.self.now.nodes _ _ _ _ _ (c.reserve.ensures.nodes ∙ ap State.nodes c.self.view_is) c.in_ok-pending.ensures.there (λ v. refl)) (λ p lt. refl)))
-      (flags_same _ _ _ _ refl) (λ p m. m) c.reserve.ensures.flags refl
-      (ap length c.wake.ensures ∙ length-set c.reserve.new.nodes.items _ _ ∙ ap length c.reserve.ensures.nodes),
-  indexed_token _ _ _ _ _ _ _ _ _ _ _ _ c.self.invariant.2 c.reserve.ensures.nodes c.wake.ensures refl (c.in_ok-expect_mark.ensures.next ∙ ap (λ (z : State). length z.marks) (sym c.self.view_is)) c.reserve.ensures.marks c.push_within.ensures.items,
+      (sides_on (length c.self.inside.nodes.items) _ _ _ (sides_same (length c.self.inside.nodes.items) _ _ c.reserve_wake.ensures.nodes) (sides_woken (length c.self.inside.nodes.items) _ _ _ _ c.wake.ensures.items (can_wake c.args.self.now.nodes _ _ _ _ _ (c.reserve_wake.ensures.nodes ∙ ap State.nodes c.self.view_is) c.in_ok-pending.ensures.there (λ v. refl)) (λ p lt. refl)))
+      (flags_same _ _ _ _ refl) (λ p m. m) refl refl
+      (ap length c.wake.ensures.items ∙ length-set c.reserve_wake.new.nodes.items _ _ ∙ ap length c.reserve_wake.ensures.nodes),
+  indexed_token _ _ _ _ _ _ _ _ _ _ _ _ c.self.invariant.2 c.reserve_wake.ensures.nodes c.wake.ensures.items refl (c.in_ok-expect_mark.ensures.next ∙ ap (λ (z : State). length z.marks) (sym c.self.view_is)) c.reserve_wake.ensures.marks c.push_within.ensures.items,
   c.self.invariant.3,
 )
 

@@ -30,30 +30,31 @@ returns-clause-done c code =
       free = w.ensures.free;
       next = c.in_ok-expect_mark.ensures.next;
       all = c.in_ok-side.ensures.nodes;
-      nodes = c.wake.ensures ∙ ap (λ z. slice_set z o.at (node (Leaf (Token c.args.a o.node o.scope)) o.parent)) (c.reserve.ensures.nodes ∙ ap State.nodes v);
+      nodes = c.wake.ensures.items ∙ ap (λ z. slice_set z o.at (node (Leaf (Token c.args.a o.node o.scope)) o.parent)) (c.reserve_wake.ensures.nodes ∙ ap State.nodes v);
       dropped = c.drop_nodes.ensures.dropped;
-      len = c.drop_nodes.ensures.len ∙ ap length c.wake.ensures ∙ length-set c.reserve.new.nodes.items o.at _ ∙ ap length (c.reserve.ensures.nodes ∙ ap State.nodes v);
+      len = c.drop_nodes.ensures.len ∙ ap length c.wake.ensures.items ∙ length-set c.reserve_wake.new.nodes.items o.at _ ∙ ap length (c.reserve_wake.ensures.nodes ∙ ap State.nodes v);
       scopes = ap State.scopes v;
       cells = ap State.cells v;
-      marks = omega (arith, ap length (c.push_within.ensures.items ∙ ap (λ z. z ++ o.at ∷ []) (c.reserve.ensures.marks ∙ ap State.marks v)), length-append s.marks (o.at ∷ []));
+      marks = omega (arith, ap length (c.push_within.ensures.items ∙ ap (λ z. z ++ o.at ∷ []) (c.reserve_wake.ensures.marks ∙ ap State.marks v)), length-append s.marks (o.at ∷ []));
       halts = ap State.halts v;
+      asked = c.drop_nodes.ensures.asked ∙ c.wake.ensures.asked ∙ c.reserve_wake.ensures.asked ∙ ap State.asked v;
       rest = ap State.rest v;
-      flags_len = c.settle.ensures.len ∙ ap length (c.reserve.ensures.flags ∙ ap State.flags v);
-      settles = subst (λ z. Settles c.drop_nodes.new.nodes.items z o.at (halt_flag s.halts o.node) c.settle.new.flags.items) (c.reserve.ensures.flags ∙ ap State.flags v)
-          (subst (λ b. Settles c.drop_nodes.new.nodes.items c.reserve.new.flags.items o.at b c.settle.new.flags.items) (c.at-halted.ensures ∙ ap (λ (z : State). halt_flag z.halts o.node) v) c.settle.ensures.settles);
+      flags_len = c.settle.ensures.len ∙ ap length (ap State.flags v);
+      settles = subst (λ z. Settles c.drop_nodes.new.nodes.items z o.at (halt_flag s.halts o.node) c.settle.new.flags.items) (ap State.flags v)
+          (subst (λ b. Settles c.drop_nodes.new.nodes.items c.self.inside.flags.items o.at b c.settle.new.flags.items) (c.at-halted.ensures ∙ ap (λ (z : State). halt_flag z.halts o.node) v) c.settle.ensures.settles);
     })
 
 pub wake-requires : goal.wake-requires
-wake-requires c = record { room = search rules; node = can_wake c.args.self.now.nodes _ _ _ _ _ (c.reserve.ensures.nodes ∙ ap State.nodes c.self.view_is) c.in_ok-otherwise.ensures.there (λ v. refl) }
+wake-requires c = record { room = search rules; node = can_wake c.args.self.now.nodes _ _ _ _ _ (c.reserve_wake.ensures.nodes ∙ ap State.nodes c.self.view_is) c.in_ok-otherwise.ensures.there (λ v. refl) }
 
 pub invariant_of-self-2 : goal.invariant_of-self-2
 invariant_of-self-2 c =
     let n = length c.self.inside.nodes.items in
-    let can = can_wake c.args.self.now.nodes _ _ _ _ _ (c.reserve.ensures.nodes ∙ ap State.nodes c.self.view_is) c.in_ok-otherwise.ensures.there (λ v. refl) in (
-      still_noted _ _ _ _ _ (wait_on _ _ _ (same_wait _ _ c.reserve.ensures.nodes) (wait_on _ _ _ (wait_written _ _ _ _ c.wake.ensures refl) (wait_dropped _ _ _ c.drop_nodes.ensures.dropped))) refl c.self.invariant.0,
-      known_kept _ _ _ _ _ _ _ c.self.invariant.1 (sides_on n _ _ _ (sides_same n _ _ c.reserve.ensures.nodes) (sides_on n _ _ _ (sides_woken n _ _ _ _ c.wake.ensures can (λ p lt. refl)) (c.drop_nodes.ensures.sides n))) c.settle.ensures.known c.settle.ensures.kept c.reserve.ensures.flags c.settle.ensures.len
-          (c.drop_nodes.ensures.len ∙ ap length c.wake.ensures ∙ length-set c.reserve.new.nodes.items _ _ ∙ ap length c.reserve.ensures.nodes),
-      indexed_kept _ _ _ (indexed_token _ _ _ _ _ _ _ _ _ _ _ _ c.self.invariant.2 c.reserve.ensures.nodes c.wake.ensures refl (c.in_ok-expect_mark.ensures.next ∙ ap (λ (z : State). length z.marks) (sym c.self.view_is)) c.reserve.ensures.marks c.push_within.ensures.items) (names_dropped _ _ _ _ c.drop_nodes.ensures.dropped),
+    let can = can_wake c.args.self.now.nodes _ _ _ _ _ (c.reserve_wake.ensures.nodes ∙ ap State.nodes c.self.view_is) c.in_ok-otherwise.ensures.there (λ v. refl) in (
+      still_noted _ _ _ _ _ (wait_on _ _ _ (same_wait _ _ c.reserve_wake.ensures.nodes) (wait_on _ _ _ (wait_written _ _ _ _ c.wake.ensures.items refl) (wait_dropped _ _ _ c.drop_nodes.ensures.dropped))) refl c.self.invariant.0,
+      known_kept _ _ _ _ _ _ _ c.self.invariant.1 (sides_on n _ _ _ (sides_same n _ _ c.reserve_wake.ensures.nodes) (sides_on n _ _ _ (sides_woken n _ _ _ _ c.wake.ensures.items can (λ p lt. refl)) (c.drop_nodes.ensures.sides n))) c.settle.ensures.known c.settle.ensures.kept refl c.settle.ensures.len
+          (c.drop_nodes.ensures.len ∙ ap length c.wake.ensures.items ∙ length-set c.reserve_wake.new.nodes.items _ _ ∙ ap length c.reserve_wake.ensures.nodes),
+      indexed_kept _ _ _ (indexed_token _ _ _ _ _ _ _ _ _ _ _ _ c.self.invariant.2 c.reserve_wake.ensures.nodes c.wake.ensures.items refl (c.in_ok-expect_mark.ensures.next ∙ ap (λ (z : State). length z.marks) (sym c.self.view_is)) c.reserve_wake.ensures.marks c.push_within.ensures.items) (names_dropped _ _ _ _ c.drop_nodes.ensures.dropped),
       c.self.invariant.3,
     )
 

@@ -54,6 +54,7 @@ returns-clause-done c =
       grafts = subst (λ z. Grafts c.rise.new.nodes.items c.in-Fed.at (Token c.args.a f.g z) c.graft.new.nodes.items) count c.graft.ensures.grafts;
       scopes = scopes;
       cells = ap State.cells v;
+      asked = c.graft.ensures.asked ∙ c.rise.ensures.asked ∙ c.write_node.ensures.asked ∙ c.reserve.ensures.asked ∙ ap State.asked v;
       marks = one_more s.marks _ _ _ c.args.a (c.reserve.ensures.marks ∙ ap State.marks v) c.push_within-2.ensures.items c.in_ok-expect_mark.ensures.next;
       next = c.in_ok-expect_mark.ensures.next;
       rest = ap State.rest v;
@@ -65,7 +66,7 @@ returns-clause-done c =
     })
 
 pub write_node-requires : goal.write_node-requires
-write_node-requires c = can_publish c.args.self.now.nodes _ _ _ c.args.s _ _ (c.reserve.ensures.nodes ∙ ap State.nodes c.self.view_is) c.in_ok-bearer.ensures.there c.in_ok-bearer.ensures.carries
+write_node-requires c = can_publish c.args.self.now.nodes _ _ _ c.args.s _ _ (c.reserve.ensures.nodes ∙ ap State.nodes c.self.view_is) c.in_ok-bearer.ensures.there c.in_ok-bearer.ensures.carries refl
 
 pub graft-requires : goal.graft-requires
 graft-requires c =
@@ -77,7 +78,7 @@ pub invariant_of-self-2 : goal.invariant_of-self-2
 invariant_of-self-2 c =
     let n = length c.self.inside.nodes.items in
     let t = c.in_ok-bearer.bearer in
-    let can = can_publish c.args.self.now.nodes _ _ _ c.args.s _ _ (c.reserve.ensures.nodes ∙ ap State.nodes c.self.view_is) c.in_ok-bearer.ensures.there c.in_ok-bearer.ensures.carries in
+    let can = can_publish c.args.self.now.nodes _ _ _ c.args.s _ _ (c.reserve.ensures.nodes ∙ ap State.nodes c.self.view_is) c.in_ok-bearer.ensures.there c.in_ok-bearer.ensures.carries refl in
     let len : length c.rise.new.nodes.items ≡ n = c.rise.ensures.len ∙ ap length c.write_node.ensures.items ∙ length-set c.reserve.new.nodes.items t.at (node (Leaf Ended) t.parent) ∙ ap length c.reserve.ensures.nodes in
     let f = c.in-Feeds in
     let marks_are = c.push_within-2.ensures.items ∙ ap (λ z. z ++ (c.next_number-both.result + 1) ∷ []) c.reserve.ensures.marks in

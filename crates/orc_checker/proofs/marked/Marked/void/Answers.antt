@@ -7,7 +7,7 @@ use Rattle.orc_term.specs.Settling.{Settles}
 use Rattle.orc_checker.specs.Checker.{State}
 use Rattle.orc_term.proofs.Trees.{node}
 use Rattle.orc_checker.proofs.Voiding.{void-enters}
-use Rattle.orc_term.proofs.Hints.{can_turn}
+use Rattle.orc_term.proofs.Hints.{can_rest}
 use Rattle.orc_checker.proofs.Noting.{still_noted, wait_written}
 use Rattle.orc_term.proofs.KeptSides.{known_kept, sides_written}
 use Rattle.orc_checker.proofs.Indexed.{indexed_kept, names_written}
@@ -28,15 +28,15 @@ returns-clause-done c =
     (c.write_node.ensures.items ∙ ap (λ (z : State). slice_set z.nodes t.at (node (Leaf Ended) t.parent)) v)
     (c.settle.ensures.len ∙ ap (λ (z : State). length z.flags) v)
     (subst (λ (z : State). Settles c.write_node.new.self.items z.flags t.at true c.settle.new.flags.items) v c.settle.ensures.settles)
-    (record { free = c.in_ok-spot.ensures.free; scopes = ap State.scopes v; cells = ap State.cells v; marks = ap (λ (z : State). length z.marks) v; rest = ap State.rest v; halts = ap State.halts v })
+    (record { free = c.in_ok-spot.ensures.free; scopes = ap State.scopes v; cells = ap State.cells v; marks = ap (λ (z : State). length z.marks) v; rest = ap State.rest v; halts = ap State.halts v; asked = c.write_node.ensures.asked ∙ ap State.asked v })
 
 pub write_node-requires : goal.write_node-requires
-write_node-requires c = can_turn c.args.self.now.nodes _ _ _ _ _ (ap State.nodes c.self.view_is) c.in_ok-spot.ensures.there (λ v. refl) refl
+write_node-requires c = can_rest c.args.self.now.nodes _ _ _ _ _ (ap State.nodes c.self.view_is) c.in_ok-spot.ensures.there (λ v. refl) refl
 
 pub invariant_of-self : goal.invariant_of-self
 invariant_of-self c = (
   still_noted _ _ _ _ _ (wait_written _ _ _ _ c.write_node.ensures.items refl) refl c.self.invariant.0,
-  known_kept _ _ _ _ _ _ _ c.self.invariant.1 (sides_written (length c.self.inside.nodes.items) _ _ _ _ c.write_node.ensures.items (can_turn c.args.self.now.nodes _ _ _ _ _ (ap State.nodes c.self.view_is) c.in_ok-spot.ensures.there (λ v. refl) refl) (λ p lt. refl)) c.settle.ensures.known c.settle.ensures.kept refl c.settle.ensures.len (ap length c.write_node.ensures.items ∙ length-set c.self.inside.nodes.items _ _),
+  known_kept _ _ _ _ _ _ _ c.self.invariant.1 (sides_written (length c.self.inside.nodes.items) _ _ _ _ c.write_node.ensures.items (can_rest c.args.self.now.nodes _ _ _ _ _ (ap State.nodes c.self.view_is) c.in_ok-spot.ensures.there (λ v. refl) refl) (λ p lt. refl)) c.settle.ensures.known c.settle.ensures.kept refl c.settle.ensures.len (ap length c.write_node.ensures.items ∙ length-set c.self.inside.nodes.items _ _),
   indexed_kept _ _ _ c.self.invariant.2 (names_written _ _ _ _ _ c.write_node.ensures.items refl),
   c.self.invariant.3,
 )

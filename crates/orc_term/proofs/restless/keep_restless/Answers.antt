@@ -3,11 +3,11 @@ use Rattle.std.proofs.lemmas.List.{get_or_read}
 use Rattle.orc_term.specs.declared.arena.Node.{Node}
 use Rattle.orc_term.specs.Settling.{kind_at}
 use Rattle.orc_term.specs.Hints.{restless}
-use Rattle.orc_term.proofs.Hints.{listed_less}
-use Rattle.orc_term.proofs.nodes.keep_restless.Goals as goal
+use Rattle.orc_term.proofs.Asking.{listed_less}
+use Rattle.orc_term.proofs.restless.keep_restless.Goals as goal
 
 pub loop-next-preserved : goal.loop-next-preserved
-loop-next-preserved c all =
+loop-next-preserved c i moves was =
     let nodes = c.args.items.now.items in
     let list = c.loop-next.list in
     let new = c.swap_remove-number.new.self in
@@ -18,4 +18,4 @@ loop-next-preserved c all =
     listed_less nodes list.items new.items k still lt (omega (arith, c.swap_remove-number.ensures.len, list.ok.0, new.ok.0))
     (λ lt. c.swap_remove-number.ensures.by_index.0 0 (omega (arith, lt, list.ok.0)) ∙ ap (λ z. get_or list.items (z - 1) 0) list.ok.0)
     (λ j off lt. c.swap_remove-number.ensures.by_index.1 j 0 off (omega (arith, lt, list.ok.0)))
-    (c.loop-next.invariant all)
+    i moves (c.loop-next.invariant i moves was)

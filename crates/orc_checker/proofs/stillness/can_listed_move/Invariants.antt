@@ -1,0 +1,12 @@
+use Rattle.std.proofs.Common.{◌≡◌, ◌<◌, ℕ, get_or, false}
+use Rattle.orc_rules.specs.Nodes.{code, definitions}
+use Rattle.orc_term.specs.Halting.{AreHalts}
+use Rattle.orc_env.specs.Names.{AreOrdered}
+use Rattle.orc_term.specs.Settling.{kind_at}
+use Rattle.orc_checker.specs.Stillness.{token_moves}
+use Rattle.orc_checker.proofs.stillness.can_listed_move.Given as goal
+
+abbrev pub invariant-loop-index : goal.invariant-loop-index
+invariant-loop-index l =
+    (l.halts ≡ l.fn.halts)
+    × (AreHalts (code l.program) l.halts → AreOrdered l.scopes → (k : ℕ) → k < l.index → token_moves (definitions l.program) (code l.program) l.cells l.scopes (kind_at l.nodes.items (get_or l.list k 0)) ≡ false)
