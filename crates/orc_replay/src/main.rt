@@ -1,107 +1,47 @@
-//! Drives a ledger (the state of a run, `orc_ledger`) by its calls alone, and compares what it writes, says and refuses with what it has to.
+//! Drives a ledger (the state of a run, `orc_ledger`), or a book (a ledger whose tokens may be out with workers, `orc_book`), by its calls alone,
+//! with no worker, and compares what the calls write, give out, say and refuse with what they have to.
 //!
-//!     orc_replay                              writes of each family of rows whether the ledger does what they say
-//!     orc_replay PROGRAM SCRIPT JOURNAL       replays a journal of the second version, entry by entry, and writes whether the ledger's is the same
+//!     orc_replay                                      writes of each row whether the ledger, or the book, does what it says
+//!     orc_replay ledger PROGRAM SCRIPT JOURNAL        replays a journal, entry by entry, by calls of a ledger, and writes whether its own is the same
+//!     orc_replay book PROGRAM SCRIPT JOURNAL          the same by calls of a book
+//!     orc_replay book PROGRAM SCRIPT JOURNAL --read   only reads it, and compares it with itself
 #![tactic(auto)]
 
-mod apart;
-mod random;
-mod replay;
-mod rows;
+mod book;
+mod ledger;
+mod texts;
 
-use crate::replay::{Mismatch, Stop, replay_journal};
-use orc_journal_text::read_journal;
-use orc_load::load;
-use orc_rules::entry::State;
 use std::alloc::Global;
 use std::{env, fs, io};
 
-/// Replays a journal's text: has a ledger, the state of a run, do each entry. `source` is the text of the program, `script` that of the answers of
-/// its sites. Gives how many entries it has, cancels too, and the state (Halted, Quiet, Running) in which the ledger is at its end. The error for a
-/// text that can't be read is a `Stop` at 0; the others are those of `replay_journal`.
-pub(crate) fn replay_text(
-    alloc: Global,
-    source: &[u8],
-    script: &[u8],
-    text: &[u8],
-) -> Result<(usize, State), Stop> {
-    // The answer for a text that can't be read: nothing was replayed.
-    let unread = Stop {
-        at: 0,
-        why: Mismatch::Other,
-    };
-    let Ok(loaded) = load(alloc, source, script) else {
-        return Err(unread);
-    };
-    let Ok(journal) = read_journal(alloc, text, &loaded.answers) else {
-        return Err(unread);
-    };
-    let state = replay_journal(alloc, &loaded.program, &loaded.answers, &journal)?;
-    Ok((journal.len(), state))
+// Writes the rows' lines, the ledger's and then the book's. The file `stdout` of this crate has the lines that the gate expects.
+fn tell_rows<R: Print>(rt: &R, alloc: Global) -> io::Result<()> {
+    ledger::tell_rows(rt, alloc)?;
+    book::tell_rows(rt, alloc)
 }
 
-// Writes a line on one family of rows (tests of one kind), which `what` describes: whether all its rows hold.
-fn tell<R: Print>(rt: &R, what: &str, holds: bool) -> io::Result<()> {
-    let word = if holds { "holds" } else { "WRONG" };
-    // For instance `holds: moves of marks come first`.
-    println!(rt; "{word}: {what}")
-}
-
-// Writes a line for each family of rows; `stdout` in this crate has the lines that the gate wants.
-fn tell_all<R: Print>(rt: &R, alloc: Global) -> io::Result<()> {
-    // Each family: what its line says, and whether its rows hold.
-    let told = [
-        (
-            "tokens wait, and cells are lost",
-            rows::hold(alloc, rows::WAITS.as_slice()),
-        ),
-        (
-            "calls are answered when they are due",
-            rows::hold(alloc, rows::CALLS.as_slice()),
-        ),
-        (
-            "limits refuse the entry past them",
-            rows::limits_refuse(alloc),
-        ),
-        ("moves of marks come first", rows::marks_move_first(alloc)),
-        ("what was written is replayed", rows::are_replayed(alloc)),
-        (
-            "what is run apart stands in its place",
-            apart::stands_in_its_place(alloc),
-        ),
-        (
-            "a call opens cells and comes to a value or to nothing, wherever it stands",
-            apart::stands_anywhere(alloc),
-        ),
-        (
-            "a part whose journal isn't kept counts and publishes",
-            apart::counts_and_publishes(alloc),
-        ),
-        (
-            "300 programs at random are replayed",
-            random::are_replayed(alloc),
-        ),
-    ];
-    for (what, holds) in told.iter() {
-        tell(rt, what, *holds)?;
-    }
-    Ok(())
-}
-
-// With three words, names of files, replays one journal; else tries all rows, and writes whether they hold.
+// Shows the rows, or replays or reads the journal that the arguments name.
 fn main(rt: HostRuntime) -> io::Result<()> {
     let alloc = rt.alloc();
     let words = env::args(&rt)?.collect::<Vec<String>>(alloc)?;
-    // With any other number of words the rows are shown.
-    let [_, source, script, journal] = words.as_slice() else {
-        return tell_all(&rt, alloc);
+    // Any word behind a book's journal counts as `--read`. With any other words the rows are shown.
+    let ([_, kind, source, script, journal] | [_, kind, source, script, journal, _]) =
+        words.as_slice() else {
+        return tell_rows(&rt, alloc);
     };
+    // The name of this program is the first word, so the journal is the fifth.
+    let is_read_alone = words.len() > 5;
+    let is_of_ledger = kind.as_str() == "ledger" && !is_read_alone;
+    if !is_of_ledger && kind.as_str() != "book" {
+        return tell_rows(&rt, alloc);
+    }
     // The three words name files.
     let source = fs::read(&rt, source.as_str())?;
     let script = fs::read(&rt, script.as_str())?;
     let journal = fs::read(&rt, journal.as_str())?;
-    match replay_text(alloc, &source, &script, &journal) {
-        Ok((entries, state)) => println!(&rt; "same {entries} {state:?}"),
-        Err(stop) => println!(&rt; "entry {}: {:?}", stop.at, stop.why),
+    if is_of_ledger {
+        ledger::tell_journal(&rt, alloc, &source, &script, &journal)
+    } else {
+        book::tell_journal(&rt, alloc, &source, &script, &journal, is_read_alone)
     }
 }

@@ -1,0 +1,200 @@
+//! Journals replayed from their beginning to their end.
+
+ghost use Rattle.std.specs.Prelude.{◌≡◌, ◌*◌, true};
+ghost use Rattle.orc_rules.specs.declared.limits.TheConstants.{MOST_ENTRIES, MOST_GROUPS};
+
+use crate::book::begin::{PASSES, WORDS, begin};
+use crate::book::replay::{Mismatch, Replay};
+use crate::book::setup::Setup;
+use crate::texts::are_same;
+use orc_graph::Graph;
+use orc_journal::{Journal, Version};
+use orc_journal_text::read_journal;
+use orc_ledger::{Inputs, Ledger, Next};
+use orc_load::load;
+use orc_log::Run;
+use orc_rules::answers::Answers;
+use orc_rules::entry::{Entry, State};
+use orc_rules::limits::MOST_ENTRIES;
+use orc_word::{Naming, Unnamed};
+use std::alloc::Global;
+use std::marker::Brand;
+
+/// The entry at which a replay fails, from 1, and why; 0 if nothing was replayed.
+#[derive(Clone, Copy, Debug, PartialEq, Eq)]
+pub(crate) struct Stop {
+    /// The entry's place, from 1, cancels counted; 0 if nothing was replayed.
+    pub at: usize,
+    /// Why it fails.
+    pub why: Mismatch,
+}
+
+/// A journal that was replayed: how many entries it has, cancels too, and what the book says of the place to which they have led.
+#[derive(Clone, Copy)]
+pub(crate) struct Replayed {
+    /// How many entries, cancels too.
+    pub entries: usize,
+    /// Whether the run has halted, is quiet or is running after them.
+    pub state: State,
+}
+
+/// How many passes to the program's own group a replay keeps for the next records there, as a worker keeps some. The number only bears on speed.
+const MOST_WARM: usize = 64;
+
+/// Nothing was replayed: a text can't be read, or the journal is of the first version.
+const UNREAD: Stop = Stop {
+    at: 0,
+    why: Mismatch::Other,
+};
+
+/// Nothing was replayed, since memory was refused for the graph, the words or the book.
+const REFUSED: Stop = Stop {
+    at: 0,
+    why: Mismatch::Memory,
+};
+
+/// Replays the text of a journal of the second version: a book that begins with the program does each entry by the call for its kind, and the replay
+/// leaves each pass as soon as no record has it. Ok if the book writes the same journal.
+pub(crate) fn replay_text(
+    alloc: Global,
+    source: &[u8],
+    script: &[u8],
+    text: &[u8],
+) -> Result<Replayed, Stop> {
+    let Ok(loaded) = load(alloc, source, script) else {
+        return Err(UNREAD);
+    };
+    let Ok(journal) = read_journal(alloc, text, &loaded.answers) else {
+        return Err(UNREAD);
+    };
+    let Ok(graph) = Graph::build(alloc, &loaded.program) else {
+        return Err(REFUSED);
+    };
+    if journal.version() != Version::Two {
+        return Err(UNREAD);
+    }
+    replay_graph(alloc, &graph, &loaded.answers, &journal)
+}
+
+// Replays a journal of the program with this graph, under a new table of words, which has no name in contracts yet: `replay_named` names it.
+fn replay_graph(
+    alloc: Global,
+    graph: &Graph,
+    answers: &Answers,
+    journal: &Journal,
+) -> Result<Replayed, Stop> {
+    let Ok(words) = Unnamed::new(alloc, WORDS, PASSES) else {
+        return Err(REFUSED);
+    };
+    replay_named::<Brand>(alloc, words, graph, answers, journal)
+}
+
+// Replays a journal. In contracts `P` stands for the run and its table of words; the caller picks it, and the clauses ask that `P` has this graph,
+// these sites and these words.
+fn replay_named<P: Run + Naming>(
+    alloc: Global,
+    words: Unnamed,
+    graph: &Graph,
+    answers: &Answers,
+    journal: &Journal,
+) -> Result<Replayed, Stop>
+    requires graph { graph.now ≡ P.listing }
+    requires answers { answers.now.sites ≡ P.sites }
+    requires limit { P.limit ≡ MOST_ENTRIES }
+    requires keeps { P.keeps ≡ true }
+    requires table { words.table.shared.table_id ≡ P.table }
+    requires words { words.table.shared.table_id.words ≡ 2 * MOST_GROUPS }
+{
+    // Each group has a word, which counts its passes; `supply` has all passes, idle. `begin` makes a book whose first token is out, and takes that
+    // token's pass from the supply. None is refused memory.
+    let (groups, supply) = words.named::<P>();
+    let inputs = Inputs::new(graph, answers);
+    let setup = Setup {
+        inputs: &inputs,
+        groups: &groups,
+    };
+    let Some(mut replay) = begin(alloc, &setup, supply, WORDS, MOST_ENTRIES as usize) else {
+        return Err(REFUSED);
+    };
+    replay.passes.keep_warm(MOST_WARM);
+    follow(&setup, &mut replay, journal)?;
+    let entries = journal.len();
+    match state_of(alloc, &setup, replay, journal) {
+        Ok(state) => Ok(Replayed { entries, state }),
+        Err(why) => Err(Stop { at: entries, why }),
+    }
+}
+
+// Has the book do what the entries say, up to the first one that fails.
+fn follow<P: Run + Naming>(
+    setup: &Setup<'_, P>,
+    replay: &mut Replay<P>,
+    journal: &Journal,
+) -> Result<(), Stop> {
+    // Lent to `read`, which overwrites it.
+    let mut entry = Entry::Tick(0);
+    for at in 0..journal.len() {
+        // Not reached: there is an entry at each place before the length.
+        if !journal.read(at, &mut entry) {
+            break;
+        }
+        if let Err(why) = replay.enter(setup, &entry) {
+            return Err(Stop {
+                at: at.saturating_add(1),
+                why,
+            });
+        }
+    }
+    Ok(())
+}
+
+// The state to which the entries have led. Other if the book has written another journal, if it has closed the program's own group though the term
+// hasn't halted, or if it hasn't though the term has.
+fn state_of<P: Run + Naming>(
+    alloc: Global,
+    setup: &Setup<'_, P>,
+    mut replay: Replay<P>,
+    journal: &Journal,
+) -> Result<State, Mismatch>
+    requires keeps { P.keeps ≡ true }
+{
+    // Whether the book has closed the program's own group.
+    let has_ended = replay.close_run(setup)?;
+    let mut ledger = replay.into_ledger();
+    match are_same(alloc, setup.inputs.answers, ledger.journal(), journal) {
+        Some(true) => state_after(setup, &mut ledger, has_ended),
+        Some(false) => Err(Mismatch::Other),
+        None => Err(Mismatch::Memory),
+    }
+}
+
+// The state in which the ledger is. `has_ended` says whether the book has closed the program's own group; the error is that the term hasn't halted
+// then, or has halted though the group is open.
+fn state_after<P: Run + Naming>(
+    setup: &Setup<'_, P>,
+    ledger: &mut Ledger<P>,
+    has_ended: bool,
+) -> Result<State, Mismatch> {
+    if ledger.has_halted() != has_ended {
+        return Err(Mismatch::Other);
+    }
+    if has_ended {
+        return Ok(State::Halted);
+    }
+    match ledger.next(setup.inputs) {
+        Next::Quiet => Ok(State::Quiet),
+        Next::Work | Next::Ticks(_) => Ok(State::Running),
+    }
+}
+
+/// Reads a journal's text as `replay_text` does, compares it with itself, and gives how many entries it has; `bench/book` takes this time off. None
+/// if a text can't be read, or memory is refused.
+pub(crate) fn read_text(alloc: Global, source: &[u8], script: &[u8], text: &[u8]) -> Option<usize> {
+    let loaded = load(alloc, source, script).ok()?;
+    let journal = read_journal(alloc, text, &loaded.answers).ok()?;
+    if are_same(alloc, &loaded.answers, &journal, &journal)? {
+        Some(journal.len())
+    } else {
+        None
+    }
+}
