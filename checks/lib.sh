@@ -46,6 +46,16 @@ need_storms() {
     fi
 }
 
+# Builds orc_replay, which replays journals by calls of a ledger and of a book, if it isn't built yet. Sets `replays` to its path.
+need_replays() {
+    replays=$top/crates/orc_replay/out/orc_replay
+    if [ ! -x "$replays" ]; then (cd "$top/crates/orc_replay" && rt run -- ledger a b c) >/dev/null 2>&1; fi
+    if [ ! -x "$replays" ]; then
+        echo "the program isn't built: there is no $replays" >&2
+        exit 1
+    fi
+}
+
 # The last line, 'N passed, M failed', and the status.
 finish() {
     echo "$passed passed, $failed failed"

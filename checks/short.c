@@ -1,6 +1,9 @@
-// Streams that take or give little and then fail, to be preloaded into a program. The environment variables WRITES and READS each name a file descriptor and
-// then two numbers: how many bytes one call takes or gives at most, and how many all calls together do. Once so many are taken or given, the next call fails.
-// If a call may take no byte, each call takes none, and doesn't fail. Other descriptors, and all if a variable isn't set, are as ever.
+// Streams that take or give little and then fail, to be preloaded into a program. The environment variables WRITES and READS each name a file descriptor
+// and then two numbers: how many bytes one call takes or gives at most, and how many all calls together do. Once so many are taken or given, the next
+// call fails. If a call may take no byte, each call takes none, and doesn't fail. Other descriptors, and all if a variable isn't set, are as ever.
+#ifndef __x86_64__
+#error "READ and WRITE are the system's calls on an x86-64"
+#endif
 typedef __SIZE_TYPE__ size_t;
 
 extern char **environ;
@@ -33,7 +36,8 @@ static struct limit limit_of(const char *variable) {
     return found;
 }
 
-// Reads or writes as `call` says, within the limit of this variable. `done` counts the bytes of all calls so far; `fault` is the error behind the last one.
+// Reads or writes as `call` says, within the limit of this variable. `done` counts the bytes of all calls so far; `fault` is the error behind the last
+// one.
 static long within(const char *variable, long call, int descriptor, void *bytes, size_t count, size_t *done, int fault) {
     struct limit limit = limit_of(variable);
     if (!limit.is_set || limit.descriptor != (size_t)descriptor) return syscall(call, descriptor, bytes, count);

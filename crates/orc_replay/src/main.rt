@@ -1,7 +1,7 @@
 //! Drives a ledger (the state of a run, `orc_ledger`), or a book (a ledger whose tokens may be out with workers, `orc_book`), by its calls alone,
 //! with no worker, and compares what the calls write, give out, say and refuse with what they have to.
 //!
-//!     orc_replay                                      writes of each row whether the ledger, or the book, does what it says
+//!     orc_replay                                      writes of the ledger's rows, by families, and of each of the book's, whether they hold
 //!     orc_replay ledger PROGRAM SCRIPT JOURNAL        replays a journal, entry by entry, by calls of a ledger, and writes whether its own is the same
 //!     orc_replay book PROGRAM SCRIPT JOURNAL          the same by calls of a book
 //!     orc_replay book PROGRAM SCRIPT JOURNAL --read   only reads it, and compares it with itself

@@ -38,16 +38,17 @@ fn is_right(alloc: Global, storm: &Storm, played: Result<Played, EngineFault>) -
     }
 }
 
-// Runs a program on `workers` workers, with sites that answer as the table says. The error is the engine's.
+// Runs a program on `workers` workers up to `limit` entries, with sites that answer as the table says. The error is the engine's.
 fn run_scripted<R: Threads + Wait + Sync, G: Gate + Sync>(
     rt: &R,
     alloc: Global,
     loaded: &Loaded,
     gate: &G,
     workers: usize,
+    limit: u64,
 ) -> Result<Played, EngineFault> {
     let sites = Scripted::new(&loaded.answers);
-    run(rt, alloc, loaded, &sites, gate, workers)
+    run(rt, alloc, loaded, &sites, gate, workers, limit)
 }
 
 // How many of `rounds` runs of a program on `workers` workers are odd; all if the program can't be loaded. The gate `Slow` holds no call, but doesn't
@@ -64,7 +65,7 @@ fn count_odd<R: Threads + Wait + Sync>(
     };
     let mut odd = 0u32;
     for _ in 0..rounds {
-        let played = run_scripted(rt, alloc, &loaded, &Slow, workers);
+        let played = run_scripted(rt, alloc, &loaded, &Slow, workers, storm.limit);
         if !is_right(alloc, storm, played) {
             odd = odd.saturating_add(1);
         }
@@ -87,7 +88,7 @@ fn count_held<R: Threads + Wait + Sync>(
     let mut odd = 0u32;
     for _ in 0..rounds {
         let gate = Turnstile::new(workers as u64);
-        let played = run_scripted(rt, alloc, &loaded, &gate, workers);
+        let played = run_scripted(rt, alloc, &loaded, &gate, workers, storm.limit);
         if !is_right(alloc, storm, played) || !gate.held_all() {
             odd = odd.saturating_add(1);
         }
@@ -181,9 +182,9 @@ fn run_one<R: Threads + Wait + Sync + Print + Clock>(
         let played = match sleep_of(storm) {
             Some(sleep) => {
                 let sites = Sleepy::new(rt, &loaded.answers, sleep);
-                run(rt, alloc, &loaded, &sites, &Slow, workers)
+                run(rt, alloc, &loaded, &sites, &Slow, workers, storm.limit)
             }
-            None => run_scripted(rt, alloc, &loaded, &Slow, workers),
+            None => run_scripted(rt, alloc, &loaded, &Slow, workers, storm.limit),
         };
         tell(rt, alloc, storm, played)?;
     }

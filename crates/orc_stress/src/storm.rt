@@ -26,10 +26,18 @@ pub struct Storm {
     pub published: u64,
     /// The numbers of which each value has to be one; if the list is empty, any value will do.
     pub values: &'static [i64],
+    /// The most entries of its journal, cancels not counted.
+    pub limit: u64,
 }
 
+// The limit of most storms: more entries than a run of theirs has.
+const LIMIT: u64 = 100_000;
+
+// The greatest limit that there is, for loops that go on until another token wins, however long that one's thread is held up.
+const GREATEST_LIMIT: u64 = 10_000_000;
+
 /// Programs of each kind: loops, races, fallbacks, fan-outs, calls that answer later.
-pub const STORMS: [Storm; 8] = [
+pub const STORMS: [Storm; 12] = [
     // A tree of calls with 2^6 leaves, each of which publishes 0 + 1.
     Storm {
         name: "fan",
@@ -37,6 +45,7 @@ pub const STORMS: [Storm; 8] = [
         end: End::Halted,
         published: 64,
         values: &[1],
+        limit: LIMIT,
     },
     // The same tree, whose leaves call `Slow`: each publishes its answer, 1, after three units of logical time.
     Storm {
@@ -45,6 +54,7 @@ pub const STORMS: [Storm; 8] = [
         end: End::Halted,
         published: 64,
         values: &[1],
+        limit: LIMIT,
     },
     // Two loops of races, one of 50 rounds and one of 30: in each round `n` wins at once, and the bind cancels the calls beside it that were made.
     // Each loop publishes 50 when it ends.
@@ -54,6 +64,7 @@ pub const STORMS: [Storm; 8] = [
         end: End::Halted,
         published: 2,
         values: &[50],
+        limit: LIMIT,
     },
     // Two loops of fallbacks, with a race of two late calls in each round; each loop publishes 30 when it ends. Beside them is a call without an
     // answer, so that the run is quiet in the end.
@@ -63,6 +74,7 @@ pub const STORMS: [Storm; 8] = [
         end: End::Quiet,
         published: 2,
         values: &[30],
+        limit: LIMIT,
     },
     // Two calls of `f`, each of which goes on to open one left side of a `;` inside the other. Each such side is a group, and `MOST_GROUPS` groups
     // may be open: so the run ends as full, before it publishes a value.
@@ -72,6 +84,7 @@ pub const STORMS: [Storm; 8] = [
         end: End::Full,
         published: 0,
         values: &[],
+        limit: LIMIT,
     },
     // The earlier of two answers wins: 10, at time 1.
     Storm {
@@ -80,6 +93,7 @@ pub const STORMS: [Storm; 8] = [
         end: End::Halted,
         published: 1,
         values: &[10],
+        limit: LIMIT,
     },
     // Two calls that are due at once: either answer may win.
     Storm {
@@ -88,6 +102,7 @@ pub const STORMS: [Storm; 8] = [
         end: End::Halted,
         published: 1,
         values: &[1, 2],
+        limit: LIMIT,
     },
     // More races one after another, 2,100, than the engine has words for groups, 2,048. A group is what runs in one branch, here in the right side of
     // a `<x<`. A bind kills the group of the side that it drops, and that group's word has to become free again. The last loop publishes 700. The
@@ -98,6 +113,44 @@ pub const STORMS: [Storm; 8] = [
         end: End::Halted,
         published: 1,
         values: &[700],
+        limit: LIMIT,
+    },
+    // A token that loops for ever beside a call that is due: the call's answer wins.
+    Storm {
+        name: "loop",
+        source: b"def loop() = loop()\nx <x< (loop() | Add(0, 1))",
+        end: End::Halted,
+        published: 1,
+        values: &[1],
+        limit: GREATEST_LIMIT,
+    },
+    // Two calls that are due at time 1: the token behind the first one loops for ever, so the other one wins.
+    Storm {
+        name: "clock",
+        source: b"def loop() = loop()\nx <x< (Rwait(1) >> loop() | Rwait(1) >> 1)",
+        end: End::Halted,
+        published: 1,
+        values: &[1],
+        limit: GREATEST_LIMIT,
+    },
+    // Nearly as many groups as may be open, 1,024, stay open until the end, and others come and go beside them: 1,020 prunings wait for a call without
+    // an answer, and one more is opened in each of a hundred rounds. The loop of these rounds publishes 100 when it ends.
+    Storm {
+        name: "standing",
+        source: b"def idle(n) = Lt(0, n) >b> Ift(b) >> ((x <x< Never()) | Sub(n, 1) >m> idle(m))\ndef loop(n) = Lt(n, 100) >b> (Iff(b) >> n | Ift(b) >> (x <x< (Add(n, 0) | Never())) >> Add(n, 1) >m> loop(m))\nidle(1020) | loop(0)",
+        end: End::Quiet,
+        published: 1,
+        values: &[100],
+        limit: LIMIT,
+    },
+    // Two tokens loop until the limit cuts them.
+    Storm {
+        name: "cut",
+        source: b"def loop() = loop()\nloop() | loop()",
+        end: End::Limit,
+        published: 0,
+        values: &[],
+        limit: LIMIT,
     },
 ];
 
@@ -108,6 +161,7 @@ pub const DUE: Storm = Storm {
     end: End::Halted,
     published: 1024,
     values: &[],
+    limit: LIMIT,
 };
 
 /// 256 calls (4 to the power of 4) whose site sleeps a millisecond.
@@ -117,6 +171,7 @@ pub const ASKS: Storm = Storm {
     end: End::Halted,
     published: 256,
     values: &[1],
+    limit: LIMIT,
 };
 
 /// One call, with nothing in parallel, whose site sleeps a second.
@@ -126,6 +181,7 @@ pub const NAP: Storm = Storm {
     end: End::Halted,
     published: 1,
     values: &[1],
+    limit: LIMIT,
 };
 
 /// Programs that are run only by their names.
@@ -140,6 +196,7 @@ impl Storm {
             end: End::Halted,
             published: workers as u64,
             values: &[],
+            limit: LIMIT,
         }
     }
 
@@ -175,8 +232,7 @@ impl Storm {
     }
 }
 
-/// Runs a program on `workers` workers with these sites and this gate, and keeps the journal. The limit of 100,000 entries is more than any storm
-/// has. The error is the engine's fault.
+/// Runs a program on `workers` workers with these sites and this gate, up to `limit` entries, and keeps the journal. The error is the engine's fault.
 pub fn run<R, S, G>(
     rt: &R,
     alloc: Global,
@@ -184,6 +240,7 @@ pub fn run<R, S, G>(
     sites: &S,
     gate: &G,
     workers: usize,
+    limit: u64,
 ) -> Result<Played, EngineFault>
 where
     R: Threads + Wait + Sync,
@@ -195,7 +252,7 @@ where
     let options = RunOptions {
         workers,
         keeps: true,
-        limit: 100_000,
+        limit,
     };
     run_pool(rt, alloc, program, answers, sites, gate, options)
 }
