@@ -1,5 +1,9 @@
-//! Binds a cell: what is inside its right side goes. The word of a group has a bit *killed*, which at most one pass sets: so if two tokens of a
-//! group try to bind at the same time, one of them wins.
+//! Binds a cell: what is inside its right side goes. The word of a group has a bit *killed*, which at most one pass sets: so if two tokens of a group
+//! try to bind at the same time, one of them wins. A *cell* stands for the x of an opened `f <x< g`; its right side is g. A *group* is what runs in
+//! one right side of a `<x<`, one left side of a `;`, or the whole program. A token is *out* while a worker has it, and *kept* while it waits in the
+//! book for a cell. `inputs` has the program and the table of what sites answer, `groups` has the words. A token's *slot* is the place of its record,
+//! its *serial* its number. `P` names the run and its table of words, `J` such a table, for contracts alone. `leave` gets passes that the caller is
+//! to *leave*, so that no word counts them.
 ghost use Rattle.std.specs.Prelude.{◌≡◌, ◌≤◌, ◌+◌, ◌⊎◌, ℕ, IfOk, IfErr, IfSome, OnOk, OnErr, vec_len, vec_capacity};
 ghost use Rattle.orc_rules.specs.Timed.{IsIn};
 ghost use Rattle.orc_tables.specs.declared.records.Token.{Token as Its};
@@ -56,9 +60,11 @@ impl<P: Run + Naming> Book<P> {
     /// Memory if the ledger refuses the entry for that or memory is refused. The pass of a refused token has won the mark only if the fault is
     /// Memory. `cancelled` is lent: after an Ok it holds the numbers of the calls that went, in rising order, and else any numbers.
     ///
-    /// In the contract `marks` has, by slots, the serials of the kept tokens, `HaveDied` says that each word stands for what it did, or for a killed
-    /// group if its group went, `GivesUp` that just the passes which the book and the token give up are added, `IsUnkept` that `t` is the token's
-    /// record and the book doesn't keep the token.
+    /// In the contract `Moves` says that the ledger has bound the cell `c`, `marks` has, by slots, the serials of the kept tokens, `HaveDied` says
+    /// that each word stands for what it did, or for a killed group if its group went, `AreThere` that no word stands for an open group that the
+    /// records haven't, `HasWon` that the token's pass has won the bit *killed* of its group's word, `HasWinner` that a pass in `leave` has,
+    /// `GivesUp` that just the passes which the book and the token give up are added, `IsUnkept` that `t` is the token's record and the book doesn't
+    /// keep the token.
     pub fn bind(
         &mut self,
         groups: &Groups<P>,

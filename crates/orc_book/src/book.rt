@@ -1,5 +1,8 @@
 //! The book: the records of a run, and the passes of those that are not out with a worker. What a call may assume and must keep of the passes is its
-//! type's invariant, `AreHeld` and `AreNamed` of `specs/`.
+//! type's invariant, `AreHeld` and `AreNamed` of `specs/`. A *group* is what runs in one right side of a `<x<`, one left side of a `;`, or the whole
+//! program. A *slot* is the place of a token's record, and is used again; a *serial* is a token's number, and never is. A *cell* stands for the x of
+//! an opened `<x<`. `inputs` has the program (its graph) and the table of what sites answer. `P` names the run and its table of words, for contracts
+//! alone.
 ghost use Rattle.std.specs.Prelude.{◌≡◌, ◌≤◌, true, [], Some, IfOk, IfErr, count_by};
 ghost use Rattle.orc_ledger_spec.specs.Whole.{IsWhole};
 ghost use Rattle.orc_rules.specs.declared.limits.TheConstants.{MOST_ENTRIES};
@@ -79,10 +82,11 @@ impl<P: Run + Naming> Drop for Book<P> {
 }
 
 impl<P: Run + Naming> Book<P> {
-    /// A new run, with `words` words for its groups; a *word* is an atomic counter of a group's passes. Token 1 is out with the caller, at the
-    /// program's main term, with `pass`, which names group 0, the program's own. The journal is to have at most `limit` entries (1 to `MOST_ENTRIES`,
-    /// the cancels left out); it is kept if `keeps`, and else its entries are only counted. The only fault is Memory, where memory was refused;
-    /// `back` is the pass.
+    /// A new run, with `words` words for its groups; a *word* is an atomic counter of a group's passes. `alloc` gives the memory of its lists. Token
+    /// 1 is out with the caller, at the program's main term, with `pass`, which names group 0, the program's own. The journal is to have at most
+    /// `limit` entries (1 to `MOST_ENTRIES`, the cancels left out); it is kept if `keeps`, and else its entries are only counted. The only fault is
+    /// Memory, where memory was refused; `back` is the pass. In the contract `begun` is what the records are before the first entry, `IsToken` says
+    /// that the token's record is there and its pass names its group's word, `IsOpened` that word 0 stands for group 0 and the others are free.
     pub fn new(
         alloc: Global,
         inputs: &Inputs<'_, P>,

@@ -1,4 +1,7 @@
-//! Calls of sites: a token makes one, and it is answered.
+//! Calls of sites: a token makes one, and it is answered. A token that is *out* is with a worker, with a *pass*: that stands for a token or a pending
+//! call in its group (what runs in one right side of a `<x<`, one left side of a `;`, or the whole program), whose *word*, an atomic counter, counts
+//! the passes. The book *keeps* the tokens that wait for a cell. `inputs` has the program and the table of what sites answer. `P` names the run and
+//! its table of words, for contracts alone. A pass that is *left* is counted no more.
 ghost use Rattle.std.specs.Prelude.{◌≡◌, ◌≤◌, ◌<◌, ◌+◌, ◌⊎◌, ℕ, List, length, true, Some, IfOk, IfErr, IfSome, MatchOption, OnOk, OnErr};
 ghost use Rattle.orc_rules.specs.Timed.{IsIn};
 ghost use Rattle.orc_tables.specs.declared.records.Token.{Token as Its};
@@ -25,7 +28,7 @@ use orc_word::{Naming, Pass};
 /// What has become of a call that was answered.
 #[derive(Drop)]
 pub enum Answered<P: Naming> {
-    /// A token on the answer is out.
+    /// The answer is a value: a token that stands at it is out, in the call's group.
     Token(Token<P>),
     /// The call halted without a value: its pass is to be left.
     Halted(Pass<P>),
@@ -37,8 +40,9 @@ impl<P: Run + Naming> Book<P> {
     /// arguments afterwards, and what it held is lost. Refused as Gone if the token isn't out with a worker, as Wrong if it does something else next,
     /// as Full or Limit if the entry is over such a limit, else as Memory.
     ///
-    /// In the contract `KeepsWords` says that each word stands for what it did and the same tokens are kept, `HasStayed` that nothing has changed but
-    /// room for passes.
+    /// In the contract `IsUnkept` says that `t` is the token's record and the book doesn't keep the token, `IsMade` that the call `c` pends in its
+    /// place, `KeepsWords` that each word stands for what it did and the same tokens are kept, `HasStayed` that nothing has changed but room for
+    /// passes.
     pub fn call(
         &mut self,
         inputs: &Inputs<'_, P>,
@@ -97,7 +101,9 @@ impl<P: Run + Naming> Book<P> {
     /// caller. Refused as Gone if no call pends with the number, as Wrong if the answer isn't due now, as Limit if the journal has as many entries as
     /// the limit, else as Memory.
     ///
-    /// In the contract `KeepsWords` says that each word stands for what it did and the same tokens are kept.
+    /// In the contract `Pends` says that `c` is the call with the number, `IsAnswered` that it is gone, and that its token is out, or it halted and
+    /// the pass names its group's word, `KeepsWords` that each word stands for what it did and the same tokens are kept. The clause *passes* gives
+    /// each pass any weight `f`: what the book has no more, the answer has.
     pub fn returned(&mut self, number: u64, answer: Answer) -> Result<Answered<P>, BookFault>
         ensures done { IfOk result (λ a. (c : ItsCall) × Pends self.old.ledger number c × IsAnswered self.old c answer a self.new) }
         ensures stands { KeepsWords self.old self.new }

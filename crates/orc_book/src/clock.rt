@@ -1,4 +1,7 @@
-//! What comes next in a run: workers ask it when none of them has a token that can move. If it is a tick, the book makes it.
+//! What comes next in a run: workers ask it when none of them has a token that can move. If it is a tick, the book makes it. A *tick* is the entry by
+//! which logical time goes on to the next answer of a call. Tokens are *out* while workers have them, and *kept* while they wait in the book. A
+//! *word* counts a group's passes, each of which stands for a token, a call or a group in it. `inputs` has the program and the table of what sites
+//! answer. `P` names the run and its table of words, for contracts alone.
 ghost use Rattle.std.specs.Prelude.{◌≡◌, ◌+◌, ◌++◌, ◌∷◌, [], IfOk, IfErr, OnOk, OnErr};
 ghost use Rattle.orc_rules.specs.declared.entry.Entry.TheVariants.{Tick};
 ghost use Rattle.orc_ledger_spec.specs.Answers.{MayTick};
@@ -25,9 +28,10 @@ pub enum Next {
 
 impl<P: Run + Naming> Book<P> {
     /// What comes next in the run, whether its tokens are out with workers or kept by the book. If it is a tick, the tick is made. The faults are
-    /// Limit, if the journal has as many entries as the limit, and Memory; both come of a tick alone.
+    /// Limit, if the journal has as many entries as the limit, and Memory; both come of a tick alone, and then nothing has changed.
     ///
-    /// In the contract `KeepsWords` says that each word stands for what it did and the same tokens are kept.
+    /// In the contract `SaysNext` says that the answer is what comes next by the rules, and that a tick was made, `KeepsWords` that each word stands
+    /// for what it did and the same tokens are kept.
     pub fn next(&mut self, inputs: &Inputs<'_, P>) -> Result<Next, BookFault>
         ensures says { IfOk result (λ n. SaysNext P.listing P.sites self.old.ledger n self.new.ledger) }
         ensures posts { self.new.posts ≡ self.old.posts }

@@ -1,4 +1,9 @@
-//! Tokens that go on in their group, with their pass: into the left side of a `>x>` or the body of a definition.
+//! Tokens that go on in their group, with their pass: into the left side of a `>x>` or the body of a definition. A token that is *out* is with a
+//! worker, with a *pass*: that stands for the token in its group (what runs in one right side of a `<x<`, one left side of a `;`, or the whole
+//! program). The book *keeps* the tokens that wait for a cell. `found` has what the book has found of a token: its record in the ledger (`its`), and
+//! what it does next. `inputs` has the program and the table of what sites answer. `P` names the run and its table of words, for contracts alone. In
+//! contracts `Moves` says that the ledger has made the token's move, with the answer `moved.On`: the token's successor is in its slot, the place of
+//! its record. `ks`, the calls that a bind cancels, say nothing here.
 ghost use Rattle.std.specs.Prelude.{◌≡◌, ◌⊎◌, ℕ, List, IfOk, IfErr};
 ghost use Rattle.orc_tables.specs.declared.records.Token.{Token as Its};
 ghost use Rattle.orc_ledger_spec.specs.Moves.{Moves};
@@ -19,7 +24,8 @@ impl<P: Run + Naming> Book<P> {
     /// operands don't fit (no checked program has such a call), as Full, Limit or Memory if the ledger refuses the entry for that.
     ///
     /// In the contract `KeepsWords` says that each word stands for what it did and the same tokens are kept, `IsUnkept` that `t` is the token's
-    /// record and the book doesn't keep the token.
+    /// record and the book doesn't keep the token, and `IsRefusedOn` that the reason is one of these and holds of the token; `P.listing` is the
+    /// program.
     pub fn go_on(
         &mut self,
         inputs: &Inputs<'_, P>,

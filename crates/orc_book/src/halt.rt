@@ -1,4 +1,8 @@
-//! Ends a group: a worker has left the last pass that names it, so it has no members any more.
+//! Ends a group: a worker has left the last pass that names it, so it has no members any more. A *group* is what runs in one right side of a `<x<`,
+//! one left side of a `;`, or the whole program. A *pass* stands for one of its members (a token, a pending call or a group right inside it), and the
+//! group's *word*, an atomic counter, counts the passes. A token is *out* while a worker has it, and *kept* while it waits in the book for a cell,
+//! which stands for the x of an opened `<x<`. The ledger has the records and the journal. `leave` gets passes that the caller is to *leave*, so that
+//! no word counts them. `P` names the run and its table of words, for contracts alone.
 ghost use Rattle.std.specs.Prelude.{◌≡◌, ◌≤◌, ◌+◌, ◌⊎◌, ℕ, IfOk, IfErr, OnOk, OnErr, None, Some};
 ghost use Rattle.orc_rules.specs.Nodes.{code};
 ghost use Rattle.orc_rules.specs.Term.{Halted as HasStopped};
@@ -40,8 +44,9 @@ impl<P: Run + Naming> Book<P> {
     /// own group keeps its word. Refused as Gone if the word stands for no group that is there, as Live if that group still has members, as Full or
     /// Limit if the ledger refuses the entry for that, else as Memory. If refused, the records and `leave` are as they were, and `back` is `last`.
     ///
-    /// In the contract `marks` has, by slots, the serials of the kept tokens, `FreesWord` says which word is free again, and that no other word has
-    /// changed, `GivesUp` that just the passes which the book gives up are in `leave` or with the token that is out.
+    /// In the contract `HasHalted` says that the ledger has ended the group `n`, `marks` has, by slots, the serials of the kept tokens, `FreesWord`
+    /// says which word is free again, and that no other word has changed, `HasEnded` that a token that comes out has its record, `GivesUp` that just
+    /// the passes which the book gives up are in `leave` or with the token that is out.
     pub fn halt(
         &mut self,
         last: Last<P>,
@@ -99,9 +104,9 @@ impl<P: Run + Naming> Book<P> {
 
     // Ends the group with this `number`, which has no members, and frees its `word`. If the group was the left side of an otherwise that has not
     // published, a token on the right side is out, with the group's pass to the enclosing one. Else that pass is to be left. A fault is Gone, Live,
-    // Full, Limit or Memory, as `halt` says, and has changed nothing. In the contract `marks` has, by slots, the serials of the kept tokens, `Turns`
-    // says that the word is free and no other word has changed, `GivesUp` that just the passes which the book gives up are in `leave` or with the
-    // token that is out.
+    // Full, Limit or Memory, as `halt` says, and has changed nothing. In the contract `HasHalted` says that the ledger has ended the group as `h`
+    // says, `Told` that the answer tells of that, `marks` has, by slots, the serials of the kept tokens, `Turns` says that the word is free and no
+    // other word has changed, `GivesUp` that just the passes which the book gives up are in `leave` or with the token that is out.
     fn halt_group(
         &mut self,
         number: u32,

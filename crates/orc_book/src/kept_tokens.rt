@@ -1,4 +1,5 @@
-//! Which tokens the book keeps while they wait for cells. Contracts call the serial of the token that is kept in a slot the slot's *mark*.
+//! Which tokens the book keeps while they wait for cells. Contracts call the serial of the token that is kept in a slot the slot's *mark*. All other
+//! tokens are *out*, with workers. A *cell* stands for the x of an opened `f <x< g`; tokens wait for it until g gives it a value or can't any more.
 ghost use Rattle.std.specs.Prelude.{◌≡◌, ◌<◌, ◌≤◌, ℕ, [], length, true, false, OnOk, OnErr};
 ghost use Rattle.orc_book.specs.Held.{IsMarked, mark_at};
 
@@ -77,7 +78,7 @@ impl Keeping {
     }
 
     // Puts a link into a free place, or else behind the others, and gives its place, from 1. Refused if the place takes over 32 bits, or if memory
-    // is.
+    // is. No mark changes.
     fn put(&mut self, link: Link) -> Result<u32, AllocError>
         ensures { self.new ≡ self.old }
     {
@@ -99,7 +100,7 @@ impl Keeping {
     }
 
     // Puts a token that waits for this cell in front of the cell's chain, the list of the tokens that may wait for it. The error is that of `put` or
-    // refused memory; the chain is as it was then.
+    // refused memory; the chain is as it was then. No mark changes.
     fn add(&mut self, cell: u64, handle: Handle) -> Result<(), AllocError>
         ensures { self.new ≡ self.old }
     {
@@ -164,7 +165,8 @@ impl Keeping {
         }
     }
 
-    /// Takes the first token out of the chain of this cell; None where the chain is empty. The token may be kept no more: `release` tells.
+    /// Takes the first token out of the chain of this cell; None where the chain is empty. No mark changes. Perhaps the token isn't kept any more:
+    /// `release` tells.
     pub(crate) fn pop(&mut self, cell: u64) -> Option<Handle>
         ensures { self.new ≡ self.old }
     {

@@ -1,4 +1,7 @@
-//! What a book answers without a move, and laws of every book.
+//! What a book answers without a move, and laws of every book. A book has the records of a run: its tokens, pending calls and groups. A *group* is
+//! what runs in one right side of a `<x<`, one left side of a `;`, or the whole program. A token is found by its *slot*, the place of its record, and
+//! its *serial*, its number. It is *out* while a worker has it, and *kept* while it waits in the book. A *due* call is to be answered now. `inputs`
+//! has the program and the table of what sites answer. `P` names the run and its table of words, for contracts alone.
 ghost use Rattle.std.specs.Prelude.{◌≡◌, ◌≤◌, ℕ, All, Some, true, IfSome, IfNone, MatchOption};
 ghost use Rattle.orc_word.specs.Views.{group_of};
 ghost use Rattle.orc_rules.specs.Timed.{IsIn};
@@ -107,7 +110,7 @@ impl<P: Run + Naming> Book<P> {
     }
 
     /// A law, for the prover alone: the journal is a timed run of Orc's rules. It leads from the program's term to one that the records describe, and
-    /// the records have lost nothing of how that may go on.
+    /// the ledger offers each entry with which the journal may go on.
     pub fn is_run(&self)
         ensures whole { IsWhole P.listing P.sites self.now.ledger }
         ensures spelt { Stands P.listing P.sites self.now.ledger }
@@ -133,8 +136,8 @@ impl<P: Run + Naming> Book<P> {
         self.ledger.time()
     }
 
-    /// What the call that pends with this number asks: its site and its arguments. None where no such call pends, and perhaps where the journal isn't
-    /// kept.
+    /// What the call that pends with this number asks: its site, its arguments, when it was made, and which of such calls it is. None where no such
+    /// call pends, and perhaps where the journal isn't kept.
     pub fn request(&self, number: u64) -> Option<Request>
         ensures { MatchOption result (P.keeps ≡ true → weight (has_number number) self.now.ledger.calls ≡ 0) (IsAsked P.listing P.sites self.now.ledger number) }
     {

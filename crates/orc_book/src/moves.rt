@@ -1,4 +1,10 @@
-//! Moves of tokens that are out, within their group: a token ends, forks, or publishes for the program.
+//! Moves of tokens that are out, within their group: a token ends, forks, or publishes for the program. A token that is *out* is with a worker, with
+//! a *pass*: that stands for the token in its group (what runs in one right side of a `<x<`, one left side of a `;`, or the whole program), whose
+//! *word*, an atomic counter, counts the passes. The book *keeps* the tokens that wait for a cell. `found` has what the book has found of a token:
+//! its record in the ledger (`its`), what it does next, its group and how many tokens of that are out. `inputs` has the program and the table of what
+//! sites answer. A *slot* is the place of a token's record. `P` names the run and its table of words, for contracts alone. In contracts `Moves` says
+//! that the ledger has made the token's move: the token is gone (`moved.Gone`), or has a successor in its slot and one in another (`moved.Forked`).
+//! `ks`, the calls that a bind cancels, say nothing here. A pass that is *left* is counted no more.
 ghost use Rattle.std.specs.Prelude.{◌≡◌, ◌⊎◌, ℕ, List, Some, IfOk, IfErr, OnOk};
 ghost use Rattle.orc_tables.specs.declared.records.Token.{Token as Its};
 ghost use Rattle.orc_ledger_spec.specs.Moves.{Moves, IsHindered};

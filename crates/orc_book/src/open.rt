@@ -1,5 +1,11 @@
-//! Opens groups: the right side of a pruning, and the left side of an otherwise. Each gets a word that is free in the book, which an idle pass
-//! opens. The new group is a member of the group in which the token was: so the book holds a pass to that for it.
+//! Opens groups: the right side of a pruning, and the left side of an otherwise. Each gets a word that is free in the book, which an idle pass opens.
+//! The new group is a member of the group in which the token was: so the book holds a pass to that for it. A token that is *out* is with a worker,
+//! with a *pass*: that stands for the token in its group. An *idle* pass names no group. A token is found by its *slot*, the place of its record, and
+//! its *serial*, its number. `found` has what the book has found of a token: its record in the ledger (`its`), what it does next and its group. A
+//! refused call gives the token and the idle pass back. `inputs` has the program and the table of what sites answer, `groups` has the words. `P`
+//! names the run and its table of words, for contracts alone. In contracts `Moves` says that the ledger has made the token's move: its successor is
+//! in its slot (`moved.On`), or one is there and the other in another slot (`moved.Forked`). `ks`, the calls that a bind cancels, say nothing here. A
+//! pass that is *left* is counted no more.
 ghost use Rattle.std.specs.Prelude.{◌≡◌, ◌≤◌, ◌+◌, ◌<◌, ℕ, List, length, true, Some, None, IfOk, OnOk, IfErr};
 ghost use Rattle.orc_tables.specs.declared.records.Token.{Token as Its};
 ghost use Rattle.orc_ledger_spec.specs.Moves.{Moves};
@@ -56,8 +62,8 @@ fn open_word<P: Naming>(
 impl<P: Run + Naming> Book<P> {
     /// Opens the pruning at which this token is, `f <x< g`: a token on each side is out in its place. The left one has the token's pass, the right
     /// one has `idle`, which opens the new group's word. For the new group the book holds `same`, which names the token's group. Refused as Gone if
-    /// the token isn't out, as Wrong if it does something else next, as Full or Limit if the ledger is at such a limit, as Full also if no word is
-    /// free, as Live if the free word is still named, else as Memory.
+    /// the token isn't out, as Wrong if it does something else next, as Full if there are as many tokens and calls, or open groups, as there may be,
+    /// or no word is free, as Limit if the journal has as many entries as the limit, as Live if the free word is still named, else as Memory.
     ///
     /// In the contract `IsOut` says that a token's record is there, `OpensWord` that a word which was free stands for the new group and no other word
     /// has changed, `HasStayed` that nothing has changed but room for passes.
@@ -190,7 +196,8 @@ impl<P: Run + Naming> Book<P> {
 
     /// Enters the otherwise at which this token is, `f ; g`: a token on the left side is out in its place, with `idle`, which opens the new group's
     /// word. For the new group the book holds the token's pass. Refused as Gone if the token isn't out, as Wrong if it does something else next, as
-    /// Full or Limit if the ledger is at such a limit, as Full also if no word is free, as Live if the free word is still named, else as Memory.
+    /// Full if there are as many open groups as there may be, or no word is free, as Limit if the journal has as many entries as the limit, as Live
+    /// if the free word is still named, else as Memory.
     ///
     /// In the contract `IsOut` says that a token's record is there, `OpensWord` that a word which was free stands for the new group and no other word
     /// has changed, `HasStayed` that nothing has changed but room for passes.

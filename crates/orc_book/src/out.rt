@@ -1,4 +1,6 @@
-//! What a worker lends to a book's calls: passes for new records, and room for what comes out.
+//! What a worker lends to a book's calls: passes for new records, and room for what comes out. A *group* is what runs in one right side of a `<x<`,
+//! one left side of a `;`, or the whole program; its members are tokens, pending calls and groups right inside it, and an *idle* pass names no group.
+//! `P` names the table of words, for contracts alone.
 ghost use Rattle.std.specs.Prelude.{◌≡◌, ◌+◌, ◌≤◌, ◌++◌, ◌∷◌, [], None, vec_len, vec_capacity, IfNone, OnOk, MatchOption};
 ghost use Rattle.orc_word.specs.Views.{group_of};
 ghost use Rattle.orc_book.specs.Refusals.{HasNone};
@@ -16,13 +18,14 @@ pub struct Births<P: Naming> {
     pub idle: Vec<Pass<P>>,
 }
 
-/// Lists to which a book's calls add what comes out of them.
+/// Lists for what comes of a book's calls. The calls add to `born` and `leave`; to `cancelled` their caller adds.
 pub struct StepOut<P: Naming> {
     /// Tokens that have come out, for the worker to move.
     pub born: Vec<Token<P>>,
     /// Passes to be left, that is, no longer counted, once the book's lock is given up.
     pub leave: Vec<Pass<P>>,
-    /// The numbers of calls that were cancelled.
+    /// The numbers of calls that binds have cancelled. `bind` writes them over another list, which its caller lends; no call of a book adds to this
+    /// one.
     pub cancelled: Vec<u64>,
 }
 

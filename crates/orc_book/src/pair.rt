@@ -1,4 +1,6 @@
-//! An example of a caller: two workers with one book under a lock.
+//! An example of a caller: two workers with one book under a lock. The book has the records of a run and the passes of those that no worker has. A
+//! *pass* stands for one record in its group (what runs in one right side of a `<x<`, one left side of a `;`, or the whole program); the group's
+//! *word* counts it until it is *left*. A *cell* stands for the x of an opened `<x<`. `P` names the run and its table of words, for contracts alone.
 
 ghost use Rattle.std.specs.Prelude.{◌≡◌};
 
@@ -31,8 +33,9 @@ fn leave_one<P: Run + Naming, R: Wait>(
     }
 }
 
-// Closes the group whose last pass was left. The group's pass to the one that encloses it, if the book holds one, is added to `more`; if a right side
-// starts its token has that pass, and is dropped here. False if the book refuses: then `last` is dropped, and the group's word is never free again.
+// Closes the group whose last pass was left. The group's pass to the one that encloses it, if the book holds one, is added to `more`. But if the
+// group was the left side of a `;` whose right side starts now, the token there has that pass: it is dropped here. False if the book refuses: then
+// `last` is dropped, and the group's word is never free again.
 fn close<P: Run + Naming, R: Wait>(
     rt: &R,
     book: &Mutex<Book<P>>,
@@ -68,8 +71,8 @@ fn bind_one<P: Run + Naming, R: Wait>(
     bound
 }
 
-/// Two tokens of one group bind at the same time, on two threads. Gives for `one` and then for `two` whether the book made its bind; the contract
-/// says nothing of the answers.
+/// Asks the book for a bind of each token, at the same time, on two threads; the example is of two tokens of one group, but no clause asks for that.
+/// Gives for `one` and then for `two` whether the book made its bind; the contract says nothing of the answers.
 pub fn two_binds<P, R>(
     rt: &R,
     alloc: Global,

@@ -1,6 +1,10 @@
-//! A *post* is what a book has of one group: its passes, and how many of its tokens are kept and are out. The functions below the type do to the
-//! post of the group with this number what the type's methods do. A group without a post has no passes and no tokens. If a contract asks that the
-//! post is there, the arm for none never runs.
+//! A *post* is what a book has of one group: its passes, and how many of its tokens are kept and are out. The functions below the type do to the post
+//! of the group with this number what the type's methods do. A group without a post has no passes and no tokens. If a contract asks that the post is
+//! there, the arm for none never runs. A *book* has the records of a run: tokens, pending calls and groups. A *group* is what runs in one right side
+//! of a `<x<`, one left side of a `;`, or the whole program; its *members* are the tokens, calls and groups right inside it. A *pass* stands for one
+//! member, and the group's *word*, an atomic counter, counts the passes; an *idle* pass names no group. A token is *out* while a worker has it, with
+//! its pass, and *kept* while it waits in the book. `J` names the table of words, for contracts alone. `leave` gets passes that the caller is to
+//! *leave*, so that no word counts them.
 ghost use Rattle.std.specs.Prelude.{◌≡◌, ◌+◌, ◌-◌, ◌<◌, ◌≤◌, ◌^◌, ◌∷◌, ◌++◌, [], Some, None, true, false, length, vec_len, vec_capacity, All, IfOk, OnOk, MatchOption, MatchResult};
 ghost use Rattle.orc_indexes.specs.Same.{weight};
 ghost use Rattle.orc_word.specs.Views.{group_of};

@@ -1,4 +1,10 @@
 //! Publications that a `>x>` takes: the token goes on at a copy of the right side. Its group is that in which the `>x>` stands, perhaps another one.
+//! A *group* is what runs in one right side of a `<x<`, one left side of a `;`, or the whole program; a *pass* stands for a token in its group, and
+//! an *idle* one names no group. `found` has what the book has found of the token: its record in the ledger (`its`), what it does next, its group and
+//! how many tokens of that are *out*, that is, with workers. `births` has passes that the worker lends, `groups` the words, which are atomic counters
+//! of passes. `P` names the run and its table of words, for contracts alone. In contracts `SpendsIdle` says that no idle pass is used and the new
+//! token has the old one's pass, or that the last idle one is used and the old token's pass is added to `out.leave`; `HaveCome` says which passes the
+//! tokens have that are added to `out.born`. A pass that is *left* is counted no more.
 ghost use Rattle.std.specs.Prelude.{◌≡◌, ◌≤◌, ◌+◌, ◌++◌, ◌∷◌, [], ℕ, MatchResult, List, vec_len, vec_capacity, IfErr, OnOk};
 ghost use Rattle.orc_rules.specs.Nodes.{code, definitions};
 ghost use Rattle.orc_ledger_spec.specs.Doing.{what_of};

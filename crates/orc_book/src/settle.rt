@@ -1,5 +1,10 @@
 //! After a bind: the ledger has dropped the groups inside a right side, and the book follows. *Burying* such a group notes its word as that of a
-//! killed one, which somebody may still name; *settling* takes passes out of posts that have too many, so that they are left.
+//! killed one, which somebody may still name; *settling* takes passes out of posts that have too many, so that they are left. A *group* is what runs
+//! in one right side of a `<x<`, one left side of a `;`, or the whole program; a *pass* stands for one of its members (a token, a pending call or a
+//! group right inside it), and the group's *word* counts the passes. A *post* is what the book has of a group: its passes, and how many of its tokens
+//! are *kept* in the book and *out* with workers. The ledger has the records. `P` names the run, `J` its table of words, for contracts alone.
+//! `in_posts f` and `in_words f` are what the passes in posts and words weigh, where `f` gives each pass any weight: so a clause says that none is
+//! lost. `leave` gets passes that the caller is to *leave*, so that no word counts them.
 ghost use Rattle.std.specs.Prelude.{◌≡◌, ◌+◌, ◌≤◌, ◌<◌, ℕ, true, false, length, vec_len, vec_capacity};
 ghost use Rattle.orc_rules.specs.declared.limits.TheConstants.{MOST_GROUPS};
 ghost use Rattle.orc_indexes.specs.Same.{weight};

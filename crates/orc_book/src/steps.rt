@@ -1,5 +1,9 @@
 //! A token's next move, where that needs nothing but passes: all but a publication of the program, a bind, a call of a site and a wait, which have
-//! calls of their own.
+//! calls of their own. A token that is *out* is with a worker, with a *pass*: that stands for the token in its group (what runs in one right side of
+//! a `<x<`, one left side of a `;`, or the whole program), whose *word*, an atomic counter, counts the passes. An *idle* pass names no group.
+//! `births` has passes that the worker lends; `out` gets what comes of the move. `found` has what the book has found of the token: its record, what
+//! it does next and its group. `inputs` has the program and the table of what sites answer, `groups` has the words. `P` names the run and its table
+//! of words, for contracts alone. A pass that is *left* is counted no more.
 ghost use Rattle.std.specs.Prelude.{◌≡◌, ◌≤◌, ◌+◌, ◌⊎◌, ◌++◌, ◌∷◌, [], List, vec_len, vec_capacity, IfErr, MatchResult, OnErr, OnOk};
 ghost use Rattle.orc_book.specs.Held.{HasStayed, KeepsWords, AreBorn};
 ghost use Rattle.orc_book.specs.Refusals.{is_end, is_opening, HasFound, IsRefusedMove, IsRefusedStep, IsUnopened};
@@ -16,9 +20,10 @@ use orc_log::Run;
 use orc_word::{Groups, Naming};
 
 impl<P: Run + Naming> Book<P> {
-    /// Moves a token that is out, if its next action (`view`) is Halt, Fork, Seq, Def, Void, Send, Prune or Other: its record goes, and the tokens
-    /// that come in its place are out. `births` lends passes; the move needs no more of them than `view` says, and what it doesn't use stays there.
-    /// Tokens and passes to leave are added to `out`.
+    /// Moves a token that is out, if its next action (`view`) is Halt or Void (it ends), Fork (at a `|`), Seq (at a `>x>`), Def (it enters a
+    /// definition's body), Send (it publishes into a `>x>`), Prune (at a `<x<`) or Other (at a `;`): its record goes, and the tokens that come in its
+    /// place are out. `births` lends passes; the move needs no more of them than `view` says, and what it doesn't use stays there. Tokens and passes
+    /// to leave are added to `out`.
     ///
     /// Refused as Gone if the token isn't out, as Wrong if it does something else next, as Short if `births` lacks a pass that the move needs, as
     /// Full or Limit if the move is over a limit, as Full also if a group is to be opened and no word is free, as Live if the free word is still
@@ -26,7 +31,8 @@ impl<P: Run + Naming> Book<P> {
     ///
     /// In the contract `marks` has, by slots, the serials of the kept tokens, `HasStepped` says that the token has taken its action, and that the
     /// tokens which come of it are in `out.born`, `HaveOpened` that each word stands for what it did, but that a free one may stand for a new group,
-    /// `AreBack` that the last idle pass at most has become another, `HasStayed` that nothing has changed but room for passes.
+    /// `HasSpent` which of the lent passes are used and which are to be left, `AreBack` that the last idle pass at most has become another,
+    /// `HasStayed` that nothing has changed but room for passes.
     pub fn step(
         &mut self,
         groups: &Groups<P>,

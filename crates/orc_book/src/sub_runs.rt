@@ -1,4 +1,8 @@
-//! Sub-runs come into a book. A sub-run is a run of one call of a definition that was made by itself, in parallel; the call's token waits for it.
+//! Sub-runs come into a book. A sub-run is a run of one call of a definition that was made by itself, in parallel; the call's token waits for it. A
+//! token that is *out* is with a worker, with a *pass*: that stands for the token in its group (what runs in one right side of a `<x<`, one left side
+//! of a `;`, or the whole program), whose *word* counts the passes. The book *keeps* the tokens that wait for a cell. `inputs` has the program and
+//! the table of what sites answer. `found` has what the book has found of the token: its record (`its`) and its group. `P` names the run and its
+//! table of words, for contracts alone. A pass that is *left* is counted no more.
 ghost use Rattle.std.specs.Prelude.{◌≡◌, IfOk, OnOk, IfErr};
 ghost use Rattle.orc_tables.specs.declared.records.Token.{Token as Its};
 ghost use Rattle.orc_ledger_spec.specs.Parts.{StandsFor, TakesIn};
@@ -32,7 +36,8 @@ impl<P: Run + Naming> Book<P> {
     /// Limit where the limit has no room for all of the entries, and as Memory. Then nothing has changed.
     ///
     /// In the contract `KeepsWords` says that each word stands for what it did and the same tokens are kept, `IsUnkept` that `t` is the token's
-    /// record and the book doesn't keep the token, `StandsFor` that the token stands at the call of the sub-run.
+    /// record and the book doesn't keep the token, `StandsFor` that the token stands at the call of the sub-run, `TakesIn` that the ledger has the
+    /// sub-run's entries, `HasComer` that a token is out just if the call has a value.
     pub fn append_sub_run(
         &mut self,
         inputs: &Inputs<'_, P>,
@@ -71,7 +76,8 @@ impl<P: Run + Naming> Book<P> {
                 let why = BookFault::Memory;
                 return Err(Refused { why, back: token });
             }
-            // A sub-run leaves one token at most where one stood, and asks no claim: the ledger's clause says so.
+            // A sub-run leaves one token at most where one stood, so it isn't Full. It comes without a claim (what another worker may have won
+            // first), so none is lost. The ledger's clause says so.
             Err(LedgerFault::Full) => unreachable!(),
             Err(LedgerFault::Unclaimed) => unreachable!(),
         }

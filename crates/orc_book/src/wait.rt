@@ -1,4 +1,8 @@
-//! Tokens that wait for cells: the book keeps them, and they go out again once such a cell has a value, or will never have one.
+//! Tokens that wait for cells: the book keeps them, and they go out again once such a cell has a value, or will never have one. A *cell* stands for
+//! the x of an opened `f <x< g`. All other tokens are *out*, with workers; each has a *pass*, which stands for it in its group (what runs in one
+//! right side of a `<x<`, one left side of a `;`, or the whole program). A token is found by its *slot*, the place of its record, and its *serial*,
+//! its number. A slot's *mark* is the serial of the token that the book keeps there, 0 for none. `P` names the run and its table of words, for
+//! contracts alone.
 ghost use Rattle.std.specs.Prelude.{◌≡◌, ◌≤◌, ◌+◌, ℕ, Some, true, IfErr, IfSome, MatchOption, OnOk};
 ghost use Rattle.orc_rules.specs.Nodes.{code, definitions};
 ghost use Rattle.orc_frames.specs.Doing.{is_wait};
@@ -23,7 +27,8 @@ impl<P: Run + Naming> Book<P> {
     /// Hands a token that waits to the book, which marks it as kept, and keeps it and its pass until `wake` is called for one of its cells. Refused
     /// as Gone if the token isn't out, as Wrong if it does something else next, else as Memory; the token isn't marked then.
     ///
-    /// In the contract `IsMarked` says that the slot's mark is the token's serial now, `HasStayed` that nothing has changed but room for passes.
+    /// In the contract `IsUnkept` says that `t` is the token's record and the book didn't keep the token, `KeepsOne` that one token of its group that
+    /// was out is kept, `IsMarked` that the slot's mark is the token's serial now, `HasStayed` that nothing has changed but room for passes.
     pub fn wait(&mut self, inputs: &Inputs<'_, P>, token: Token<P>) -> Result<(), Refused<Token<P>>>
         ensures done { OnOk result ((t : Its) × IsUnkept self.old token.slot token.serial token.pass t × (is_wait (what_of (code P.listing) (definitions P.listing) self.old.ledger t) ≡ true) × Changes self.old.posts (group_at self.old.ledger.steps t.step) self.new.posts KeepsOne) }
         ensures ledger { self.new.ledger ≡ self.old.ledger }
@@ -104,7 +109,8 @@ impl<P: Run + Naming> Book<P> {
     /// To be called when a cell is bound or lost: the tokens that were kept for it go out, each once, and are added to `born`. The error is refused
     /// memory; another call lets out those that are then still kept.
     ///
-    /// In the contract `HaveStayed` says that the records and the words are as they were.
+    /// In the contract `HaveStayed` says that the records and the words are as they were, `HaveWoken` that each token which was added was kept and
+    /// isn't any more, `AreBorn` that its record is there.
     pub fn wake(&mut self, cell: u64, born: &mut Vec<Token<P>>) -> Result<(), AllocError>
         ensures same { HaveStayed self.old self.new }
         ensures born { AreBorn born.old.items born.new.items self.new }

@@ -1,5 +1,8 @@
 //! What words stand for. A group's *word* is an atomic counter of the passes to it; here the book notes, under its lock, which group each word
-//! counts.
+//! counts. A *group* is what runs in one right side of a `<x<`, one left side of a `;`, or the whole program; a *pass* stands for one record in it: a
+//! token, a pending call or a group right inside it. The ledger, which has the records, has each *open* group. It has a *killed* one no more, since a
+//! bind has dropped that; but workers may still have passes to it. `P` names the table of words, for contracts alone. A pass that is *left* is
+//! counted no more.
 ghost use Rattle.std.specs.Prelude.{◌≡◌, Some};
 ghost use Rattle.orc_book.specs.Held.{owed_to};
 

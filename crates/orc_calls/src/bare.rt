@@ -1,4 +1,5 @@
-//! How many calls without arguments there were of each site.
+//! How many calls without arguments there were of each site. A *site* is a service or a built-in function that a program calls; the table of sites
+//! numbers them from 0.
 
 ghost use Rattle.std.specs.Prelude.{◌≡◌, ◌<◌, [], ℕ, length, slice_index_or, IfOk, OnOk, OnErr};
 ghost use Rattle.orc_calls.specs.Counting.{IsSetAt};
@@ -69,7 +70,7 @@ impl BareCounts {
     }
 
     /// Notes that the next call without arguments of the site with the number `site` is the one with the number `next`, from 1. The error is refused
-    /// memory, and then nothing changes.
+    /// memory, and then nothing changes. What is counted of other sites stays.
     pub(crate) fn set(&mut self, site: u32, next: u64) -> Result<(), AllocError>
         ensures set { OnOk result (IsSetAt site next self.old self.new) }
         ensures refused { OnErr result (self.new ≡ self.old) }

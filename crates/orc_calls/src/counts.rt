@@ -1,4 +1,5 @@
-//! How many calls there were of each site with the same arguments.
+//! How many calls there were of each site with the same arguments. A *site* is a service or a built-in function that a program calls; a script is a
+//! text whose lines answer the calls of some sites. `answers` is the table of sites, by their numbers: it says what answers each of them.
 
 ghost use Rattle.std.specs.Prelude.{◌≡◌, ◌≤◌, [], length, IfOk, OnOk, OnErr};
 ghost use Rattle.orc_calls.specs.Counting.{nth_in, CountsOne, CountsCall, NextFound, NextNth};

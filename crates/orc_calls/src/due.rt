@@ -1,4 +1,5 @@
-//! When a call is due.
+//! When a call is due. `found` is what the table of sites says of the call: its answer and a delay in units of logical time, or that it is never
+//! answered.
 
 ghost use Rattle.std.specs.Prelude.{◌≡◌, IfOk, IfErr};
 ghost use Rattle.orc_calls.specs.Due.{due_by, DueNow, IsNotDue};

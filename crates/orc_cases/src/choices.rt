@@ -1,5 +1,7 @@
 //! The choices of a service: what it may answer in a way, one call after the other. A call that doesn't take the first alternative is *off*
-//! (unusual).
+//! (unusual). A service is a site whose answers a test says; a *way* of a case takes one choice of each of the case's services. A `Reply` is an
+//! answer with a range of delays, or `never`; `Found` is an answer with one delay, or never one; an `Answer` is a value, or that the call halts
+//! without one.
 //!
 //! The loops take `rest`, what is left of a slice, apart from the front, as the definitions in specs/ take lists apart.
 

@@ -1,4 +1,7 @@
-//! The frame of a case: what the scripts of all its ways have in common. A way is a number in the frame, from 0, and `push_way` writes it out.
+//! The frame of a case: what the scripts of all its ways have in common. A way is a number in the frame, from 0, and `push_way` writes it out. A
+//! service is a site whose answers the test says. A case has services of its own, and those of `given`, a section for all cases, that it doesn't
+//! override. A test gives a service *alternatives*, the first of them the usual one. A choice says which of them each of its calls takes: a call is
+//! *off* if it takes another than the first, and a choice or its line is off if one of its calls is.
 //!
 //! The loops take `rest`, what is left of a slice, apart from the front, as the definitions in specs/ take lists apart.
 //!
@@ -34,7 +37,7 @@ pub(crate) struct Line {
 /// What the scripts of a case have in common.
 #[derive(Drop)]
 pub(crate) struct Frame {
-    /// One for each service of the case.
+    /// One for each service of the case: its own services in their order, then those of `given`.
     pub(crate) lines: Vec<Line>,
     /// A line `NAME() = halt` for each name of a service that the test has and the case hasn't.
     pub(crate) halts: Vec<u8>,
@@ -92,8 +95,8 @@ pub(crate) fn halts_of(
     Ok(halts)
 }
 
-// Whether a way's text has a line with this choice. With `only_telling` it has only the lines that tell the way from others: those that are off (a
-// call doesn't take the first alternative) or whose alternative has a range of delays. Otherwise it has every line.
+// Whether a way's text has a line with this choice. With `only_telling` it has only the lines that tell the way from others: those that are off, or
+// whose alternative has a range of delays, each of which is a way. Otherwise it has every line.
 fn is_shown(only_telling: bool, choice: &Choice) -> bool
     ensures { result ≡ is_shown only_telling (choice_of choice.now) }
 {

@@ -24,8 +24,8 @@ fn alone(number: u64) -> Interval
     }
 }
 
-/// The intervals of ascending numbers, in which a number may stand more than once. Between two intervals at least one number is missing. The error is
-/// refused memory.
+/// The intervals of ascending numbers, in which a number may stand more than once. Between two intervals at least one number is missing. Without
+/// numbers there are none. The error is refused memory.
 pub(crate) fn intervals(alloc: Global, numbers: &[u64]) -> Result<Vec<Interval>, AllocError>
     ensures { IfOk result (λ is. is.items ≡ intervals numbers.now) }
 {

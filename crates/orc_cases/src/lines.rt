@@ -1,4 +1,6 @@
-//! Which services a case has: its own, and those of `given` that it doesn't override. Services are meant by their places in the test's list, from 0.
+//! Which services a case has: its own, and those of `given`, the section of a test for all its cases, that it doesn't override. Services are meant by
+//! their places in the test's list, from 0. A service is a site whose answers the test says, with a pattern for each argument: a value, or `_` for
+//! any.
 //!
 //! The loops take `rest`, what is left of a slice, apart from the front, as the definitions in specs/ take lists apart.
 //!

@@ -1,8 +1,11 @@
-//! With which delays of a range a case fails: `Pay(_) = 1 after 3..7, 12`.
+//! With which delays of a range a case fails: `Pay(_) = 1 after 3..7, 12`. A `Line` is the line of a service, and a `Choice` is what the service does
+//! in a way: its answers (`Found`: an answer with its delay, or never one) to one call after the other. A choice has a range if the alternative that
+//! it takes has a range of delays.
 //!
 //! The loops take `rest`, what is left of a slice, apart from the front, as the definitions in specs/ take lists apart.
 //!
-//! In contracts `map (way_at ..) numbers` is the list of the ways, in their order.
+//! In contracts `map (way_at ..) numbers` is the list of the ways, in their order. `delays` is what the function of that name gives, and `failing_..`
+//! the texts that the others append. `line_from`, `lines_from` and `choice_of` turn lines and choices of the code into those of the definitions.
 
 ghost use Rattle.std.specs.Prelude.{◌≡◌, ◌<◌, ◌++◌, IfOk, OnOk, map, option_map};
 ghost use Rattle.orc_cases.specs.Digits.{way_at};

@@ -1,4 +1,6 @@
-//! How many ways there are, counted before any is written out. The true number may be far over 2^64, so all numbers here stop at `MANY`.
+//! How many ways there are, counted before any is written out. The true number may be far over 2^64, so all numbers here stop at `MANY`. A way takes
+//! one choice of each line of the case's services. A service has alternatives, and an answer in one of them (`Reply`) has a range of delays, or is
+//! `never`.
 //!
 //! The loops take `rest`, what is left of a slice, apart from the front, as the definitions in specs/ take lists apart.
 
@@ -12,7 +14,7 @@ use crate::lines::service_at;
 use orc_ways::limits::MOST_WAYS;
 use orc_ways::test::{Reply, Service, ServiceLine};
 
-/// Stands for every number above `MOST_WAYS`.
+/// Stands for every number above `MOST_WAYS`, the most ways that a case may have.
 const MANY: u64 = MOST_WAYS + 1;
 
 // The product of two counts, or `MANY` if it is over `MOST_WAYS`.

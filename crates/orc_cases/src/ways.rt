@@ -1,4 +1,5 @@
-//! The ways of a case, in their order, and the texts that tell of them. A `usize` has 64 bits, so no cast here changes a number.
+//! The ways of a case, in their order, and the texts that tell of them. A `usize` has 64 bits, so no cast here changes a number. A way is one choice,
+//! for each line of the case's services, of what the service answers.
 
 ghost use Rattle.std.specs.Prelude.{◌≡◌, Bool, IfOk, List, [], false, length, map};
 ghost use Rattle.orc_ways.specs.Drafting.{test_of};
@@ -47,12 +48,14 @@ fn numbers_of(alloc: Global, frame: &Frame) -> Result<Vec<usize>, AllocError>
     let lines = frame.lines.as_slice();
     let weights = weights_of(alloc, lines)?;
     let weighed = weights.as_slice();
-    // A way's weight stands at the way's number in the frame. So the places of the weights, in order, are these numbers.
+    // A way's weight, which says how many of its lines and calls are off, stands at the way's number in the frame. So the places of the weights, in
+    // order, are these numbers.
     let numbers = in_order(alloc, weighed)?;
     Ok(numbers)
 }
 
-// The ways of the services at these places of the test's list; `count` has to be how many ways there are. The error is refused memory.
+// The ways of the services at these places of the test's list; `count` has to be how many ways there are. In clauses `case_at` has what these
+// services give, their lines and the last lines of each script, and `combinations` lists the ways of lines. The error is refused memory.
 fn of_places(
     alloc: Global,
     services: &[ServiceLine<'_>],
@@ -63,6 +66,7 @@ fn of_places(
     ensures { IfOk result (λ w. w ≡ case_at services.now places.now) }
 {
     let lines = lines_of(alloc, services, places)?;
+    // The last lines of each script: `NAME() = halt` for each name among the services that isn't at one of these places.
     let halts = halts_of(alloc, services, places)?;
     let frame = Frame {
         lines,

@@ -1,5 +1,7 @@
 //! Cells, which are bound once. In contracts `identity` says which cell it is, `subject` of which cell a note is, and `known` what a note has read.
-//! `Knows` and `HasRead` say that a value is known from now on, and that what was known before is the same.
+//! `Knows` and `HasRead` say that a value is known from now on, and that what was known before is the same. A *note* is what one reader has read of a
+//! cell; it is for proofs, and holds no value. Each `Cell` is a *name* of a cell, and `share` makes another. The kit is the library that comes with
+//! Rattle; its `OnceBox` is the cell itself.
 
 ghost use Rattle.std.specs.Prelude.{◌≡◌, None, Some, IfOk, MatchResult, MatchOption, ⊤};
 ghost use Rattle.orc_cell.specs.Words.{identity, subject, known, Knows, HasRead};

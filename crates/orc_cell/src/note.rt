@@ -1,4 +1,6 @@
-//! Notes: what a reader knows of a cell. A note is for proofs; it holds no value.
+//! Notes: what a reader knows of a cell. A note is for proofs; it holds no value. A cell is bound to a value at most once. The kit is the library
+//! that comes with Rattle: its `OnceBox` is the cell itself, and its note says what was read. In contracts `subject` says of which cell a note is,
+//! and `known` what it has read.
 
 ghost use Rattle.std.specs.Prelude.{◌≡◌, IfSome};
 ghost use Rattle.once_cell.specs.Once.{Agrees};

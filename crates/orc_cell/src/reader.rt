@@ -1,4 +1,6 @@
-//! Readers of cells: a reader is a cell together with its own note of it.
+//! Readers of cells: a reader is a cell together with its own note of it. A note is what one reader has read of a cell; it is for proofs. A cell is
+//! bound to a value at most once. In contracts `identity` says which cell it is, `subject` of which cell a note is, and `has_read` what a reader has
+//! read; by `Knows` a value is known from now on, and what was known before is the same.
 
 ghost use Rattle.std.specs.Prelude.{◌≡◌};
 ghost use Rattle.orc_cell.specs.Words.{identity, subject};

@@ -1,4 +1,5 @@
-//! A proved answer from a journal, whoever made the journal: `certify` checks it, and only then writes the run's output from it.
+//! A proved answer from a journal, whoever made the journal: `certify` checks it, and only then writes the run's output from it. A run that ends by
+//! itself is Halted, if nothing more can come of its term, or Quiet, if it waits for ever.
 
 ghost use Rattle.std.specs.Prelude.{IfOk, IfErr, IfSome, OnOk, OnErr};
 ghost use Rattle.std.specs.Io.KnownBytes.{Appends};

@@ -2,8 +2,9 @@
 //! of a run of FILE with SCRIPT, with at most LIMIT entries, cancels counted. Then it writes what the run published (FORM `values`) or the journal
 //! (FORM `journal`). If SCRIPT is an empty file there is no script.
 //!
-//! The status is that of the run: 0 if it halted, 3 if it is quiet. Status 10 says that nothing was written: the journal proves no answer, a file
-//! couldn't be read, or memory was refused. Status 6 says that the output couldn't be written whole, and 2 that the command line is wrong.
+//! The status is that of the run: 0 if it halted, 3 if it is quiet, that is, if it waits for ever. Status 10 says that nothing was written: the
+//! journal proves no answer, a file couldn't be read, or memory was refused. Status 6 says that the output couldn't be written whole, and 2 that the
+//! command line is wrong.
 //!
 //! `./orc` starts it while the full program is still being proved. So it is small: it stands on no ledger and no engine.
 #![tactic(auto)]

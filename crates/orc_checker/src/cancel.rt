@@ -1,7 +1,8 @@
-//! The entry `cancel`: a call that a bind has dropped is cancelled.
+//! The entry `cancel`: a call that a bind has dropped is cancelled. A *bind* gives the cell of an opened `f <x< g`, which stands for x in f, the
+//! value that g publishes, and drops g with the calls that pend there. `Marked` is the checker's state at one place of a journal.
 //!
-//! In contracts `Enters` says that the entry leads from the old state to the new one, and `IsRightlyRefused` that the fault is Memory or names a
-//! condition that the entry breaks.
+//! In contracts `Enters` says that the entry leads from the old state to the new one, and `IsRightlyRefused`, here for every table of sites (`t`),
+//! that the fault is Memory or names a condition that the entry breaks.
 
 ghost use Rattle.std.specs.Prelude.{◌≡◌, IfOk, IfErr, OnErr};
 ghost use Rattle.orc_rules.specs.Nodes.{code};

@@ -1,4 +1,5 @@
-//! The nodes that wait, by the due times of their calls.
+//! The nodes that wait, by the due times of their calls. They are nodes of the *marked term*, which is what is left of the program's term after the
+//! entries of a journal. A node *waits* while the call that was put there pends: it hasn't returned and wasn't dropped.
 
 ghost use Rattle.std.specs.Prelude.{◌≡◌, ℕ, [], List, IfErr, IfOk, IfSome, OnOk, MatchOption};
 ghost use Rattle.orc_checker.specs.DueTimes.{IsFirst, IsNoted, Drops};
@@ -17,7 +18,8 @@ pub(crate) struct Due {
     nodes: BTreeSet<(u64, u32)>,
 }
 
-// In contracts a `Due` is the list of its times and nodes.
+// In contracts a `Due` is the list of its times and nodes. `IsNoted` says that it has a node with that time, `IsFirst` that none is earlier, and
+// `Drops` that the first one goes.
 impl Model for Due {
     ghost Value = { List (ℕ × ℕ) };
 

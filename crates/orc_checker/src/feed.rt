@@ -1,5 +1,10 @@
 //! The entry `send`: a publication that a `>x>` takes.
 //!
+//! The *marked term* is what is left of the program's term after the entries before, as numbered nodes (`nodes`); a token's number is its *mark*.
+//! `flags` says of each node whether it has halted. `settle` sets the flag of a node that has halted, and of those above that halt with it; sides
+//! among them become `candidates`, which the search for halted sides looks at. An *otherwise* is an entered `f ; g`, and a *scope* says what names
+//! mean.
+//!
 //! In contracts `Enters` says that the entry leads from the old state to the new one, and `IsRightlyRefused` that the fault is Memory or names a
 //! condition that the entry breaks.
 
@@ -28,7 +33,9 @@ use orc_term::room::{push_within, reserve};
 use orc_term::walk::{Taker, rise, way_up};
 
 /// Puts a new `|` above node `at` of the marked term. That node becomes the left part of the `|` and keeps its number; the right part is a new node
-/// without parts, whose kind `tip` says. The caller has reserved room for the two new nodes, and node `at` has to be there.
+/// without parts, whose kind `tip` says. The caller has reserved room for the two new nodes, and node `at` has to be there. The clauses say, too,
+/// that no old node becomes a side, that no node but the new one gets a name (a mark, call or cell), and, where `tip` waits for no call, that no node
+/// waits which didn't before.
 #[inline(always)]
 fn graft(nodes: &mut Nodes, at: u32, tip: Tip)
     requires there { at < length nodes.old.items }

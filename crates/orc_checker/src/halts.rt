@@ -1,4 +1,5 @@
-//! Which of a program's terms have halted.
+//! Which of a program's terms have halted from the start, before anything moves in them: `stop` has. The terms are numbered nodes, and f and g are
+//! the numbers of a node's parts.
 
 ghost use Rattle.std.specs.Prelude.{◌≡◌, ◌≤◌, ◌++◌, ◌∷◌, [], List, Bool, length, IfOk};
 ghost use Rattle.orc_rules.specs.Nodes.{code, node_of};

@@ -1,4 +1,5 @@
-//! Calls as they are kept.
+//! Calls as they are kept. `Found` is what the table of sites says of a call: `Never` if it isn't answered, or `After` with the answer and its delay
+//! in units of logical time. The answer is a value, or `Halt`: the call halts.
 
 ghost use Rattle.std.specs.Prelude.{◌≡◌};
 
@@ -23,7 +24,8 @@ pub struct Kept {
     flat: Flat,
 }
 
-// For the prover: `inverse` gives back from a call how it is kept. Only with this clause may a type with a model be `Copy`.
+// For the prover: `inverse` gives back from a call how it is kept. Only with this clause may a type with a model be `Copy`. `inverse_ok` proves that
+// a call is kept so.
 impl Model for Kept {
     ghost use Rattle.orc_checker.specs.Kept.{called_in, flat_of, is_again};
     ghost use Rattle.orc_checker.specs.declared.rest.Called.{Called};

@@ -1,4 +1,6 @@
-//! The labels that entries show: what can be seen of a step from outside.
+//! The labels that entries show: what can be seen of a step from outside. In entries s is a *mark* (the number of a token), k a call, c a cell, v a
+//! value. A *cell* stands for the variable x of an opened `f <x< g` (a *pruning*), whose right side is g; it is *bound* to the first value that g
+//! publishes, or *lost* if g halts without one. The *marked term* is what is left of the program's term after the entries before.
 //!
 //! In contracts `Spells x code m p` says that the marked term m stands at the place p of a journal.
 

@@ -7,9 +7,9 @@
 //! The nodes of the marked term and those of the program are numbered apart. In the entries' methods `at`, `parent` and `n` are numbers of the
 //! former, `f`, `g` and the `node` of a `Spot` of the latter, and x is the number of a name.
 //!
-//! An effect writes the nodes (`write_node`, `wake`, `push_within`), the tables that find a node by a mark, cell or call (`marks`, `prunings`, `calls`), and
-//! the flags, which say which nodes have halted: `push_flag` adds that of a new node, and `settle` sets that of a changed one. Once a cell is bound or
-//! lost, tokens that waited for it may be able to move, and `forget_asked` has the next tick ask every token.
+//! An effect writes the nodes (`write_node`, `wake`, `push_within`), the tables that find a node by a mark, cell or call (`marks`, `prunings`,
+//! `calls`), and the flags, which say which nodes have halted: `push_flag` adds that of a new node, and `settle` sets that of a changed one. Once a
+//! cell is bound or lost, tokens that waited for it may be able to move, and `forget_asked` has the next tick ask every token.
 //!
 //! A `match` that passes an option or a result on as it is names its cases for the proof.
 #![tactic(auto)]

@@ -1,6 +1,8 @@
 //! The nodes that entries name, found by tables that have the node on which each mark, cell or call was put. That node may have become another one
 //! since, so each function here asks whether it still has the name, and gives None if it hasn't. Number 0 names nothing: its place in a table has
-//! node 0, which has no name.
+//! node 0, which has no name. They are nodes of the *marked term*, which is what is left of the program's term after the entries before. A *mark* is
+//! the number of a token. A *pruning* is an opened `f <x< g`, and its *cell* stands for x. An *otherwise* is an entered `f ; g`, whose number is the
+//! mark of the token that entered it. A *scope* says what names mean.
 
 ghost use Rattle.std.specs.Prelude.{◌≡◌, slice_get};
 ghost use Rattle.orc_checker.specs.Index.{node_by, pruning_with, otherwise_with, tip_with, waits_with};

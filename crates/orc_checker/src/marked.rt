@@ -1,7 +1,14 @@
-//! A marked term and what goes with it; how an entry is applied, and where the token is that it names.
+//! A marked term and what goes with it; how an entry is applied, and where the token is that it names. The term is what is left of the program's term
+//! after the first entries of a journal, kept as numbered nodes. A *token* is on each part that can go on, and its number is a *mark*. A *scope* says
+//! what names mean, and a *cell* is the variable of an opened `f <x< g`. The `Tip` of a node without parts says what is on it: a token on a node of
+//! the program (`Token`), one on the answer of a call (`Bears`), or none.
 //!
 //! In contracts `Begins` and `Applies` say that the state is that of the journal's beginning, and that the entry leads from the old state to the new
-//! one; `IsRightlyRefused` that the fault is Memory or names a condition that the entry breaks.
+//! one; `IsRightlyRefused` that the fault is Memory or names a condition that the entry breaks. `at nodes p i k` says that node i is of the kind k
+//! and below node p, `Carries s` that a tip has token s, `NoToken` that no node has it, and `living_kind` 0 of a node that was dropped. `Lacks`,
+//! `LacksSpot` and `LacksBearer` say that the error is one that the comment names, with its cause; `BearsValue` and `BearsOther` that the token
+//! stands on this value, or doesn't; `Means` what an operand means in a scope, if each scope extends an earlier one (`AreOrdered`). `Presumes` asks
+//! of a `def` that the program is closed.
 
 ghost use Rattle.std.specs.Prelude.{◌≡◌, ℕ, suc, [], length, Some, IfOk, IfErr, IfSome, IfNone, OnErr};
 ghost use Rattle.orc_rules.specs.Journal.{begin};

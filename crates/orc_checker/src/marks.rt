@@ -1,5 +1,7 @@
 //! The entries `end`, `fork`, `seq` and `other`, which only move marks: no rule of Orc is used. The term with its marks left out stays the same, so
-//! the flag of the token's node stays right.
+//! the flag of the token's node stays right. The *marked term* is what is left of the program's term, as numbered nodes (`nodes`), and a token's
+//! number is its *mark*. `flags` says of each node whether it has halted; `push_flag` adds that of a new node. `candidates` has the sides that may
+//! have halted.
 //!
 //! In contracts `Enters` says that the entry leads from the old state to the new one, and `IsRightlyRefused` that the fault is Memory or names a
 //! condition that the entry breaks.

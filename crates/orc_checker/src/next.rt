@@ -1,4 +1,5 @@
-//! What a token can do next.
+//! What a token can do next. Tokens are in a *marked term*, which is what is left of the program's term after the entries before. A *cell* stands for
+//! the x of an opened `f <x< g`: it is bound to a value, lost (void), or neither. A *scope* says what names mean.
 //!
 //! In contracts `Spells x code m p` says that the marked term m stands at the place p of a journal, `Offers` and `Allows` that the token can do this
 //! next, and `AreOrdered` that each scope extends an earlier one.
@@ -82,8 +83,8 @@ fn push_values(
     }
 }
 
-// What a token can do on a call of the site of number `site` with these operands in scope `scope`, where `cells` says what has become of each cell:
-// call it, end since an argument is void, or wait for cells.
+// What a token can do on a call of the site of number `site` with these operands (`MOST_ARGUMENTS` at most, as each call in a program has) in scope
+// `scope`, where `cells` says what has become of each cell: call it, end since an argument is void, or wait for cells.
 fn call_from(
     scopes: &[StoredScope],
     cells: &[Bound],

@@ -1,5 +1,5 @@
 //! The numbers that new entries must give out next, and the time. The lists of marks and of cells have an item for number 0, which names nothing, so
-//! their lengths are the next numbers.
+//! their lengths are the next numbers. `Marked` is the checker's state at one place of a journal.
 //!
 //! In contracts `Spells x code m p` says that the marked term m stands at the place p of a journal.
 

@@ -1,7 +1,12 @@
 //! The entry `right`: the right side of an otherwise starts.
 //!
+//! The *marked term* is what is left of the program's term after the entries before, as numbered nodes (`nodes`); a token's number is its *mark*.
+//! `flags` says of each node whether it has halted. `settle` sets the flag of a node that has halted, and of those above that halt with it; sides
+//! among them become `candidates`, which the search for halted sides looks at.
+//!
 //! In contracts `Enters` says that the entry leads from the old state to the new one, and `IsRightlyRefused` that the fault is Memory or names a
-//! condition that the entry breaks.
+//! condition that the entry breaks. `at nodes p i k` says that node i is of the kind k and below node p, and `NoOtherwise` that no node is the
+//! otherwise.
 
 ghost use Rattle.std.specs.Prelude.{◌≡◌, ℕ, [], IfOk, IfErr, IfSome, IfNone, OnErr};
 ghost use Rattle.orc_rules.specs.Term.{Term};

@@ -1,4 +1,6 @@
-//! When the calls that pend are due.
+//! When the calls that pend are due. A call *pends* until it returns or is dropped. A `Kept` is a call as the checker stores it, with what the table
+//! of sites says of it (`found`) and when it was made (`at`). The nodes are those of the marked term, which is what is left of the program's term
+//! after the entries before.
 
 ghost use Rattle.std.specs.Prelude.{◌≡◌, ℕ, List, IfSome, IfNone};
 ghost use Rattle.std.specs.Bool.{Decides};

@@ -1,7 +1,14 @@
 //! The entries `open`, `bind` and `lost`: a pruning is opened, and its cell gets a value or never will.
 //!
+//! The *marked term* is what is left of the program's term after the entries before, as numbered nodes (`nodes`); a token's number is its *mark*.
+//! `flags` says of each node whether it has halted. `settle` sets the flag of a node that has halted, and of those above that halt with it; sides
+//! among them become `candidates`, which the search for halted sides looks at. An *otherwise* is an entered `f ; g`. A *cell* stands for the x of an
+//! opened `f <x< g`: it is open at first, and then bound to a value, or lost (void). A *scope* says what names mean. A *cancel* is the entry which
+//! says that a bind has dropped a pending call.
+//!
 //! In contracts `Enters` and `Applies` say that the entry leads from the old state to the new one, and `IsRightlyRefused` that the fault is Memory or
-//! names a condition that the entry breaks.
+//! names a condition that the entry breaks. `at nodes p i k` says that node i is of the kind k and below node p, and `NoPruning` that no node is the
+//! pruning.
 
 ghost use Rattle.std.specs.Prelude.{◌≡◌, ◌+◌, ◌<◌, ◌≤◌, ◌^◌, [], length, reverse, slice_get, slice_set, true, false, vec_len, vec_capacity, IfOk, IfErr, IfSome, IfNone, OnErr};
 ghost use Rattle.orc_rules.specs.Nodes.{code};

@@ -1,4 +1,6 @@
-//! What is read of a marked term by one who judges its entries.
+//! What is read of a marked term by one who judges its entries. A *marked term* is what is left of the program's term after the first entries of a
+//! journal. A `Slot` is a node of it as it is stored, and a `Kept` a call with what the table of sites says of it. A *scope* says what names mean,
+//! and a *cell* stands for the x of an opened `f <x< g`: it is bound to a value, lost (void), or neither.
 
 ghost use Rattle.std.specs.Prelude.{◌≡◌, ℕ, List, IfSome, IfNone};
 ghost use Rattle.orc_rules.specs.Nodes.{param_of};

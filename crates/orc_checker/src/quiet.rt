@@ -1,5 +1,7 @@
-//! Whether something can happen, and when the next call is due. These questions leave the term as it is; they need `&mut self`
-//! since they shorten its indexes.
+//! Whether something can happen, and when the next call is due. These questions leave the term as it is; they need `&mut self` since they shorten its
+//! indexes. These are the sides that may have halted (`candidates`), the nodes whose tokens wait, and the due times that are noted (`due`). A *side*
+//! is the right one of an opened pruning (`<x<`), or the left one of an entered otherwise (`;`). A *tick* is the entry by which the time goes on to
+//! the least due time.
 //!
 //! `program_is_source` and `tests_are_right` show the prover laws of `orc_rules`; nothing runs.
 //!

@@ -1,4 +1,6 @@
-//! What the checker keeps of a journal besides the marked term: the time, the calls made, and the cancels due.
+//! What the checker keeps of a journal besides the marked term: the time, the calls made, and the cancels due. A *cancel* is the entry which says
+//! that a bind has dropped a pending call. The table of sites (`answers`) says what each call is answered, and after which delay. A `Kept` is a call
+//! as it is stored.
 
 ghost use Rattle.std.specs.Prelude.{◌≡◌, ◌∷◌, List, [], true, false, reverse, length, slice_get, ℕ, Some, IfOk, IfErr, IfSome, IfNone, OnOk, OnErr};
 ghost use Rattle.orc_calls.specs.Counting.{CountsCall, NextFound};

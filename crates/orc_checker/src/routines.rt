@@ -1,5 +1,9 @@
 //! The entry `def`: calls of definitions.
 //!
+//! The *marked term* is what is left of the program's term after the entries before, as numbered nodes (`nodes`); a token's number is its *mark*.
+//! `flags` says of each node whether it has halted. `settle` sets the flag of a node that has halted, and of those above that halt with it; sides
+//! among them become `candidates`, which the search for halted sides looks at.
+//!
 //! In contracts `Applies` says that the entry leads from the old state to the new one, and `IsRightlyRefused` that the fault is Memory or names a
 //! condition that the entry breaks.
 

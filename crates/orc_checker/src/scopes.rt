@@ -1,4 +1,5 @@
-//! What is read of the names in a marked term.
+//! What is read of the names in a marked term. A *marked term* is what is left of the program's term after the first entries of a journal; `Marked`
+//! has it with its scopes and cells. A *cell* stands for the x of an opened `f <x< g`, which is its *pruning*.
 
 ghost use Rattle.std.specs.Prelude.{◌≡◌};
 

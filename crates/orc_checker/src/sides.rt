@@ -1,4 +1,5 @@
-//! Sides that have halted, and when calls are due.
+//! Sides that have halted, and when calls are due. The *marked term* is what is left of the program's term after the first entries of a journal, as
+//! numbered nodes. A *pruning* is `f <x< g`, an *otherwise* `f ; g`. A call *pends* until it returns or is dropped.
 //!
 //! In contracts `Spells x code m p` says that the marked term m stands at the place p of a journal.
 

@@ -1,7 +1,11 @@
-//! The entries `call` and `return`: calls of sites, and their answers.
+//! The entries `call` and `return`: calls of sites, and their answers. The *marked term* is what is left of the program's term after the entries
+//! before, as numbered nodes (`nodes`); a token's number is its *mark*. `settle` flags a node that has halted, and those above that halt with it;
+//! sides among them become `candidates`, which the search for halted sides looks at. `rest` has the time and the calls made, and `due` notes when
+//! calls are due.
 //!
 //! In contracts `EntersBy` says that the entry leads from the old state to the new one, and `IsRightlyRefused` that the fault is Memory or names a
-//! condition that the entry breaks.
+//! condition that the entry breaks. `at nodes p i k` says that node i is of the kind k and below node p, `IsCall` that call k was made and is kept
+//! so, and `NoCall` that no node waits for it.
 
 ghost use Rattle.std.specs.Prelude.{◌≡◌, ℕ, [], length, suc, IfOk, IfErr, IfSome, IfNone, OnErr};
 ghost use Rattle.orc_rules.specs.Term.{Term};

@@ -1,4 +1,6 @@
-//! What has halted.
+//! What has halted. A *marked term* is what is left of the program's term after the first entries of a journal, as numbered nodes; `Marked` has it
+//! with a flag for each node. *Moves of marks* are the entries `end`, `fork`, `seq` and `other`, which use no rule of Orc. The entry `lost` drops the
+//! right side of an opened `<x<` that has halted without a value.
 //!
 //! In contracts `Spells x code m p` says that the marked term m stands at the place p of a journal.
 

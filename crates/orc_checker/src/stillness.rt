@@ -1,8 +1,12 @@
-//! Which tokens of a marked term can move: use a rule of Orc. Moves of marks (`end`, `fork`, `seq`, `other`) use none.
+//! Which tokens of a marked term can move: use a rule of Orc. Moves of marks (`end`, `fork`, `seq`, `other`) use none. A *marked term* is what is
+//! left of the program's term after the first entries of a journal; `nodes` are its nodes, and a *token* is on each part that can go on. A *scope*
+//! says what names mean. A *cell* is the variable of an opened `<x<`: it is bound to a value, lost (void), or neither.
 //!
 //! A token may stand on a node of the program in whose parts a rule can be used, though they have no tokens of their own yet: `(1 | f()) >x> g` can
 //! move since `1` can. So a question about a node goes down to its parts. It doesn't recur: a part has a lower number than the node, so a loop from
-//! the node's number down to 0 comes to each node before its parts. `queued` flags the parts that the loop has to look at.
+//! the node's number down to 0 comes to each node before its parts. `queued` flags the parts that the loop has to look at. `halts` says which of the
+//! program's terms have halted: `wakes` and `can_term_move` take the flags alone, the functions below them a `Halts`, which has the memory for
+//! `queued` too.
 //!
 //! In contracts `AreOrdered` says that each scope extends an earlier one, `AreHalts` that the flags say which of the program's terms have halted, and
 //! `AreStill` that no token on a node of one of these kinds can move.
@@ -231,7 +235,8 @@ fn can_new_move(
 }
 
 /// Whether some token of the marked term can move. Tokens on nodes of the kinds in `nodes.asked` aren't asked: `AreStill` says that they can't. Of
-/// `halts` only scratch flags change.
+/// `halts` only scratch flags change. Of the other tokens it asks those that `to_ask` names: on the nodes of the lists `waiting` and `woken`, and on
+/// the new nodes, those from number `first_new` on.
 pub(crate) fn can_some_move(
     program: &Program,
     halts: &mut Halts,

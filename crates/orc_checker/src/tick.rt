@@ -1,4 +1,5 @@
-//! The entry `tick`: the time goes on.
+//! The entry `tick`: the time goes on. `rest` has the time, the calls made and the cancels due, and `due` notes when calls are due. A *side* is the
+//! right one of an opened `<x<`, or the left one of an entered `;`. `Marked` is the checker's state at one place of a journal.
 //!
 //! In contracts `Applies` says that the entry leads from the old state to the new one, and `IsRightlyRefused` that the fault is Memory or names a
 //! condition that the entry breaks.

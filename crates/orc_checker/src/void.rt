@@ -1,4 +1,9 @@
-//! The entry `void`: a token ends on void, or on a call of a site with a void argument. Void is what a variable becomes when its cell is lost.
+//! The entry `void`: a token ends on void, or on a call of a site with a void argument. Void is what a variable becomes when its cell is lost. The
+//! cell stands for the x of an opened `f <x< g`, and is lost once g has halted without a value. A *scope* says what names mean.
+//!
+//! The *marked term* is what is left of the program's term after the entries before, as numbered nodes (`nodes`); a token's number is its *mark*.
+//! `flags` says of each node whether it has halted. `settle` sets the flag of a node that has halted, and of those above that halt with it; sides
+//! among them become `candidates`, which the search for halted sides looks at.
 //!
 //! In contracts `Enters` says that the entry leads from the old state to the new one, and `IsRightlyRefused` that the fault is Memory or names a
 //! condition that the entry breaks.

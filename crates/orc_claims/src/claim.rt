@@ -1,4 +1,6 @@
-//! What may be claimed of a run. docs/testing.md, *Claims*, has the same in words; the comments here show how a test writes each.
+//! What may be claimed of a run. docs/testing.md, *Claims*, has the same in words; the comments here show how a test writes each. A *happening* is
+//! that a value is published, or that something becomes of a call: it is made, answered, halts or is cancelled. It *meets* an event if it is what the
+//! event describes.
 
 use orc_rules::value::Value;
 

@@ -1,4 +1,5 @@
-//! Claims on how many happenings there are, in all or at once.
+//! Claims on how many happenings there are, in all or at once. An event is that one of its alternatives happens: a publication, or something that
+//! becomes of a call (its `Phase`). A `Bound` is a variable of an event with the value that it got from a happening.
 //!
 //! In contracts `first_bad good [] list` is the place, from 0, of the first happening of the list that isn't as `good` asks.
 

@@ -1,4 +1,6 @@
-//! Which happenings meet an event, and which values the event's variables get by that.
+//! Which happenings meet an event, and which values the event's variables get by that. A happening is that a value is published, or that something
+//! becomes of a call (its `Phase`). It meets an event if it is what one of the event's alternatives describes. A `Slot` stands in the place of a
+//! value: a value, `_` or a variable.
 //!
 //! A match that fails may have given values to some variables already, so `given` is of no use after false.
 //!

@@ -1,4 +1,5 @@
-//! The happenings of a journal: what those outside see of it.
+//! The happenings of a journal: what those outside see of it. An entry of a journal is a step of the run, or lets time pass (`tick`). A `Phase` is
+//! what became of a call.
 
 ghost use Rattle.std.specs.Prelude.{◌≡◌, OnOk, OnErr};
 ghost use Rattle.orc_claims.specs.Happenings.{Told, becomes, begin, calls, made_as, publishes, told};

@@ -1,4 +1,5 @@
-//! Claims on what comes before and behind what: `only after`, `no .. after` and `each .. then`. The order is that of the journal, also at one time.
+//! Claims on what comes before and behind what: `only after`, `no .. after` and `each .. then`. The order is that of the journal, also at one time. A
+//! `Bound` is a variable of an event with the value that it got from a happening.
 //!
 //! In contracts `first_bad good [] list` is the place, from 0, of the first happening of the list that isn't as `good` asks.
 

@@ -1,4 +1,5 @@
-//! The verdict on a claim: whether it holds of a run, and else where it fails.
+//! The verdict on a claim: whether it holds of a run, and else where it fails. A happening is a publication, or what became of a call, with its time.
+//! A claim is a plain one (`Plain`) behind conditions, each of which asks whether an event happens.
 
 ghost use Rattle.std.specs.Prelude.{◌≡◌, IfOk, map};
 ghost use Rattle.orc_claims.specs.Claims.{come_true, ends_so, holds};
@@ -138,7 +139,7 @@ impl Plain {
                 if is_none_at_all(*most) {
                     return Ok(true);
                 }
-                // Counted from time 0, `by` is a wait as well as a time.
+                // `any_meets` takes a time and the longest wait from it on: counted from time 0, `by` is a wait as well as a time.
                 event.any_meets(&[], 0, *by, happenings, &mut found)
             }
             // Tested if the claim's first event happens, at any time.

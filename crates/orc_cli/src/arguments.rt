@@ -1,7 +1,7 @@
 //! The arguments that each command takes, and what the help says of them: a table, from which `commands.rt` makes what `clap` reads.
 //!
 //! Numbers of a range are `i64`, as `clap` has them. A limit of the command line alone is defined here, with its option; all others are in
-//! `orc_rules::limits`.
+//! `orc_rules::limits`. A test's *claims* say what must hold of its runs, and its *cases* say how the services may answer.
 
 use orc_rules::limits::{DEFAULT_ENTRIES, DEFAULT_WORKERS, MOST_ENTRIES, MOST_WORKERS};
 
@@ -27,7 +27,8 @@ pub const DEFAULT_TRIALS: u64 = 20;
 /// The most ways of a case (scripts by which its services may answer) that `test` tries: the most that `--ways` takes.
 const MOST_WAYS: i64 = 1_000_000;
 
-/// The most failures that a test may report: one of each of 1,024 claims, and one of each of 256 cases, whose runs have to end by themselves.
+/// The most failures that a test may report: one of each claim, of which a test has at most 1,024, and one of each case, at most 256. A case in which
+/// no claim says how runs end fails if a limit cuts one of its runs.
 const MOST_FAILURES: i64 = 1_280;
 
 /// An argument of one or more commands.

@@ -1,6 +1,7 @@
 //! The commands as `clap` reads them, from the table of `arguments.rt`.
 //!
-//! `clap` borrows all texts: those of the table live as long as the program, and those that are made here are kept in [`ArgumentTexts`].
+//! `clap` borrows all texts: those of the table live as long as the program, and those that are made here are kept in [`ArgumentTexts`]. A `Takes`
+//! says what is written for an argument, whose placeholder in the help is `called` here, and a `Beside` which other argument it excludes or needs.
 
 use crate::arguments::{ARGUMENTS, Argument, Beside, COMMANDS, Takes};
 use clap::{Arg, ArgAction, Command, value_parser};

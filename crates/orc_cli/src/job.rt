@@ -1,4 +1,5 @@
-//! What a command line asks for: a job with its files and options. Files are paths, or `-` for standard input.
+//! What a command line asks for: a job with its files and options. Files are paths, or `-` for standard input. A run has a *journal*: what happened
+//! in it, one *entry* after another. A *cancel* is an entry that says that a pending call was dropped.
 
 ghost use Rattle.std.specs.Prelude.{◌≡◌, option_map, true};
 ghost use Rattle.orc_cli.specs.Inputs.{are_one, names_input, may_name_input, two_of, two_of_four, share_with, shares};

@@ -1,4 +1,5 @@
-//! What the words of a command line ask for, from what `clap` has read of them (`given`, the arguments of one command).
+//! What the words of a command line ask for, from what `clap` has read of them (`given`, the arguments of one command). `program` are the paths of
+//! the program's file and its script. A `Job` is what a command line asks for, with its files and options.
 //!
 //! A function here gives None where `clap` lacks a value that is always there: a file that it requires, or a setting, which has a default.
 //! `read_words` refuses such a line, which doesn't come.

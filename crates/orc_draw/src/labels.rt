@@ -1,4 +1,5 @@
-//! The labels of the rows.
+//! The labels of the rows. A row is that of a span of the story: a call, a pruning or an otherwise (`Kind`), from its beginning to its end. The type
+//! `Span` here is a place in the source. A `Purpose` says for what the value of a pruning is, and a `Subject` is what is drawn.
 
 use crate::picture::Subject;
 use crate::story::Kind;

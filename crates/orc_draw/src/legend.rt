@@ -1,4 +1,7 @@
-//! The legend of an SVG picture: what its signs mean, of most of them only where they occur.
+//! The legend of an SVG picture: what its signs mean, of most of them only where they occur. A span is a call, a pruning or an otherwise (`Kind`)
+//! from its beginning to its end (`End`), and most spans have a row. A part is a millionth of a pixel (`PARTS`). A cell is what a pruning puts for
+//! its variable. A call is cancelled if it is dropped with the side in which it stands. An instant is a time that the picture shows, and its band is
+//! the strip down the picture where it stands.
 
 use crate::markup::Markup;
 use crate::picture::Picture;

@@ -1,4 +1,5 @@
-//! What the text of an SVG needs beyond what a page writes: templates with numbers in them, and escaped letters.
+//! What the text of an SVG needs beyond what a page writes: templates with numbers in them, and escaped letters. A part is a millionth of a pixel
+//! (`PARTS`).
 
 use crate::scale::PARTS;
 use orc_report::Page;

@@ -1,4 +1,5 @@
-//! From a journal to its picture.
+//! From a journal to its picture. A `Story` has what happened in a run: its spans, which are calls, prunings and otherwises, and its events, which
+//! are the entries of which a picture shows something. A `Moment` is an entry with its time, and `Slots` say how far across each entry stands.
 
 use crate::fault::DrawFault;
 use crate::labels::Texts;

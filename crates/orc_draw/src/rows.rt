@@ -1,4 +1,5 @@
-//! The rows of a picture, from top to bottom: the spans that are shown, each below the one that it stands in.
+//! The rows of a picture, from top to bottom: the spans that are shown, each below the one that it stands in. A span is a call, a pruning or an
+//! otherwise (`Kind`) from its beginning to its end (`End`). `texts` writes the labels.
 //!
 //! The `place` of a span is its number among the story's spans, from 0. A look-up by such a place always finds one: its other branch only spares a
 //! proof.

@@ -1,4 +1,4 @@
-//! The width of a picture, shared among its times.
+//! The width of a picture, shared among its times. An instant is a time that the picture shows, and a slot is the place of one entry within it.
 //!
 //! An instant is a band as wide as its slots; between two bands is a gap. If the longest time between is at most 25 times the shortest, gaps are in
 //! proportion to the time between; otherwise to the number of its binary digits and one more.

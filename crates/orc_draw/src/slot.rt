@@ -2,8 +2,8 @@
 
 ghost use Rattle.std.specs.Prelude.{◌≤◌};
 
-/// A time that a picture shows, in units of logical time, and how many slots it has: one for each of its entries that are drawn, without cancels,
-/// which share the slot before them.
+/// A time that a picture shows, in units of logical time, and how many slots it has: one for each of its entries that are drawn. A cancel (the entry
+/// that says that a call was dropped) shares the slot before it, if the time has one.
 #[derive(Clone, Copy)]
 pub struct Instant {
     pub time: u64,

@@ -1,4 +1,6 @@
-//! Where each entry stands from left to right: its time, and its slot among the entries of that time.
+//! Where each entry stands from left to right: its time, and its slot among the entries of that time. A `Moment` is an entry with its time, and an
+//! `Event` is an entry of which a picture shows something: that a call begins, that a span (a call, a pruning or an otherwise) ends, a publication or
+//! a cancel (a call is dropped).
 //!
 //! There is an instant for time 0, for each time with an entry that is drawn, and for the last time of the run.
 

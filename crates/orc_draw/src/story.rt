@@ -2,7 +2,9 @@
 //!
 //! Each of them is a span. The journal is followed on the program's sketch (`orc_source_map`): the step of a token says in which pruning or otherwise
 //! a new span stands. A `bind`, a `lost` or a `right` ends a span and drops all in it. In entries `s` is the mark of a token or an otherwise, `k` the
-//! number of a call and `c` that of a cell; a `Place` is a part of the source, in bytes.
+//! number of a call and `c` that of a cell; a `Place` is a part of the source, in bytes. A `Shape` is what stands at a spot of the sketch, and the
+//! `Way` of a step says into which side it leads. `answers` is the table of sites. A token is a place at which the run can go on, and its mark is its
+//! number. A cell is what an opened pruning puts for its variable: it gets a value by a `bind`, or is lost.
 //!
 //! The journal was checked, so the tokens, steps and cells that it names are there: the branch for one that isn't only spares a proof. Only a call
 //! that isn't shown has no span.

@@ -4,7 +4,8 @@
 //! `halt`, `cut` or `nev` by how its call ended (`class_of` in `svg.rt`), and the words behind it have one more `t`; `num` is the call's number,
 //! `dim` the label of a cancelled call, `x` a cross, `stopmark` the mark of a halt. `group` is the box of a pruning, `span` its line, `ospan` that of
 //! an otherwise; their ends are `bind`, `lost` and `right`, with words in `bindt`, `haltt`, `rightt` and `cutt`. `win` is the line from an answer to
-//! the pruning that it won. `pub` is the dot of a publication, `pubv` its value, `publine` its line. Words at the ends of bars are `end`, too.
+//! the pruning that it won. `pub` is the dot of a publication, `pubv` its value, `publine` its line. Words at the ends of bars are `end`, too. `lab`
+//! is a label at the left; that of a pruning or an otherwise is `scope`, too. Nothing has the class `sub`.
 
 /// The rules of light colours.
 pub(crate) const LIGHT: &str =

@@ -3,7 +3,8 @@
 //! Places across are in parts (`scale::PARTS` to a pixel), so that the width can be shared among the times; places down are in pixels where their
 //! comments don't say parts. In a template, `%` is a length in parts and `@` a number as it stands (`Markup::form`). Letters have about the same
 //! width, so the room for a text is its length times a number of parts. The `place` of a row is its number from 0 at the top, and a text's `y` is its
-//! base line.
+//! base line. A span is a call, a pruning or an otherwise (`Kind`) from its beginning to its end (`End`), and a `Moment` is an entry with its time. A
+//! pruning is bound when it gets its value; the call whose answer that is has won it.
 
 use crate::legend::Legend;
 use crate::markup::Markup;

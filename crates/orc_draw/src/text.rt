@@ -1,7 +1,8 @@
 //! A picture as rows of text. Left of the plot each row has its label and the number of its call; columns of the plot are counted from 0.
 //!
 //! A row is its label, one blank, its number, two blanks, the plot, and the words on how its span ended. Depth indents a label by two columns for
-//! each row that it stands in. Names and texts are ASCII here, so a byte is a column.
+//! each row that it stands in. Names and texts are ASCII here, so a byte is a column. A span is a call, a pruning or an otherwise (`Kind`) from its
+//! beginning to its end (`End`), and a `Moment` is an entry with its time.
 
 use crate::picture::Picture;
 use crate::rows::Row;

@@ -30,8 +30,8 @@ const WORKERS: usize = 2;
 /// The most entries of the run's journal: far more than this workflow needs.
 const LIMIT: u64 = 1000;
 
-// Runs the workflow on the sites of the office and with `Open`, a gate that holds no call. Then it sends the clerk home, whatever has come of the
-// run: else the clerk would wait for calls forever.
+// Runs the workflow on the sites of the office and with `Open`, a gate that holds no call: another one could make a worker wait before its call. Then
+// it sends the clerk home, whatever has come of the run: else the clerk would wait for calls forever. `keeps` asks for the run's journal.
 fn run<R: Threads + Wait + Sync>(
     rt: &R,
     alloc: Global,

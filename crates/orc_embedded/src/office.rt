@@ -1,4 +1,5 @@
-//! Sites of one's own: a clerk on another thread serves each call.
+//! Sites of one's own: a clerk on another thread serves each call. The engine makes each call by `Sites::call`, from a `Request`, and polls what it
+//! gets (a `SiteFuture`) by hand. `Due` says when the call is answered, in logical time, which the engine hands in.
 
 use crossbeam_channel::{Receiver, Sender, bounded};
 use futures::Future;

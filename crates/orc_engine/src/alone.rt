@@ -1,4 +1,7 @@
-//! One worker, which holds all tokens and waits for nobody.
+//! One worker, which holds all tokens and waits for nobody. A token is a place of the program at which a run can go on. The *scheduler* has a run:
+//! the *ledger*, with its records and its journal, the *run queue* of tokens whose turn comes, and the tokens that wait. The graph is the program in
+//! packed nodes, `answers` is the table of what each site answers and when, and `Inputs` has both. A bind of a variable drops pending calls; each
+//! gets an entry `cancel`.
 
 ghost use Rattle.std.specs.Prelude.{◌≡◌, ◌≤◌, ◌↔◌, Err, is_some, IfOk, IfErr, IfSome, true, MatchOption};
 ghost use Rattle.orc_rules.specs.declared.limits.TheConstants.{MOST_ENTRIES};
@@ -44,6 +47,7 @@ pub fn run_alone(
         return Err(EngineFault::Range);
     }
     let Ok(graph) = Graph::build(alloc, program) else {
+        // Memory was refused, or a number of the program takes more than 32 bits.
         return Err(EngineFault::Memory);
     };
     let limit = limit as usize;
@@ -66,7 +70,8 @@ pub fn run_alone(
 }
 
 // Runs a program whose graph is built, with a limit in range. None if the run keeps no journal, but only a journal can show how it ended. The fault
-// is Memory if memory was refused before the run began, or for its result. No other fault comes if the scope check accepts the program.
+// is Memory if memory was refused before the run began, or for its result. No other fault comes if the scope check accepts the program. In contracts
+// `P` stands for the run; the clauses ask that program, graph, sites, limit and `keeps` are those of `P`.
 fn run_graph<P: Run>(
     alloc: Global,
     program: &Program,

@@ -1,4 +1,7 @@
-//! A batch of jobs, dealt out to several threads. Each thread has a queue of jobs, and steals from the queues of the others when its own is empty.
+//! A batch of jobs, dealt out to several threads. Each thread has a queue of jobs, and steals from the queues of the others when its own is empty. A
+//! *job* is a call of a definition that a thread runs by itself, as a *sub-run* with a result. It *races* if it stands in a side (the right one of a
+//! `<x<`, the left one of a `;`) that has other members, and not so that the program itself publishes its value. `P` names the run, for contracts
+//! alone.
 
 use orc_ledger::Run;
 use orc_pool::{WorkerQueue, worker_queues};

@@ -4,7 +4,10 @@
 //!
 //! A *job* is one of these calls. A job *races* if its token's side had other members when the jobs were listed, and has *won* if its call yields a
 //! value, or may (`SubRunJob::has_won`): the jobs behind it are in vain then. The first jobs of a list are *samples*, whose runs show whether the
-//! others are worth a thread. Counts are added with saturation only because the prover isn't told how small they are.
+//! others are worth a thread. Counts are added with saturation only because the prover isn't told how small they are. A token is a place of the
+//! program at which the run can go on; a *side* is the right side of an opened `<x<`, or the left side of an entered `;`, with its members: tokens,
+//! calls and inner sides. The scheduler has the run: its records and journal (the *ledger*) and the *run queue* of tokens whose turn comes. The graph
+//! is the program in packed nodes, `answers` is the table of what each site answers and when, and `Inputs` has both.
 
 ghost use Rattle.std.specs.Prelude.{◌≡◌, ◌≤◌, ◌<◌, ◌^◌, ◌↔◌, Err, is_some, IfOk, IfErr, IfSome, true, MatchOption};
 ghost use Rattle.std.specs.VecDeque.{deque_len};
@@ -81,7 +84,7 @@ enum Trial {
     Few,
     /// More sub-runs stopped at their limit than gave a result.
     Long,
-    /// It isn't worth the threads: there were too few calls, or the sub-runs were too short, or most of them gave no result.
+    /// It isn't worth the threads: there were too few calls, no room for entries or no memory, or sub-runs were too short or mostly gave no result.
     Vain,
     /// At least half of the sub-runs gave a result, and these had this many entries on average.
     Good(usize),
@@ -142,6 +145,7 @@ pub fn run_parallel<R: Threads + Sync>(
         return Err(EngineFault::Range);
     }
     let Ok(graph) = Graph::build(alloc, program) else {
+        // Memory was refused, or a number of the program takes more than 32 bits.
         return Err(EngineFault::Memory);
     };
     let threads = WorkerThreads { rt, alloc, workers };
@@ -311,7 +315,7 @@ where
 
     // Spreads tokens, that is, moves them on to their next calls of definitions, until `wanted` of them are runnable, and runs the calls at which
     // they stand side by side. `mean` is how many entries the sub-runs of the last attempt had on average; if it is 0, samples show it first. Few if
-    // fewer become runnable. The error is why the run stops.
+    // fewer become runnable, or if a sample wins a race. The error is why the run stops.
     fn attempt(
         &self,
         scheduler: &mut Scheduler<P>,

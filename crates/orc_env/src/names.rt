@@ -1,4 +1,5 @@
-//! Scopes and cells, and what an operand means in them.
+//! Scopes and cells, and what an operand means in them. An *operand* is what stands as an argument in the source: a value, or a name by its number. A
+//! *cell* is the variable of an opened `f <x< g`: it is bound to a value, lost, or neither.
 
 ghost use Rattle.std.specs.Prelude.{◌≡◌, true, false, IfSome, IfNone, Some, None, slice_get};
 ghost use Rattle.orc_rules.specs.declared.param.Operand.TheVariants.{Name};

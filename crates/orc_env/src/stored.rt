@@ -41,7 +41,7 @@ impl Model for StoredScope {
 
     ghost view = { λ s. record { name = s.name; bound = bound_in s.put; outer = s.outer } };
 
-    // A type with a model may be `Copy` only with this: how a scope is stored is a function of the scope.
+    // A type with a model may be `Copy` only with this: how a scope is stored is a function of the scope. `inverse_ok` proves it.
     ghost inverse = { λ s. record { name = s.name; outer = s.outer; put = put_for s.bound } };
 
     ghost inverse_ok = { λ s h. λ i. record { name = s.name; outer = s.outer; put = is_again s.put i } };

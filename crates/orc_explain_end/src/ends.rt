@@ -5,7 +5,11 @@
 //! of a halted run.
 //!
 //! Each function here with a `page` writes what its comment names at the end of that page. `note` begins a line there, which the function ends;
-//! `rest` writes a last line `and N more`. Calls and cells count from 1. A call *is out* while it is pending.
+//! `rest` writes a last line `and N more`. Calls and cells count from 1. A call *is out* while it is pending. A `Scene` is the run with all that an
+//! explanation reads. `moves` are what can come next in it, and which tokens wait for which cell (`Wait`). A `Made` is a call that was made, with its
+//! spot and its step; of a pending one, `Called` has what the table says of it. A spot is a numbered place of the program's tree, and the sketch has
+//! them all. A step leads from the running term into one of its sides. A mark is the number of a token, and a cell is what an opened pruning puts for
+//! its variable.
 
 use crate::ended::Ended;
 use crate::moves::{Moves, Wait};

@@ -1,4 +1,6 @@
-//! What can come next in a run, and what waits. A run that its limit cut can go on; in a quiet one no entry can come.
+//! What can come next in a run, and what waits. A run that its limit cut can go on; in a quiet one no entry can come. The marked term, which `replay`
+//! has, knows what each token can do; a mark is the number of a token. A cell is what an opened pruning puts for its variable. The replay's trail has
+//! the tokens that no entry has used up, dropped ones too, and says which otherwises were entered.
 
 use crate::replay::Replay;
 use orc_rules::entry::Entry;

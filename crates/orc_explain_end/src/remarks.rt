@@ -3,7 +3,9 @@
 //!
 //! Each function here with a `page` writes what its comment names at the end of that page. `note` begins a line there, which the function ends;
 //! `rest` writes a last line `and N more`. Calls count from 1, in the order in which they were made; lines of the script count from 1 in its text,
-//! and from 0 in the list of `ScriptLines`, where they have a *place*. A spot is a numbered place of the program's tree.
+//! and from 0 in the list of `ScriptLines`, where they have a *place*. A spot is a numbered place of the program's tree. A `Scene` is the run with
+//! all that an explanation reads. A `Made` is a call that was made, and a `Loss` has the tokens that ended at a spot since a value that they needed
+//! was lost.
 
 use crate::replay::{Loss, Made};
 use crate::scene::{Scene, begin, name_of};

@@ -2,7 +2,9 @@
 //!
 //! A spot is a numbered place of the program's tree, and a program's *sketch* has its spots. A step leads from the running term into one of its
 //! sides; step 0 is the whole term. A *trail* says at which spot and in which step each token stands. All of these are of `orc_source_map`. A look-up
-//! of what isn't there, which the journal of a run rules out, gives a default, often 0.
+//! of what isn't there, which the journal of a run rules out, gives a default, often 0. The *marked term* is the term that is running, with its
+//! tokens, each by its number, its *mark*. A cell is what an opened pruning puts for its variable: it gets a value, is lost, or neither yet. A scope
+//! says what names mean.
 
 use crate::ended::Ended;
 use orc_checker::Marked;

@@ -1,7 +1,9 @@
 //! A run that is explained, and how its calls, entries and terms are written.
 //!
 //! Each function here with a `page` writes what its comment names at the end of that page; `note` begins a line there. A spot is a numbered place of
-//! the program's tree, and a program's *sketch* has its spots (`orc_source_map`). Cells and marks count from 1.
+//! the program's tree, and a program's *sketch* has its spots (`orc_source_map`). Cells and marks count from 1. A mark is the number of a token, and
+//! a cell is what an opened pruning puts for its variable. A scope says what names mean, and a `Param` is what one means: a value, a cell without a
+//! value, or void, which never gets one.
 
 use crate::ended::Ended;
 use crate::replay::Replay;

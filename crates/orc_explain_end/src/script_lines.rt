@@ -120,7 +120,7 @@ impl<'a> ScriptLines<'a> {
         self.patterns.get(script_line.first..end).unwrap_or(&[])
     }
 
-    /// Whether a line answers the calls of a site with these arguments.
+    /// Whether a line fits the calls of the site `name` with these arguments: it answers them, unless an earlier line fits them, too.
     pub(crate) fn fits(&self, script_line: &ScriptLine, name: &[u8], args: &[Value]) -> bool {
         script_line.name == name
             && script_line.count == args.len()
@@ -133,7 +133,8 @@ impl<'a> ScriptLines<'a> {
             })
     }
 
-    /// The place in the list of the first line that fits such calls, which is the one that answers them. None where no line does.
+    /// The place in the list of the first line that fits the calls of the site `name` with the arguments `args`: the line that answers them. None
+    /// where no line does.
     pub(crate) fn first(&self, name: &[u8], args: &[Value]) -> Option<usize> {
         for (place, script_line) in self.list.iter().enumerate() {
             if self.fits(script_line, name, args) {

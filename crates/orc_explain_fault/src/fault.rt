@@ -1,6 +1,7 @@
 //! The explanation of each fault, and of files that can't be read.
 //!
-//! A function `say_..` writes what its comment names at the end of `page`.
+//! A function `say_..` writes what its comment names at the end of `page`. `page.note` begins a line ` = ` there, and `page.help` writes a help: a
+//! line ` = help: ` that says what to do. The caller writes the fault's own line, with its code, above all that.
 
 use crate::journal::say_journal;
 use crate::scope::say_scope;
@@ -25,7 +26,7 @@ pub enum Fault {
     Script(ScriptFault),
     /// A fault of the journal's text.
     Journal(JournalFault),
-    /// The limit of a run is out of its range, 1 to `MOST_ENTRIES`.
+    /// The limit of a run is out of its range, 1 to `MOST_ENTRIES`, or the number of its workers is. The text speaks of the limit alone.
     Range,
     /// Memory was refused for a run, for its result or for a search through runs.
     Run,
@@ -56,7 +57,8 @@ fn say_broken(page: &mut Page) {
     page.help("please keep FILE and the script, and report them");
 }
 
-// Explains fault E1: the limit, which says how many entries the journal of a run may have, is out of range.
+// Explains fault E1 by the range of the limit, which says how many entries the journal of a run may have. The number of workers may be out of its
+// range instead; nothing is said of that.
 fn say_range(page: &mut Page) {
     page.note("the limit is 1 to ");
     page.number(MOST_ENTRIES);

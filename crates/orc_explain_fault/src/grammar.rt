@@ -2,7 +2,8 @@
 //!
 //! The grammar is that of docs/testing.md, *The text*. It is written down as a machine: at a place, the first entry of the tables whose test the next
 //! piece passes says at which place the walk goes on. If none does, the piece can't stand there, and the place says what could. A piece is a name, a
-//! number or a sign (`script.rt`); the line keeps which one is looked at.
+//! number or a sign (`script.rt`); the line keeps which one is looked at. A search `near` is shown words one by one: `near.takes` says whether a word
+//! is near to the one for which it searches, and nearer than all that it took before. Once memory is refused to it, it takes none.
 
 use crate::script::{Kind, Line, Piece, is_in_range};
 use crate::words::{CONSTANTS, is_one_of};
@@ -161,11 +162,12 @@ enum Next {
     Event(Place),
     /// Behind the event that it is in, at the place that `Event` gave.
     Back,
-    /// Nowhere: the line ends here, and has one of the forms.
+    /// Nowhere: the line ends here, and has one of the forms that the tables allow.
     Done,
 }
 
-/// An entry of the tables: a place, what may stand there, and where the walk goes on behind it. Entries of one place are tried in their order.
+/// An entry of the tables: a place, what may stand there, and where the walk goes on behind it. Entries of one place are tried in their order. It is
+/// no way of a test's case, which is a choice among its services' answers.
 type Way = (Place, Test, Next);
 
 /// What a slot may be, in words.
@@ -616,8 +618,8 @@ impl Walk {
     }
 }
 
-// The word nearest to the one for which `near` searches, of those that a table (`ways`) has at a place, if it is nearer than those that the search
-// saw before; otherwise `nearest`.
+// The word nearest to the one for which `near` searches, of those that a table (`ways`) has at a place, if the search takes one; otherwise `nearest`,
+// the nearest that it took before.
 fn nearest_in(
     near: &mut Near,
     ways: &[Way],
@@ -635,8 +637,8 @@ fn nearest_in(
     found
 }
 
-// The word nearest to the one for which `near` searches, of those that all tables have at a place, if it is nearer than those that the search saw
-// before; otherwise `nearest`.
+// The word nearest to the one for which `near` searches, of those that all tables have at a place, if the search takes one; otherwise `nearest`, the
+// nearest that it took before.
 fn nearest_way(near: &mut Near, place: Place, nearest: &'static [u8]) -> &'static [u8] {
     let found = nearest_in(near, LINE_WAYS.as_slice(), place, nearest);
     let found = nearest_in(near, SERVICE_WAYS.as_slice(), place, found);

@@ -1,4 +1,4 @@
-//! A hint: a line ` = help: ` on what may have been meant.
+//! A hint: a line ` = help: ` on what may have been meant. `document` is the file, its name and its text, in which a hint's place is.
 
 use orc_report::{Document, Page};
 

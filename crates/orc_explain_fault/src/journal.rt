@@ -1,7 +1,8 @@
 //! Faults of a journal's text (J1 to J4).
 //!
 //! A function `say_..` writes what its comment names at the end of `page`, and `page.heed_search` refuses the page if a search for a name was refused
-//! memory.
+//! memory. `subject` has the files of the command line, and `document` is the journal's: its name and its text. `page.point` shows the line of a span
+//! of it with carets; what is said next stands behind them.
 
 use crate::syntax::{say_most, say_refused};
 use crate::words::said_of;

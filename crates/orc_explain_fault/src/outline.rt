@@ -1,4 +1,5 @@
-//! The outline of a test or a script: what each line is, by its first words, without a look at whether it is right.
+//! The outline of a test or a script: what each line is, by its first words, without a look at whether it is right. A piece is a name, a number or a
+//! sign of a line (`script.rt`). A service is a site whose answers a test says.
 
 use crate::script::{Kind, Line, Piece};
 use orc_lex::token::Span;
@@ -27,7 +28,7 @@ pub(crate) struct Outlined<'a> {
     pub head: Head<'a>,
 }
 
-/// The lines of a test that aren't blank.
+/// The lines of a test or a script that aren't blank, the first one first.
 #[derive(Drop)]
 pub(crate) struct Outline<'a> {
     pub lines: Vec<Outlined<'a>>,
@@ -67,7 +68,7 @@ fn head_of<'a>(pieces: &[Piece<'a>]) -> Option<Head<'a>> {
 }
 
 impl<'a> Outline<'a> {
-    /// The outline of a test's text. The error is refused memory.
+    /// The outline of the text of a test or a script. The error is refused memory.
     pub(crate) fn new(alloc: Global, text: &'a [u8]) -> Result<Outline<'a>, AllocError> {
         let mut outline = Outline {
             lines: Vec::new(alloc),

@@ -1,7 +1,9 @@
 //! Faults of a source's names (C1 to C9).
 //!
 //! A function `say_..` writes what its comment names at the end of `page`, and `page.heed_search` refuses the page if a search for a name was refused
-//! memory. A place `at` is a byte of the source, from 0.
+//! memory. A place `at` is a byte of the source, from 0. A `Binding` is a variable where it is named, with the part of the source in which it is
+//! known; its `Binder` is what names it, such as a `>x>`. `answers` is the table of sites. `ast` is the program's tree, in which an expression is a
+//! list of nodes. `subject` has the files of the command line, and `document` is the source's: its name and its text.
 
 use crate::bindings::{Binder, Binding, Bindings};
 use crate::built_in::{built_in_named, purpose};

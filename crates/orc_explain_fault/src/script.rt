@@ -1,7 +1,9 @@
 //! Faults of a script's text (L1 to L3), and the pieces of a line of a script or a test.
 //!
 //! `Line` cuts a line into pieces, and looks at one of them after the other. `Line::whole` reads them as the reader of scripts does, and stops at the
-//! first piece that can't stand where it does: there the carets go. A function `say_..` writes what its comment names at the end of `page`.
+//! first piece that can't stand where it does: there the carets go. A function `say_..` writes what its comment names at the end of `page`. `subject`
+//! has the files of the command line, and `document` is the script's, its name and its text: `page.point` shows the line of a span of it with carets,
+//! and what is said next stands behind them.
 
 use crate::signs::{NO_ORDER_MARK, ORDER_MARK};
 use crate::syntax::{VALUES, say_long, say_refused};

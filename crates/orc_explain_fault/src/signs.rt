@@ -1,6 +1,7 @@
 //! Characters that begin no token (S2).
 //!
-//! A function `say_..` writes what its comment names at the end of `page`. A place `at` is a byte of the text, from 0.
+//! A function `say_..` writes what its comment names at the end of `page`. A place `at` is a byte of the text, from 0. `document` is the file with
+//! the fault, its name and its text.
 
 use crate::hint::{Hint, say_hint};
 use orc_lex::token::Span;

@@ -1,6 +1,7 @@
 //! Faults of a source's text (S1 to S8).
 //!
-//! A function `say_..` writes what its comment names at the end of `page`. A place `at` is a byte of the text, from 0.
+//! A function `say_..` writes what its comment names at the end of `page`. A place `at` is a byte of the text, from 0. `document` is the file with
+//! the fault, its name and its text: `page.point` shows the line of a span of it with carets, and what is said next stands behind them.
 
 use crate::hint::say_hint;
 use crate::signs::say_stray;

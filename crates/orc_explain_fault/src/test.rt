@@ -11,8 +11,8 @@ use orc_rules::limits::LONGEST_SOURCE;
 use orc_ways::fault::TestFault;
 use std::alloc::{AllocError, Global};
 
-// Writes the explanation of a fault at the end of the page. `others` is the table of the built-in sites and the script beside which the test was
-// read. A fault names lines by their numbers, from 1.
+// Writes the explanation of a fault at the end of the page. `document` is the test's file, its name and its text. `others` is the table of the
+// built-in sites and the script beside which the test was read. A fault names lines by their numbers, from 1.
 fn say_test(
     page: &mut Page,
     alloc: Global,

@@ -1,7 +1,9 @@
-//! Lines of a test that have none of its forms (T1). `grammar.rt` finds where such a line goes wrong.
+//! Lines of a test that have none of its forms (T1). `grammar.rt` finds where such a line goes wrong. A piece is a name, a number or a sign, and
+//! `here` is the one that is looked at. A `Walk` went over the pieces, up to its `place` in the grammar.
 //!
 //! A function `say_..` writes what its comment names at the end of `page`, and `page.heed_search` refuses the page if a search for a name was refused
-//! memory.
+//! memory. `document` is the test's file, its name and its text: `page.point` shows the line of a span of it with carets, and what is said next
+//! stands behind them.
 
 use crate::grammar::{Place, Walk};
 use crate::script::{COMMENT, Kind, Line, Piece, is_in_range, number_advice};

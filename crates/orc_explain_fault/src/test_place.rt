@@ -1,7 +1,9 @@
 //! Lines of a test that can't stand where they do (T4): in the wrong section, a second section of a name, or one line too many.
 //!
-//! A function `say_..` writes what its comment names at the end of `page`. The numbers of lines too many are one more than those of
-//! `orc_ways::limits`.
+//! A function `say_..` writes what its comment names at the end of `page`. `document` is the test's file, its name and its text: `page.point` shows
+//! the line of a span of it with carets, and what is said next stands behind them. The numbers of lines too many are one more than those of
+//! `orc_ways::limits`. The outline of a test says what each line is by its first words (`Head`): `given`, `always` or `case`, which begin a section,
+//! a service or a claim.
 
 use crate::outline::{Head, Outline, Outlined};
 use crate::script::{Line, Piece};

@@ -1,7 +1,9 @@
 //! Sites in a claim for which no service of the test answers, nor the script beside it (T5).
 //!
 //! A function `say_..` writes what its comment names at the end of `page`, and `page.heed_search` refuses the page if a search for a name was refused
-//! memory. `others` is the table of the built-in sites and the script.
+//! memory. `document` is the test's file, its name and its text: `page.point` shows the line of a span of it with carets, and what is said next
+//! stands behind them. `others` is the table of the built-in sites and the script. A service is a site whose answers the test says. The outline of a
+//! test says what each line is by its first words (`Head`).
 
 use crate::outline::{Head, Outline, arguments};
 use crate::scope::near_site;

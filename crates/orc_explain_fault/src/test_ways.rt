@@ -1,6 +1,7 @@
 //! Cases with too many ways (T6). A way is one choice among all that the case's services may do. A test without a case has one that is called
 //! `given`. Functions take a case by its place in the test, from 0; the `case` of a service is None if it stands below `given`, where it is one of
-//! each case that has no service of its own with the same name and patterns.
+//! each case that has no service of its own with the same name and patterns. `document` is the test's file, its name and its text: `page.point` shows
+//! the line of a span of it with carets, and what is said next stands behind them.
 
 use crate::script::Line;
 use crate::test_place::span_of;
@@ -73,7 +74,7 @@ fn widest<'a>(test: &Test<'a>, case: Option<usize>) -> Option<(&'a [u8], u64)> {
 }
 
 /// Writes that the case which begins in the line with this number, from 1, has too many ways, and which of its services has most. `others` is the
-/// table beside which the test was read.
+/// table of the built-in sites and the script, beside which the test was read.
 pub(crate) fn say_ways(
     page: &mut Page,
     alloc: Global,

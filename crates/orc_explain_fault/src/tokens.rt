@@ -62,7 +62,8 @@ impl<'a> Tokens<'a> {
     }
 }
 
-/// Writes what kind a token is of, a name, a number or a word, and its text between backquotes; of a sign only its text.
+/// Writes what kind a token is of, a name, a number or a word, and its text between backquotes; of a sign the text alone, in backquotes too.
+/// `document` is the source that has the token.
 pub(crate) fn say_token(page: &mut Page, document: &Document, token: &Token) {
     let before = match token.kind {
         Kind::Name(_) => "the name `",

@@ -229,8 +229,8 @@ impl<'a> Around<'_, 'a> {
         between.unwrap_or(b"").iter().any(|byte| *byte == b'\n')
     }
 
-    // The last name before the place that has a gap and then a `(` behind it: it reads as a call, though its writer may have meant two expressions. A
-    // name with a line's end before the `(` takes precedence. The name behind `def` doesn't count. None where there is no such name.
+    // The last name before the place that has blanks or a comment and then a `(` behind it: it reads as a call, though its writer may have meant two
+    // expressions. A name with a line's end before the `(` takes precedence. The name behind `def` doesn't count. None where there is no such name.
     fn loose_call(&self) -> Option<Token<'a>> {
         let mut found: Option<Token<'a>> = None;
         let mut over_lines: Option<Token<'a>> = None;

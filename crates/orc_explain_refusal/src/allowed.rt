@@ -1,4 +1,5 @@
-//! The entries that are allowed at a place of a run, in words.
+//! The entries that are allowed at a place of a run, in words. Where a `bind` drops the right side of a `<x<`, a `cancel` is due for each call that
+//! was pending in it.
 
 use crate::line::say_entry;
 use orc_report::{Fill, Page};
@@ -7,7 +8,8 @@ use orc_rules::entry::Entry;
 use orc_verdict::Allowed;
 use std::alloc::Global;
 
-/// The call whose `cancel` has to come next, if one is due: it is the only entry that is allowed then. None where no cancel is due.
+/// The number, from 1, of the call whose `cancel` has to come next, if one is due: that is the only entry that is allowed then. None where no cancel
+/// is due.
 pub(crate) fn cancel_in(allowed: &Allowed) -> Option<u64> {
     match allowed.entries().first() {
         Some(Entry::Cancel(call)) => Some(*call),

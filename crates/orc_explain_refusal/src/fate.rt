@@ -1,4 +1,7 @@
-//! What has become of what a refused entry names, if that isn't in the term any more.
+//! What has become of what a refused entry names, if that isn't in the term any more. `Named` is what an entry names: a token, a call, a cell or an
+//! otherwise, by its number. The *marked term* (`marked`) is the term that is running, with its tokens, each by its number, its mark. A side is the
+//! right side of an opened `<x<` or the left side of an entered `;`: where an entry drops it, all in it is gone. `page.tell` writes words, with the
+//! fills in place of their `%` in turn.
 
 use crate::named::{Named, named_by, place_of, stands_at};
 use orc_checker::Marked;
@@ -16,7 +19,7 @@ pub(crate) enum Fate {
     UsedUp(u64),
     /// The call has returned.
     Returned(u64),
-    /// The call was cancelled.
+    /// The call was cancelled, by the `cancel` behind the bind that dropped its side.
     Cancelled(u64),
     /// A `bind` dropped the side in which it stood.
     Bound(u64),

@@ -6,7 +6,7 @@ use orc_rules::answers::Answers;
 use orc_rules::entry::Entry;
 use std::alloc::{AllocError, Global};
 
-/// The line of an entry, without its LF; empty where there is no entry, or its site has no name. The error is refused memory.
+/// The line of an entry, without its LF; empty where there is no entry, or `answers` has no name for its site. The error is refused memory.
 pub(crate) fn line_of(
     alloc: Global,
     answers: &Answers,

@@ -1,4 +1,5 @@
-//! What an entry names, and at which node of the marked term that is.
+//! What an entry names, and at which node of the marked term that is. The *marked term* is the term that is running, with its tokens, each by its
+//! number, its *mark*. It is made of numbered nodes, whose `Kind` says what parts they have.
 
 use orc_checker::Marked;
 use orc_rules::entry::Entry;

@@ -1,4 +1,5 @@
-//! The names of a running program: of variables, definitions, sites and cells.
+//! The names of a running program: of variables, definitions, sites and cells. A cell is what an opened pruning puts for its variable in the marked
+//! term, the term that is running, with its tokens. A scope says what one name means, and extends another scope.
 
 use crate::sign::Sign;
 use orc_checker::Marked;
@@ -72,13 +73,14 @@ impl<'r, 's> Names<'r, 's> {
         })
     }
 
-    /// The place, from 0, of the argument for which the scope check made the variable `name`. The variables that it made have the numbers behind
-    /// those of the source's variables, place by place. None if `name` is a variable of the source.
+    /// The place, from 0, in its call of the argument for which the scope check made the variable with the number `name`; each call uses the same
+    /// numbers, those behind the numbers of the source's variables. The variable of a `>>` or `<<`, which has no name, has the first of them, so it
+    /// gives 0 too. None if `name` is a variable of the source.
     pub(crate) fn argument(&self, name: u32) -> Option<usize> {
         (name as usize).checked_sub(self.variables.len())
     }
 
-    /// Writes the name of the variable with this number; nothing if the scope check made the variable for an argument.
+    /// Writes the name of the variable with this number; nothing if the scope check made the variable, for an argument or for a `>>` or `<<`.
     pub(crate) fn say_variable(&self, page: &mut Page, name: u32) {
         if let Some(text) = self.variables.get(name as usize) {
             page.word(text);

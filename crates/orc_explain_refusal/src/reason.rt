@@ -1,6 +1,8 @@
 //! Why an entry is refused, with carets under the word of its line that is wrong.
 //!
-//! Words of an entry's line are counted from 0: word 0 is its kind, word 1 what it names first.
+//! Words of an entry's line are counted from 0: word 0 is its kind, word 1 what it names first. A mark is the number of a token. A `cancel` is due
+//! behind a `bind`, for each call that was pending in the side that the bind dropped. `page.tell` writes words, with the fills in place of their `%`
+//! in turn.
 
 use crate::allowed::cancel_in;
 use crate::line::say_entry;

@@ -1,4 +1,6 @@
-//! The whole explanation of a refused entry: the entry in its file, why it is refused, the term before it, and what is allowed there.
+//! The whole explanation of a refused entry: the entry in its file, why it is refused, the term before it, and what is allowed there. A mark is the
+//! number of a token in the term. A `Strip` writes the term in one line, the `Way` leads from what the entry names up to the whole, and `Spent` says
+//! which parts have halted. A `Replay` has applied the entries before the refused one, and has the term to which they led.
 
 use crate::allowed::say_allowed;
 use crate::line::line_of;

@@ -1,4 +1,5 @@
-//! A journal's entries applied again, up to the one that was refused.
+//! A journal's entries applied again, up to the one that was refused. A `Watch` follows what an entry names (`Named`): a token, a call, a cell or an
+//! otherwise. The *marked term* is the term that is running, with its tokens, each by its number, its *mark*.
 
 use crate::fate::Watch;
 use crate::named::{Named, named_by};
@@ -89,7 +90,8 @@ impl Replay {
         Ok(())
     }
 
-    /// The entry in which the call with this number, from 1, was made. None where it wasn't made before the refused entry.
+    /// The entry in which the call with this number, from 1, was made. None where it wasn't made before the refused entry. `journal` is to be the one
+    /// that was applied.
     pub(crate) fn call(&self, journal: &Journal, call: u64) -> Option<Entry> {
         let at = *self.calls.get(call.checked_sub(1)? as usize)?;
         journal.get(at)

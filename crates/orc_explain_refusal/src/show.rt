@@ -1,4 +1,5 @@
-//! The two lines that show a term: the term itself, and below it the carets under what is named and the numbers of the marks.
+//! The two lines that show a term: the term itself, and below it the carets under what is named and the numbers of the marks. A `Strip` has the term
+//! in one line, and the columns of its marks, the numbers of its tokens. A `Window` says which columns are shown.
 
 use crate::strip::Strip;
 use orc_report::{Fill, Page, Window};
@@ -63,7 +64,7 @@ impl Strip<'_, '_> {
                 let column = end.saturating_sub(window.first);
                 put(&mut signs, alloc, column, words, number, true)?;
             }
-            // No part is named, or it isn't in the window.
+            // No part is named, or it isn't in the window; or there are no words for it (`label` is None), since the entry's line explains it.
             _ => {}
         }
         Ok(signs)

@@ -1,4 +1,5 @@
-//! The parts of a marked term that are spent: they have halted, and no token stands in them. They are shown as `stop`, or left out beside a `|`.
+//! The parts of a marked term that are spent: they have halted, and no token stands in them. They are shown as `stop`, or left out beside a `|`. A
+//! marked term is the term of a run with its tokens, made of numbered nodes; a node's `Kind` says what parts it has.
 
 use orc_checker::Marked;
 use orc_term::arena::{Kind, Tip};

@@ -1,7 +1,7 @@
 //! A term in one line, with what stands under it.
 //!
 //! A strip is written from left to right, by tasks on a stack (`task.rt`), so that a deep term needs no recursion and a long one stops early. Off the
-//! way to what the entry names, a part that takes too many columns is taken back and becomes `..`.
+//! way to what the entry names, a part that takes too many columns is taken back and becomes `..`. A mark is the number of a token in the term.
 
 use crate::names::Names;
 use crate::replay::Replay;

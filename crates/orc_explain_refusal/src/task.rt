@@ -1,4 +1,5 @@
-//! What is still to be written of a term. `Strip` keeps these tasks on a stack, the next one on top, so that writing a term doesn't recur.
+//! What is still to be written of a term. `Strip` keeps these tasks on a stack, the next one on top, so that writing a term doesn't recur. A scope
+//! says what the names in a node of the program mean; it goes by its number. The marked term is the term that is running, with its tokens.
 
 use crate::sign::Sign;
 use orc_rules::param::Operand;

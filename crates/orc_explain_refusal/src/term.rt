@@ -2,7 +2,8 @@
 //!
 //! A node of the marked term has begun; what a token still has to do, and the right sides of `>x>` and of `;`, are nodes of the program, in a scope
 //! that says what their names mean. `wanted` is how tightly a part has to bind to need no brackets. The *way* (`way.rt`) leads from the node that the
-//! refused entry names, at place 0, up to the whole.
+//! refused entry names, at place 0, up to the whole. A `Tip` is a node of the marked term without parts; a `Single` has one, and a `Double` two. That
+//! term is the one that is running, with its tokens, each by its number, its mark.
 
 use crate::sign::Sign;
 use crate::strip::{AHEAD, Note, Side, Strip};
@@ -55,8 +56,8 @@ impl<'r, 's> Strip<'r, 's> {
     }
 
     // The task for a part of a node, to be written at this level (how tightly it has to bind to need no brackets), and whether the part becomes `..`
-    // where it is long. `below` is the place on the way of that node's own part; None for a node off the way, and for the named one, whose parts are
-    // off the way.
+    // where it is long: none does where nothing is named (`is_short` is false), nor one on the way. `below` is the place on the way of that node's
+    // own part; None for a node off the way, and for the named one, whose parts are off the way.
     fn part(&self, part: u32, level: usize, below: Option<usize>) -> Side {
         match below {
             Some(place) if self.is_on_way(part, below) => Side {

@@ -1,5 +1,6 @@
 //! The way from the part of a marked term that an entry names up to the whole. Parts on the way are shown whole; those beside it are cut where they
-//! are long, and what is above it isn't shown.
+//! are long, and what is above it isn't shown. The marked term is the term that is running, with its tokens; it is made of numbered nodes. A part is
+//! spent if it has halted and no token stands in it.
 
 use crate::named::{Named, place_of};
 use crate::spent::Spent;
@@ -37,8 +38,8 @@ fn side_of(marked: &Marked, entry: &Entry) -> Option<usize> {
     }
 }
 
-// Whether nothing is written for the node `above` but its part on the way, `part`: an otherwise that has published, or a `|` whose other side is
-// spent.
+// Whether nothing is written for the node `above` but its part on the way, `part`: a node that means just its part, as an otherwise that has
+// published or a pruning whose cell is bound or lost, or a `|` whose other side is spent.
 fn is_silent(marked: &Marked, spent: &Spent, above: Node, part: usize) -> bool {
     match above.kind {
         Kind::One(Single::Passed, _) => true,

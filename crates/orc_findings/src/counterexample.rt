@@ -1,6 +1,8 @@
 //! What stands below a claim that fails in the table of a test: the way, where the claim fails in its run, or what it saw of a run that a search
-//! found. Each writer appends to `text`; its error is refused memory. `sites` are those of the test, whose places are the sites' numbers.
-//! The loops aren't `for` loops, since their invariants speak of what is left.
+//! found. Each writer appends to `text`; its error is refused memory. `sites` are those of the test, whose places are the sites' numbers. A
+//! *happening* is a publication, or what became of a call, with its time. The loops aren't `for` loops, since their invariants speak of what is left.
+//! A run is made in some *order* of its turns. A `Verdict` says at which happening a claim fails, or that it fails at the end, and a `Course` names
+//! that place in a run.
 //!
 //! With columns from 0, the lines of a way begin in column 11, behind the failure's number; where a claim fails and what it saw in column 9, below
 //! the claim's text.

@@ -1,5 +1,6 @@
 //! Where in a run a claim fails, as text: at a happening, or at the run's end. `sites` are those of the test: a site's number in claims is its place
-//! there, from 0.
+//! there, from 0. A happening is a publication, or what became of a call, with its time. A `Verdict` says at which happening a claim fails, or that
+//! it fails at the end.
 
 ghost use Rattle.std.specs.Prelude.{◌≡◌, ◌++◌, OnOk, decimal};
 ghost use Rattle.std.specs.List.{slice_get};
@@ -32,7 +33,8 @@ pub(crate) struct Course<'s> {
     pub(crate) time: u64,
 }
 
-/// What an end is called in texts on claims.
+/// What an end is called in texts on claims. A run ends `Full` where it needs more than a limit of the engine allows, and `Limit` where its journal
+/// has as many entries as it may.
 pub(crate) fn word_of(end: End) -> &'static str
     ensures { result.now ≡ end_word end }
 {

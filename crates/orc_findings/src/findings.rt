@@ -1,7 +1,10 @@
-//! What the claims of a test that stand below `always` say of one run, whoever made it: the answer of `orc check --claims`.
+//! What the claims of a test that stand below `always` say of one run, whoever made it: the answer of `orc check --claims`. Such a claim belongs to
+//! no case of the test.
 //!
 //! The loops aren't `for` loops, since their invariants speak of the rest of the lists. Where a loop goes over lines and verdicts, `rest` are the
-//! lines that are left and `others` their verdicts, as many. `sites` are those of the test, whose places are the sites' numbers.
+//! lines that are left and `others` their verdicts, as many. `sites` are those of the test, whose places are the sites' numbers. A `ClaimLine` is the
+//! line of a claim, and a `SiteName` a site that the test names. `Judged` is what a run says of a claim: its verdict, which says where the claim
+//! fails, and whether the run put it to the test.
 
 ghost use Rattle.std.specs.Prelude.{◌≡◌, ◌++◌, IfOk, OnOk, length};
 ghost use Rattle.std.specs.List.{count_by, slice_get};
@@ -30,12 +33,12 @@ pub struct Seen<'s> {
     pub time: u64,
 }
 
-/// What the claims say of a run.
+/// What the claims of a test that stand below `always` say of a run.
 #[derive(Drop)]
 pub struct Findings {
     /// A line for each claim, below each that fails a line that says where, and last a line that says how many fail.
     pub text: Vec<u8>,
-    /// How many of these claims fail.
+    /// How many of them fail.
     pub failing: usize,
 }
 
@@ -170,7 +173,8 @@ impl Seen<'_> {
     }
 
     // Appends the line of a claim, and below one that fails the line that says where, which begins below the claim's text. `line` has the claim's
-    // text, and `judged` says what the claim says of the run.
+    // text, and `judged` says what the claim says of the run. The line of a claim that holds ends with a remark (`note`) if the run didn't put it to
+    // the test.
     fn write_row(
         &self,
         alloc: Global,

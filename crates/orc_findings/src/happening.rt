@@ -1,5 +1,6 @@
 //! The text of what happens in a run: `Pay(7, 100) answered 2001`. Each writer appends to `text`; its error is refused memory. The loops aren't `for`
-//! loops, since their invariants speak of the rest of the list.
+//! loops, since their invariants speak of the rest of the list. An `Occurrence` is a publication, or what became of a call (its `Phase`); a
+//! `Happening` has its time, too. `sites` are those that the test names.
 
 ghost use Rattle.std.specs.Prelude.{◌≡◌, ◌++◌, OnOk, true, length};
 ghost use Rattle.std.specs.List.{slice_get};

@@ -1,10 +1,14 @@
-//! What a token does next, by the node that it is on and what is around it.
+//! What a token does next, by the node that it is on and what is around it. A *token* marks a part of the program's term that runs. A *step* is the
+//! entry into the right side of a `<x<`, or into the left side of a `;` or a `>x>`. A *cell* stands for the x of an opened `f <x< g`, and a *scope*
+//! says by number what names stand for. An operand is a name or a value.
 //!
 //! In contracts a path is what is around a token, the innermost first: `feeding` is the left side of a `>x>`, `aiding` the right side of a cell,
 //! `trying` the left side of an otherwise, and `whole` nothing. `seen left` leaves out the otherwises that have published, which take nothing.
 //! `what_by` defines what a token does next, `taken` what one on a value does, `of_param` what one at a variable or a value does, and `scan` what one
 //! at a call of a site does. A clause for each `code`, `env` and `left` holds whatever the nodes and the scopes mean and whichever otherwises have
-//! published.
+//! published. `env_of cells scopes n` is what the names of scope n mean. `close` puts that for the names of a term, `close_param` for one argument
+//! and `closed` for a list of operands; `param_of` makes an operand an argument. `code` gives a node's term, and `definitions` lists what the program
+//! defines.
 //!
 //! `from` is the number of a token's innermost step, from which a search goes outwards; 0 is the program as a whole. `scopes` and `cells` are those
 //! of the run: scope n is the n-th item of `scopes` (scope 0 has no names), and `cells` says by number what a cell has become (item 0 is no cell).

@@ -1,7 +1,9 @@
-//! The values of a call's arguments.
+//! The values of a call's arguments. An operand is a name or a value, and a *scope* says by number what names stand for: a value, a cell, or void,
+//! which never has a value. A *cell* stands for the x of an opened `f <x< g`.
 //!
 //! `scopes` and `cells` are those of the run: scope n is the n-th item of `scopes` (scope 0 has no names), and `cells` says by number what a cell has
-//! become (item 0 is no cell).
+//! become (item 0 is no cell). In contracts `env_of cells scopes n` is what the names of scope n mean, `closed` puts that for the operands, and
+//! `values_of` are the values if each has one.
 
 ghost use Rattle.std.specs.Prelude.{◌≡◌, ◌≤◌, List, Some, length, true, false};
 ghost use Rattle.orc_rules.specs.Term.{values_of};

@@ -1,4 +1,5 @@
-//! Whether the left side of an otherwise (`f ; g`) has published, so that its right side never runs.
+//! Whether the left side of an otherwise (`f ; g`) has published, so that its right side never runs. A *step* is the entry into the right side of a
+//! `<x<`, or into the left side of a `;` or a `>x>`. The step into the left side of an otherwise notes whether that has published.
 
 ghost use Rattle.std.specs.Prelude.{◌≡◌, ◌≤◌, false, Some, IfSome, IfNone};
 ghost use Rattle.orc_indexes.specs.Same.{weight};
@@ -20,7 +21,7 @@ fn enters_left_of(entered: Frame, number: u64) -> bool
 
 /// Whether the otherwise with this number, which is the mark of the token that entered it, has published: true keeps its right side from ever
 /// running. `step`, from 1, is a guess which step enters that left side: None if the guess is wrong, and then nothing is known. The contract asks
-/// that at most one step enters the otherwise with this number, so that no other step says otherwise.
+/// that at most one step enters the otherwise with this number (`weight` counts the steps for which `tries` is 1): so no other step tells of it.
 pub fn published_at(steps: &Steps, step: usize, number: u64) -> Option<bool>
     requires { weight (tries number) steps.now.items ≤ 1 }
     ensures left { IfSome result (λ left. left ≡ has_published steps.now.items number) }

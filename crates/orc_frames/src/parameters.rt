@@ -1,7 +1,10 @@
-//! The scopes of a definition's parameters.
+//! The scopes of a definition's parameters. A *scope* binds one name, and extends the scope with the number `outer`. An operand is a name or a value.
+//! A *cell* stands for the x of an opened `f <x< g`.
 //!
 //! `scopes` and `cells` are those of the run: scope n is the n-th item of `scopes` (scope 0 has no names), and `cells` says by number what a cell has
-//! become (item 0 is no cell).
+//! become (item 0 is no cell). In contracts `Adds` says that with the added scopes behind `scopes`, scope n has the parameters alone, with the
+//! meanings of their operands, if each scope extends one of a lower number and each unbound cell stands for itself in `cells`. `Misfit` says when
+//! there is no such scope.
 
 ghost use Rattle.std.specs.Prelude.{◌+◌, IfOk, IfSome, IfNone};
 ghost use Rattle.orc_env.specs.Parameters.{Adds};
@@ -12,11 +15,11 @@ use orc_indexes::{push_within, reserve};
 use orc_rules::param::Operand;
 use std::alloc::AllocError;
 
-/// Writes a scope for each parameter of a definition over `added`. Each binds its parameter to what the operand means in `scope`, the caller's. The
-/// last parameter's scope comes first and extends scope 0, since a body sees nothing but its parameters; each further one extends the one before it.
-/// The caller is to put them behind `scopes`, and their numbers count on from there. Gives the number of the innermost scope, which is added last.
-/// None if there are not as many operands as parameters, or if an operand isn't bound. The error is refused memory, or a number of over 32 bits;
-/// what is in `added` isn't known then.
+/// Writes a scope for each parameter of a definition (`params` has their numbers as variables) over `added`. Each binds its parameter to what the
+/// operand means in `scope`, the caller's. The last parameter's scope comes first and extends scope 0, since a body sees nothing but its parameters;
+/// each further one extends the one before it. The caller is to put them behind `scopes`, and their numbers count on from there. Gives the number of
+/// the innermost scope, which is added last. None if there are not as many operands as parameters, or if an operand is a name that the caller's scope
+/// doesn't have. The error is refused memory, or a number of over 32 bits; what is in `added` isn't known then.
 pub fn parameter_scopes(
     scopes: &[StoredScope],
     cells: &[Bound],

@@ -1,7 +1,10 @@
-//! What takes a publication, and which otherwises (`f ; g`) it passes on its way.
+//! What takes a publication, and which otherwises (`f ; g`) it passes on its way. A *token* marks a part of the program's term that runs. A *step* is
+//! the entry into the right side of a `<x<`, or into the left side of a `;` or a `>x>`. A *cell* stands for the x of an opened `f <x< g`.
 //!
 //! In contracts a path is what is around a token, the innermost first: `feeding` is the left side of a `>x>`, `aiding` the right side of a cell,
-//! `trying` the left side of an otherwise, and `whole` nothing.
+//! `trying` the left side of an otherwise, and `whole` nothing. `GoesTo` says that by the path this takes the publication, `IsOnWay` that the step
+//! around a `>x>` that takes it is met on the way outwards, and `IsEntered` that a step enters what takes it. `seen` leaves out the otherwises that
+//! have published, `crossed` lists those that a publication passes, and `Publishes` says that these are marked and nothing else changes.
 
 ghost use Rattle.std.specs.Prelude.{◌≤◌, ℕ, length};
 ghost use Rattle.orc_rules.specs.Term.{Term};

@@ -1,7 +1,9 @@
-//! The cells for which a call waits.
+//! The cells for which a call waits. An operand is a name or a value, and a *scope* says by number what names stand for: a value, a cell, or void,
+//! which never has a value. A *cell* stands for the x of an opened `f <x< g`, and is unbound until g publishes or halts.
 //!
 //! `scopes` and `cells` are those of the run: scope n is the n-th item of `scopes` (scope 0 has no names), and `cells` says by number what a cell has
-//! become (item 0 is no cell).
+//! become (item 0 is no cell). In contracts `env_of cells scopes n` is what the names of scope n mean, `closed` puts that for the operands, and
+//! `cells_among` lists the unbound cells among them, in order.
 
 ghost use Rattle.std.specs.Prelude.{◌≡◌, OnOk};
 ghost use Rattle.orc_env.specs.Names.{AreOrdered};

@@ -1,4 +1,5 @@
-//! The definitions of a graph. One list holds the parameters of all definitions, one after another; each definition notes its range in that list.
+//! The definitions of a graph, which is what a run reads of a program. One list holds the parameters of all definitions, one after another; each
+//! definition notes its range in that list. A *node* is a term of the program, by its number in the graph.
 
 ghost use Rattle.std.specs.Prelude.{◌≡◌, ◌++◌, ◌∷◌, [], length, map, slice_get, option_map, true, MatchOption, IfOk, OnOk};
 ghost use Rattle.std.specs.List.{AllByRecursion};

@@ -1,4 +1,5 @@
-//! The graph of a program: what a run reads of it.
+//! The graph of a program: what a run reads of it. A *node* is a term, which names its parts by the numbers of their nodes. An *operand* is a name or
+//! a value; a call names the list of its operands by a number.
 
 ghost use Rattle.std.specs.Prelude.{◌≡◌, ◌≤◌, ◌++◌, ◌∷◌, [], length, map, slice_get, slice_index_or, option_map, true, IfOk, IfErr};
 ghost use Rattle.std.specs.List.{AllByRecursion};

@@ -1,4 +1,5 @@
-//! The lists of operands of a graph's calls. They are all in one list, one behind another.
+//! The lists of operands of the calls of a graph, which is what a run reads of a program. They are all in one list, one behind another. An *operand*
+//! is what stands for an argument in the program: a name or a value.
 
 ghost use Rattle.std.specs.Prelude.{◌≡◌, ◌++◌, ◌∷◌, ◌≤◌, [], length, map, slice_index_or, slice_get, IfOk, OnOk};
 ghost use Rattle.orc_rules.specs.declared.limits.TheConstants.{MOST_ARGUMENTS};
@@ -18,7 +19,8 @@ pub(crate) struct Lists {
     ranges: Vec<Range>,
 }
 
-// Contracts see a list of lists. The invariant says that each range lies within `operands`, and has `MOST_ARGUMENTS` items at most.
+// Contracts see a list of lists, and call an operand `Argument`. The invariant says that each range lies within `operands`, and has `MOST_ARGUMENTS`
+// items at most.
 impl Model for Lists {
     ghost use Rattle.std.specs.Prelude.{List, map, length};
     ghost use Rattle.orc_rules.specs.declared.param.Operand.{Operand as Argument};

@@ -1,4 +1,4 @@
-//! One node of a graph.
+//! One node of a graph, which is what a run reads of a program.
 
 use orc_rules::value::Value;
 

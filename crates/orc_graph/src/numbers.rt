@@ -1,4 +1,4 @@
-//! Helpers for the lists of a graph: numbers of 32 bits, ranges, and lists that grow or are copied.
+//! Helpers for the lists of a graph, which is what a run reads of a program: numbers of 32 bits, ranges, and lists that grow or are copied.
 
 ghost use Rattle.orc_graph.specs.Ranges.{cut};
 ghost use Rattle.std.specs.Prelude.{◌≡◌, ◌++◌, ◌∷◌, ◌+◌, ◌≤◌, [], length, IfOk, OnOk, if◌then◌else◌, is_ok};

@@ -1,6 +1,7 @@
 //! Which places of a table hold the members of a group. A *group* is what runs in one branch: a right side of `<x<`, a left side of `;`, or the whole
 //! program. A *chain* is a doubly linked list of these places, so that a place is added and removed in constant time. It is proved only that a
-//! listing names no place twice. Otherwise chains are hints: a wrong one costs time, nothing else.
+//! listing names no place twice. Otherwise chains are hints: a wrong one costs time, nothing else. A group's *members* are the tokens, pending calls
+//! and groups directly in it. Each of these has a table, and each table has chains of its own.
 
 ghost use Rattle.std.specs.Prelude.{◌≡◌, ◌≤◌, ℕ, slice_get};
 ghost use Rattle.orc_indexes.specs.Same.{weight};

@@ -1,4 +1,5 @@
-//! When calls are due: notes of due times with the numbers of the calls.
+//! When calls are due: notes of due times with the numbers of the calls. A call of a site *pends* until it is answered, and is *due* at the time at
+//! which the table of sites answers it.
 
 ghost use Rattle.std.specs.Prelude.{◌≡◌, ◌<◌, ℕ, [], List, length, true, false, OnOk, MatchOption};
 ghost use Rattle.orc_indexes.specs.Dues.{IsNoted, IsBefore, IsEarliest, IsLeastFrom, KeepsBut};
@@ -17,7 +18,8 @@ pub struct Dues {
     others: BTreeSet<(u64, u64)>,
 }
 
-// Contracts see one list of all notes. The first one is before all others, and without it there are no others.
+// Contracts see one list of all notes. The first one is before all others, and without it there are no others. `IsNoted` says that a note is there,
+// `IsEarliest` and `IsLeastFrom` which one `first` and `first_at` give, and `KeepsBut` that all notes stay but one, which may go.
 impl Model for Dues {
     ghost use Rattle.std.specs.Prelude.{ℕ, List};
     ghost use Rattle.orc_indexes.specs.Dues.{notes_of, IsFirst};

@@ -1,4 +1,6 @@
-//! Which slots hold a token that is known to wait, and the tokens that wait for each cell.
+//! Which slots hold a token that is known to wait, and the tokens that wait for each cell. A *token* marks a part of the program's term that runs;
+//! its *slot* is its place in the table of tokens, and its *serial* its number in the journal. A *cell* stands for the x of an opened `f <x< g`: a
+//! token may wait for its value.
 
 ghost use Rattle.std.specs.Prelude.{◌≡◌, ◌++◌, ◌∷◌, [], ◌<◌, ℕ, length, map, true, false, vec_len, vec_items, OnOk, MatchOption, slice_set};
 ghost use Rattle.orc_indexes.specs.Same.{weight};

@@ -1,4 +1,7 @@
-//! A journal in memory.
+//! A journal in memory. A *row* stands for an entry, and the *tables* have what doesn't fit into rows. A *token* marks a part of the program's term
+//! that runs; its *mark* is its number in the journal. A *cell* stands for the x of an opened `f <x< g`, a pruning. An entry's *kind* (`fork`, say)
+//! tells which numbers it has; its *line* is its text in a written journal. A *cancel* is the entry with which a pending call goes, since a `bind`
+//! has dropped the right side of a `<x<` in which it was.
 //!
 //! A call that adds an entry makes room for its row, then adds to the tables, and puts the row in last, which can't fail. So where memory is refused
 //! no row was added; what the tables have more is named by none. In calls that add an entry `token` is the mark of the token that moves,

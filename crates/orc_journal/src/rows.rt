@@ -1,7 +1,9 @@
-//! The rows of a journal: an entry in 16 bytes each, and tables of what doesn't fit there.
+//! The rows of a journal: an entry in 16 bytes each, and tables of what doesn't fit there. An entry's *line* is its text; its numbers are those of
+//! tokens (their *marks*), of cells and of calls, or a time.
 //!
 //! Tables only grow at their ends, so each row stands for one entry for good (`Keeps`). What a refused call has added stays in them, but no row names
-//! it. A value's place is its number among the values, from 0.
+//! it. A value's place is its number among the values, from 0. In clauses `Names` says which parts a row has, `StandsFor` for which entry it stands,
+//! and `IsWithin` that all that it names is in the tables; `grown` are tables with more at their ends.
 
 ghost use Rattle.std.specs.Prelude.{◌≡◌, ◌≤◌, ◌∷◌, List, [], length, take, drop, slice_index_or, option_to_list, IfOk, IfSome, OnOk, OnErr};
 ghost use Rattle.orc_rules.specs.Trace.{published};
@@ -32,7 +34,7 @@ pub struct Parts {
 /// A row, which stands for an entry: it has the entry's parts, that is, its kind and numbers, or names their place.
 #[derive(Clone, Copy)]
 pub enum Row {
-    /// The first three of its parts, if they fit 32 bits; the kind and the third one tell the fourth (`last_of`).
+    /// Its kind and the first three of its numbers, if these fit 32 bits; the kind and the third one tell the fourth (`last_of`).
     Narrow(Kind, u32, u32, u32),
     /// Any other entry: the place of its parts among `wides`.
     Wide(usize),
@@ -199,8 +201,8 @@ impl Tables {
     }
 
     // The place of a value among the values, from 0. A value that equals the one stored last isn't stored again: most often a `send` follows a
-    // `return` with its value, and then a call has that value as its argument. The error is refused memory. Each row so far stands for what it did
-    // (`Keeps`).
+    // `return` with its value, and then a call has that value as its argument. The error is refused memory. The other tables stay, and each row so
+    // far stands for what it did (`Keeps`).
     #[inline(always)]
     fn place(&mut self, value: Value) -> Result<usize, AllocError>
         ensures kept { Keeps self.old self.new }
@@ -215,8 +217,8 @@ impl Tables {
         Ok(end)
     }
 
-    // The place, among the values, of the first of a call's arguments, which follow one another. The error is refused memory. Each row so far stands
-    // for what it did (`Keeps`).
+    // The place, among the values, of the first of a call's arguments, which follow one another. The error is refused memory. The other tables stay,
+    // and each row so far stands for what it did (`Keeps`).
     fn place_all(&mut self, values: &[Value]) -> Result<usize, AllocError>
         ensures kept { Keeps self.old self.new }
         ensures same { (self.new.calls ≡ self.old.calls) × (self.new.wides ≡ self.old.wides) }

@@ -1,4 +1,6 @@
 //! The journal of a part's own run, appended to the enclosing run's journal under the numbers that `Numbering` gives. `own` is a number in the part.
+//! A *row* stands for an entry, whose kind and numbers are its parts; the *tables* have what doesn't fit into rows. A tick is the entry that sets the
+//! time, a cancel the one with which a pending call goes. A *mark* is the number of a token. A *cell* stands for the x of an opened `f <x< g`.
 
 ghost use Rattle.std.specs.Prelude.{◌≡◌, ◌+◌, ◌∷◌, [], List, map, true, IfOk, OnOk, OnErr};
 ghost use Rattle.orc_rules.specs.declared.entry.Entry.{Entry as EntryOf};
@@ -73,7 +75,8 @@ impl Tables {
     }
 
     // Adds a part's entry to these tables under the enclosing run's numbers, and gives its row here. `row` is its row in the part; the letters s, a,
-    // b, c and k are those of `Entry`, in the enclosing run. The error is refused memory, or a number that doesn't fit 64 bits.
+    // b, c and k are those of `Entry`, in the enclosing run. The error is refused memory, or a number that doesn't fit 64 bits. In each case the rows
+    // so far stand for what they did (`Keeps`).
     #[inline(always)]
     fn add_moved(
         &mut self,

@@ -1,4 +1,4 @@
-//! Which entries have a line: all but a call of a site that the table doesn't have.
+//! Which entries have a *line*, their text in a journal: all but a call of a site that the table of sites (`answers`) doesn't have.
 
 ghost use Rattle.std.specs.Prelude.{◌≡◌, ◌<◌, ◌^◌, true, false};
 ghost use Rattle.orc_rules.specs.Text.{AreValues, Fits, IsNamed, IsValue};
@@ -41,13 +41,14 @@ fn values_fit(list: &[Value])
     }
 }
 
-/// Whether an entry has a line: a call has one if the table names its site, any other entry always.
+/// Whether an entry has a line: a call has one if the table names its site (`IsNamed`), any other entry always.
 pub fn has_line(entry: &Entry, answers: &Answers) -> bool
     ensures named { result ≡ true → IsNamed answers.now.names entry.now }
     ensures fits { result ≡ true → Fits answers.now.names entry.now }
     ensures unnamed { result ≡ false → IsNamed answers.now.names entry.now → ⊥ }
 {
-    // Only the arm of a call decides something; the others show the prover that their fields fit.
+    // Only the arm of a call decides something; the others show the prover that their fields fit. Here v is a value, and each other letter stands for
+    // a number.
     match entry {
         Entry::End(n) | Entry::Void(n) | Entry::Lost(n) | Entry::Tick(n) | Entry::Cancel(n) =>
             number_fits(*n),

@@ -1,5 +1,6 @@
 //! The entries of a journal's text, read one after another from any reader. Of the text 64 KiB are in memory at most, or about twice the longest line
-//! if a site's name makes that more.
+//! if a site's name makes that more. `answers` is the table of sites, which has their names. A *cancel* is the entry with which a pending call goes,
+//! since a `bind` has dropped the right side of a `<x<` in which it was.
 
 ghost use Rattle.std.specs.Prelude.{◌≡◌, ◌<◌, ◌^◌, ◌+◌, ◌-◌, ◌++◌, ◌∷◌, [], if◌then◌else◌, List, ℕ, true, false, IfOk, IfErr, IfSome, OnErr, Some};
 ghost use Rattle.std.specs.Io.KnownBytes.{Consumes};
@@ -32,7 +33,7 @@ const HEADER: usize = 14;
 /// Why the entries of a text can't be read to its end.
 #[derive(Clone, Copy, PartialEq, Eq, Debug)]
 pub enum LinesFault {
-    /// The text isn't that of a journal, or memory was refused.
+    /// The text isn't that of a journal (J1 to J3), or memory was refused (J4).
     Text(JournalFault),
     /// The reader failed.
     Unread,

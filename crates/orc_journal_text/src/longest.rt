@@ -10,7 +10,7 @@ use orc_rules::answers::Answers;
 /// A line has fewer bytes than this, its site's name aside. The longest, of a call with 16 arguments, has 400; these and their commas take 350.
 const MOST_UNNAMED: usize = 512;
 
-// Whether no site's name has more than `most` bytes.
+// Whether no name of a site in the table `answers` has more than `most` bytes.
 fn are_names_within(answers: &Answers, most: usize) -> bool
     ensures { result ≡ true → AreNamesWithin answers.now.names most }
 {
@@ -26,8 +26,8 @@ fn are_names_within(answers: &Answers, most: usize) -> bool
     true
 }
 
-/// Whether these are surely as many bytes as the longest line can have, with the sites that the table names. If they don't begin with a line, no
-/// further byte can make one.
+/// Whether these are surely as many bytes as the longest line can have, with the sites that the table `answers` names. If they don't begin with a
+/// line, no further byte can make one.
 pub(crate) fn is_longest(bytes: &[u8], answers: &Answers) -> bool
     ensures some { result ≡ true → 0 < length bytes.now }
     ensures longest { result ≡ true → (e : EntryOf) → Fits answers.now.names e → length (line answers.now.names e) ≤ length bytes.now }

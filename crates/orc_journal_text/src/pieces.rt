@@ -1,4 +1,5 @@
-//! A text that is read piece by piece into a buffer, the room.
+//! A text that is read piece by piece into a buffer, the room. Bytes are *used* once the caller has read what they spell. In clauses, where it is
+//! known what the reader still has (`R.remaining`), `Consumes` says that these bytes were taken from its front, and `IsAtEnd` that nothing is left.
 
 ghost use Rattle.std.specs.Prelude.{◌≡◌, ◌<◌, ◌≤◌, ◌-◌, ◌+◌, ◌^◌, [], List, ℕ, length, take, drop, slice_range, true, false, IfOk, IfErr, IfSome, OnOk, OnErr};
 ghost use Rattle.std.specs.Io.KnownBytes.{Consumes, IsAtEnd};

@@ -1,6 +1,7 @@
 //! Reading one entry from its line. Each function takes what it reads from the front of the bytes, and gives the bytes behind it; None if something
 //! else is there. Its contract says that it returns what the definition of its name in `specs/Reading` gives; a line `#[tactic(..)]` only tells the
-//! prover which of these definitions to unfold.
+//! prover which of these definitions to unfold. A *mark* is the number of a token, a part of the program's term that runs. `answers` is the table of
+//! sites. `Fits` says that an entry has a line: its numbers fit 64 bits, and the table has its site.
 
 ghost use Rattle.std.specs.Prelude.{◌≡◌, ◌++◌, ◌∷◌, [], List, length, option_map, ℕ, IfSome, Some, true, slice_get, ◌<◌, ◌≤◌, ◌^◌, ◌-◌, negsuc};
 ghost use Rattle.orc_rules.specs.Digits.{Gives, digits_at};

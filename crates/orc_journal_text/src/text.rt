@@ -1,4 +1,5 @@
-//! The text of a whole journal: read into memory, and written from it.
+//! The text of a whole journal: read into memory, and written from it. `answers` is the table of sites, which has their names. A *cancel* is the
+//! entry with which a pending call goes, since a `bind` has dropped the right side of a `<x<` in which it was.
 
 ghost use Rattle.std.specs.Prelude.{◌≡◌, ◌++◌, ◌+◌, ◌<◌, ◌^◌, if◌then◌else◌, List, ℕ, true, false, IfOk, IfErr, IfSome, Some, OnOk, MatchResult};
 ghost use Rattle.orc_rules.specs.declared.entry.Entry.{Entry as EntryOf};

@@ -1,5 +1,6 @@
-//! Writing one entry as its line, and values as text. A `Tail` grows at its front: the fields of a line are put from the last one to the first. The
-//! letters s, a, b, c, k and v are those of `Entry`.
+//! Writing one entry as its line, and values as text. A `Tail` grows at its front: the fields of a line are put from the last one to the first. Of
+//! the letters s, a and b are marks (the numbers of tokens), c is a cell (it stands for the x of an opened `f <x< g`), k a call, and v a value.
+//! `answers` is the table of sites, which has their names.
 
 ghost use Rattle.std.specs.Prelude.{◌≡◌, ◌++◌, ◌<◌, OnOk, length, ◌∷◌, []};
 ghost use Rattle.orc_rules.specs.Text.{value_text, closing, arguments, call, line, output, IsNamed};
@@ -88,8 +89,8 @@ fn push_call(out: &mut Vec<u8>, site: u32, args: &Args, answers: &Answers) -> Re
     Ok(())
 }
 
-// Appends the line of a call: `token` is the mark of the token that makes it, `number` the call's. Its front is put together on the stack; the site's
-// name, whose length has no bound, is appended by itself.
+// Appends the line of a call: `token` is the mark of the token that makes it, `number` the call's. The table has to have the site. The line's front
+// is put together on the stack; the site's name, whose length has no bound, is appended by itself.
 fn write_call(
     out: &mut Vec<u8>,
     token: u64,

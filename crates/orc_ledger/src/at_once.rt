@@ -1,10 +1,16 @@
-//! Calls that the table of sites answers at once: the call and its answer in one go.
+//! Calls that the table of sites answers at once: the call and its answer in one go. A *token* marks a part of the program's term that runs: it is in
+//! a *slot* of the table of tokens, and on a value, or at a node in a *scope* (by number, what the names there stand for). Its mark, or serial, is
+//! its number in the journal; its step is the innermost entry around it into the right side of a `<x<`, or into the left side of a `;` or a `>x>`, 0
+//! for none. *Operands* are names and values; the arguments are the values that they stand for. [`Called`] says what has become of a call: it pends,
+//! with its number; it was answered, with the value; or it halted, out of the group with that number, which may have no member any more.
 //!
 //! Of the clauses `held` says that the token is in the slot, `at` or `form` what it is on, `done` what becomes of the records, `others` which tokens
 //! stay in their slots, `refused` that a refused call changes nothing, and `why` its cause.
 //!
 //! `within(t, g, d)` asks whether the limits allow an entry that brings t tokens and g groups more, and a token inside d left sides of a `>x>` (0
-//! where it enters none). `IsRefused` has the same three numbers.
+//! where it enters none). `IsRefused` has the same three numbers. Full means that the tokens with the pending calls, the groups, or the left sides of
+//! a `>x>` around one token would be too many, Limit that the journal has as many entries as it may, Memory that memory was refused. `P` names the
+//! run: `P.listing` is its program, where `code` gives the term of a node, and `P.sites` the table of its sites.
 
 ghost use Rattle.std.specs.Prelude.{◌≡◌, ◌++◌, ◌∷◌, [], map, slice_index_or, IfOk, IfErr, IfSome, IfNone, OnOk, OnErr};
 ghost use Rattle.orc_rules.specs.Nodes.{code, definitions, param_of};

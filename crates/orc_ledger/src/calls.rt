@@ -1,4 +1,7 @@
-//! The answers of pending calls: a call returns a value, or halts.
+//! The answers of pending calls: a call returns a value, or halts. A call *pends* from its own entry on, in the place of the token that made it: a
+//! *token* marks a part of the program's term that runs. A call's or a token's step is the innermost entry around it into the right side of a `<x<`,
+//! or into the left side of a `;` or a `>x>`, 0 for none, and `self.steps` tells by that its group. `found` is what the table of sites says of a
+//! call: an answer after a delay from `made_at` on, or none ever. `P` names the run: `P.listing` is its program and `P.sites` the table of its sites.
 
 ghost use Rattle.std.specs.Prelude.{◌≡◌, ◌<◌, Some, None, IfOk, IfErr, OnOk, OnErr};
 ghost use Rattle.orc_rules.specs.Timed.{IsIn};

@@ -1,10 +1,15 @@
-//! Calls of definitions.
+//! Calls of definitions. A *token* marks a part of the program's term that runs: it is in a *slot* of the table of tokens, and its step is the
+//! innermost entry around it into the right side of a `<x<`, or into the left side of a `;` or a `>x>`, 0 for none. A *scope* binds one name, and
+//! extends another scope; scope 0 has no names. `self.cells` says by number what each cell, which stands for the x of an opened `f <x< g`, has
+//! become. An operand is a name or a value.
 //!
 //! Of the clauses `held` says that the token is in the slot, `at` what it is on, `done` what becomes of the records, `undone` why the call isn't
 //! made, `others` which tokens stay in their slots, `refused` that a refused call changes nothing, and `why` its cause.
 //!
 //! `within(t, g, d)` asks whether the limits allow an entry that brings t tokens and g groups more, and a token inside d left sides of a `>x>` (0
-//! where it enters none). `IsRefused` has the same three numbers.
+//! where it enters none). `IsRefused` has the same three numbers. Full means that the tokens with the pending calls, the groups, or the left sides of
+//! a `>x>` around one token would be too many, Limit that the journal has as many entries as it may, Memory that memory was refused. `P` names the
+//! run: `P.listing` is its program, where `code` gives the term of a node.
 
 ghost use Rattle.std.specs.Prelude.{◌≡◌, ◌+◌, ◌≤◌, ◌++◌, [], ℕ, true, false, length, map, vec_len, vec_capacity, slice_index_or, IfOk, IfErr, OnErr, OnOk};
 ghost use Rattle.orc_rules.specs.Nodes.{code, param_of};

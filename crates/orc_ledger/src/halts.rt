@@ -1,4 +1,8 @@
-//! Groups that halt: no token, no pending call and no other group is in them any more.
+//! Groups that halt: no token, no pending call and no other group is in them any more. A *group* is what runs in the right side of an `f <x< g`,
+//! whose *cell* stands for x and is *void* once no value can come any more, or in the left side of an *otherwise*, an `f ; g`, whose number is the
+//! mark of the token that entered it. A *step* is the entry into such a side, or into the left side of a `>x>`; `group.outer` is the number of the
+//! innermost step around the whole `f <x< g` or `f ; g`, 0 for none. `P` names the run: `P.listing` is its program, where `code` gives the term of a
+//! node.
 
 ghost use Rattle.std.specs.Prelude.{◌≡◌, Some, IfOk, OnOk, OnErr, IfErr, MatchOption};
 ghost use Rattle.orc_rules.specs.Nodes.{code};
@@ -46,8 +50,9 @@ impl<P: Run> Ledger<P> {
 
     /// Ends the group with this number, which has no member: no token, no pending call and no inner group. If it is a right side of a `<x<`, it is
     /// lost: its cell becomes void. If it is the left side of an otherwise, the right side starts, unless the left side has published: then the group
-    /// goes without an entry. Each token stays in its slot. Gone if no open group has this number (the program's own, 0, isn't one), Live if the
-    /// group has members, Refused with the ledger's fault if the group's entry is refused. A group that is refused stays.
+    /// goes without an entry. Each token stays in its slot. The answer is `Lost` with the cell and the group around, `Resumed` with the slot of the
+    /// token on the right side, or `Closed` with the group around. Gone if no open group has this number (the program's own, 0, isn't one), Live if
+    /// the group has members, Refused with the ledger's fault if the group's entry is refused. A group that is refused stays.
     pub fn halt(&mut self, number: u32) -> Result<Halted, HaltFault>
         ensures done { IfOk result (λ h. HasHalted (code P.listing) self.old self.new number h) }
         ensures others { OnOk result (KeepsAll self.old.slots self.new.slots) }

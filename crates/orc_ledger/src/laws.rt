@@ -1,5 +1,7 @@
 //! Laws of a ledger: each function's contract is the law. Nothing runs: to name a field shows the prover the ledger's invariant, from which the law
-//! follows.
+//! follows. A *token* marks a part of the program's term that runs. The *records* are what the ledger keeps of the tokens, the pending calls and the
+//! open sides. A *marked term* is a term with its tokens, pending calls and cells (a cell stands for the x of an opened `f <x< g`). A run is *quiet*
+//! if it hasn't halted, no rule applies and no tick is possible. `P` names the run: `P.listing` is its program and `P.sites` the table of its sites.
 
 ghost use Rattle.orc_ledger_spec.specs.Moves.{CallsFit};
 ghost use Rattle.orc_ledger_spec.specs.Offered.{NothingIsLost};

@@ -1,5 +1,7 @@
 //! The ledger, a new one, and what it tells of itself. Its invariant (`IsKept`) says above all that the journal leads, by Orc's rules, from the
-//! program's term to the marked term that its records describe.
+//! program's term to the marked term (a term with its tokens, pending calls and cells) that its records describe. A *cancel* is the entry with which
+//! a pending call goes, since it is inside the right side of a cell that was bound. `P` names the run: its program (`P.listing`), the table of its
+//! sites (`P.sites`), the limit of its entries, and whether it keeps its journal.
 
 ghost use Rattle.std.specs.Prelude.{◌≡◌, ◌+◌, ◌<◌, ◌≤◌, ◌∷◌, ◌⊎◌, [], true, false, length, IfOk, IfErr, IfSome, IfNone, OnOk, OnErr};
 ghost use Rattle.orc_rules.specs.Timed.{IsIn};

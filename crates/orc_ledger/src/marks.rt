@@ -1,4 +1,7 @@
-//! The entries of a token that stands at a node: an end, a void token, a fork, the left side of a `>x>` and of an otherwise, a pruning.
+//! The entries of a token that stands at a node: an end, a void token, a fork, the left side of a `>x>` and of an otherwise, a pruning. A *token*
+//! marks a part of the program's term that runs, in a *slot* of the table of tokens; its *mark*, or serial, is its number in the journal. A *scope*
+//! says by number what names stand for, and a *cell* stands for the x of an opened `f <x< g`. A *step* is the entry into the right side of a `<x<`,
+//! or into the left side of a `;` or a `>x>`; a token has the number of the innermost one around it, 0 for none.
 //!
 //! Each function first asks the limits (`within`: Full or Limit) and reserves memory (Memory), and then writes its entry: once that is written,
 //! nothing refuses it any more. So what is refused has changed nothing. Each takes the token that is in the slot, and the scope of its term; `left`
@@ -8,7 +11,9 @@
 //! stay in their slots, `refused` that a refused call changes nothing, and `why` its cause.
 //!
 //! `within(t, g, d)` asks whether the limits allow an entry that brings t tokens and g groups more, and a token inside d left sides of a `>x>` (0
-//! where it enters none). `IsRefused` has the same three numbers.
+//! where it enters none). `IsRefused` has the same three numbers. Full means that the tokens with the pending calls, the groups, or the left sides of
+//! a `>x>` around one token would be too many, Limit that the journal has as many entries as it may, Memory that memory was refused. `P` names the
+//! run: `P.listing` is its program, where `code` gives the term of a node.
 
 ghost use Rattle.std.specs.Prelude.{◌≡◌, ◌+◌, ℕ, length, IfOk, IfErr, OnOk, OnErr};
 ghost use Rattle.orc_rules.specs.Nodes.{code};

@@ -1,11 +1,17 @@
-//! Moves of tokens: a token takes its action. Each `move_..` makes the entry that one kind of node, or of taker, asks for, and says as [`Moved`]
-//! what has become of the token. A fault is that of the entry, and then nothing has changed.
+//! Moves of tokens: a token takes its action. Each `move_..` makes the entry that one kind of node, or of taker, asks for, and says as [`Moved`] what
+//! has become of the token: `On` is one new token in its slot. A fault is that of the entry, and then nothing has changed: Full if tokens with
+//! pending calls, groups, or left sides of a `>x>` around a token would be too many, Limit if the journal has as many entries as it may, Memory if
+//! memory is refused. A *token* marks a part of the program's term that runs: it is in a *slot* of the table of tokens, and on a value, or at a node
+//! in a *scope* (by number, what the names there stand for). A *cell* stands for the x of an opened `f <x< g`. A *step* is the entry into the right
+//! side of a `<x<`, or into the left side of a `;` or a `>x>`; a token has the number of the innermost one around it, and `outer` is one further out.
+//! `inputs` are the program's nodes and the table that answers calls.
 //!
 //! Of the clauses `held` says that the token is in the slot, `at` or `form` what it is on, `done` what becomes of the records, `others` which tokens
 //! stay in their slots, `refused` that a refused call changes nothing, and `why` its cause. `asked` says that a claim was got if the move needs one:
 //! `HasAsked` takes what is true of a claim that wasn't asked and of one that was got, `IsBarredAt` the first and that of one that was lost. The ks
 //! in `Moves` are the calls that a bind cancels: for other moves any list will do. `takes` says what takes the value, `way` and `side` that this is
-//! around the token, and `there` and `fits` that the scope and the step that go with it are there.
+//! around the token, and `there` and `fits` that the scope and the step that go with it are there. `P` names the run: `P.listing` is its program,
+//! where `code` gives the term of a node.
 
 ghost use Rattle.std.specs.Prelude.{◌≡◌, ◌≤◌, ℕ, List, [], map, length, true, false, Some, None as Nothing, slice_index_or, IfOk, IfErr, IfSome, IfNone, OnOk, OnErr};
 ghost use Rattle.orc_rules.specs.declared.param.Param.TheVariants.{Name, Is};

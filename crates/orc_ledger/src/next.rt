@@ -1,4 +1,7 @@
-//! What comes next in a run, where its caller has no token in mind: a token that can move, an empty group, a tick, or nothing.
+//! What comes next in a run, where its caller has no token in mind: a token that can move, an empty group, a tick, or nothing. A *token* marks a part
+//! of the program's term that runs, in a *slot* of the table of tokens. A *tick* is the entry that sets the time to the next one at which a call is
+//! due. In contracts `numbers_of` says which number each group has and in which group each record is; `members` counts those of one group. `P` names
+//! the run: `P.listing` is its program, where `code` gives the term of a node, and `P.sites` the table of its sites.
 
 ghost use Rattle.std.specs.Prelude.{◌≡◌, ◌≤◌, ◌↔◌, true, false, MatchOption};
 ghost use Rattle.orc_rules.specs.Nodes.{code, definitions};

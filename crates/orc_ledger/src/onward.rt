@@ -1,7 +1,13 @@
-//! Moves in one go: a token enters the left side of a `>x>`, the call there is made and answered at once, and the `>x>` takes the answer.
+//! Moves in one go: a token enters the left side of a `>x>`, the call there is made and answered at once, and the `>x>` takes the answer. A *token*
+//! marks a part of the program's term that runs: it is in a *slot* of the table of tokens, and on a value, or at a node in a *scope* (by number, what
+//! the names there stand for). A *step* is the entry into the right side of a `<x<`, or into the left side of a `;` or a `>x>`; a token has the
+//! number of the innermost one around it. A *group* is what runs in a right side of a `<x<`, a left side of a `;`, or the whole program. [`Passed`]
+//! says what has become of the token that makes the call: `Through` if the `>x>` has taken the answer, `Answered` if the answer is still in the left
+//! side, `Pends` with the call's number, `Halted` with the group in which the call halted, `On` if no call was made.
 //!
 //! Of the clauses `held` says that the token is in the slot, `at` or `form` what it is on, `done` what becomes of the records, `others` which tokens
-//! stay in their slots, `refused` that a refused call changes nothing, and `why` its cause.
+//! stay in their slots, `refused` that a refused call changes nothing, and `why` its cause. `P` names the run: `P.listing` is its program, where
+//! `code` gives the term of a node, and `P.sites` the table of its sites.
 
 ghost use Rattle.std.specs.Prelude.{◌≡◌, ℕ, List, [], map, true, false, slice_index_or, IfOk, IfErr, OnOk, OnErr};
 ghost use Rattle.orc_rules.specs.Nodes.{code, param_of};

@@ -1,4 +1,6 @@
-//! What a token publishes: a publication of the program, or what a `>x>` takes.
+//! What a token publishes: a publication of the program, or what a `>x>` takes. A *token* marks a part of the program's term that runs, in a *slot*
+//! of the table of tokens. A *step* is the entry into the right side of a `<x<`, or into the left side of a `;` or a `>x>`; a token has the number of
+//! the innermost one around it, 0 for none. A *scope* says by number what names stand for. A *cell* stands for the x of an opened `f <x< g`.
 //!
 //! In contracts a path is what is around a token, the innermost first: `feeding` is the left side of a `>x>`, `aiding` the right side of a cell,
 //! `trying` the left side of an otherwise, and `whole` nothing. `crossed` are the otherwises that a publication passes.
@@ -8,7 +10,9 @@
 //! call changes nothing, and `why` its cause.
 //!
 //! `within(t, g, d)` asks whether the limits allow an entry that brings t tokens and g groups more, and a token inside d left sides of a `>x>` (0
-//! where it enters none). `IsRefused` has the same three numbers.
+//! where it enters none). `IsRefused` has the same three numbers. Full means that the tokens with the pending calls, the groups, or the left sides of
+//! a `>x>` around one token would be too many, Limit that the journal has as many entries as it may, Memory that memory was refused. `P` names the
+//! run: `P.listing` is its program, where `code` gives the term of a node.
 
 ghost use Rattle.std.specs.Prelude.{◌≡◌, ◌+◌, ◌<◌, ◌≤◌, ◌∷◌, [], ℕ, length, IfOk, IfErr, OnOk, OnErr};
 ghost use Rattle.orc_rules.specs.Nodes.{code};

@@ -1,13 +1,17 @@
-//! Calls of sites: a token makes one, and it pends; what it asks.
+//! Calls of sites: a token makes one, and it pends; what it asks. A *token* marks a part of the program's term that runs: it is in a *slot* of the
+//! table of tokens, and at a node in a *scope* (by number, what the names there stand for). Its mark, or serial, is its number in the journal. Its
+//! step is the innermost entry around it into the right side of a `<x<`, or into the left side of a `;` or a `>x>`, 0 for none, and the call keeps
+//! that step. *Operands* are names and values; the arguments are the values that they stand for.
 //!
 //! Of the clauses `held` says that the token is in the slot, `at` or `form` what it is on, `done` what becomes of the records, `others` which tokens
 //! stay in their slots, `refused` that a refused call changes nothing, and `why` its cause.
 //!
 //! `within(t, g, d)` asks whether the limits allow an entry that brings t tokens and g groups more, and a token inside d left sides of a `>x>` (0
-//! where it enters none). `IsRefused` has the same three numbers.
+//! where it enters none). `IsRefused` has the same three numbers. Full means that the tokens with the pending calls, the groups, or the left sides of
+//! a `>x>` around one token would be too many, Limit that the journal has as many entries as it may, Memory that memory was refused.
 //!
-//! `P` names the run: `P.listing` is its program and `P.sites` the table of its sites. `IsMade` says that the call's entry is written and counted, and
-//! that the call pends in the token's place.
+//! `P` names the run: `P.listing` is its program and `P.sites` the table of its sites. `IsMade` says that the call's entry is written and counted,
+//! and that the call pends in the token's place.
 
 ghost use Rattle.std.specs.Prelude.{◌≡◌, ◌<◌, ◌++◌, ◌∷◌, [], ℕ, true, Some, IfOk, IfErr, MatchOption, OnOk, OnErr, length};
 ghost use Rattle.orc_rules.specs.Nodes.{code, definitions};
@@ -156,10 +160,10 @@ impl<P: Run> Ledger<P> {
         Ok(())
     }
 
-    /// Makes the call of a site at which this token is, which is in the slot `slot`. The clause `calls` asks that all operands of the call have values.
-    /// Then the call pends in the token's place, and the slot is free. Gives the call's record. `args` is lent for the arguments: it has them
-    /// afterwards, and what it held is lost. Full, Limit or Memory if the entry is refused; then nothing changes but `args`. Tokens in other slots stay
-    /// there.
+    /// Makes the call of a site at which this token is, which is in the slot `slot`. The clause `calls` asks that all operands of the call have
+    /// values. Then the call pends in the token's place, and the slot is free. Gives the call's record. `args` is lent for the arguments: it has them
+    /// afterwards, and what it held is lost. Full, Limit or Memory if the entry is refused; then nothing changes but `args`. Tokens in other slots
+    /// stay there.
     pub fn call(
         &mut self,
         inputs: &Inputs<'_, P>,

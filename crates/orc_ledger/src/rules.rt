@@ -1,4 +1,7 @@
-//! What the rules of Orc say of a run's end: whether a token can use a rule, and whether the term has halted.
+//! What the rules of Orc say of a run's end: whether a token can use a rule, and whether the term has halted. A *token* marks a part of the program's
+//! term that runs, in a *slot* of the table of tokens. A *place* is where a journal has led: a term with its tokens, pending calls and cells, at a
+//! time. `IsAt` says that the records' journal has led to a place, and `erase` gives the place's term without the marks of its tokens. `P` names the
+//! run: `P.listing` is its program, where `code` gives the term of a node, and `P.sites` the table of its sites.
 
 ghost use Rattle.std.specs.Prelude.{◌≡◌, ◌≤◌, ◌↔◌, true, IfSome};
 ghost use Rattle.orc_rules.specs.Nodes.{code, definitions};

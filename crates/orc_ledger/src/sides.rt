@@ -1,11 +1,16 @@
-//! Sides that end: the right side of a cell that is bound or lost, and the left side of an otherwise.
+//! Sides that end: the right side of a cell that is bound or lost, and the left side of an otherwise. `self.steps` are the run's steps. A *step* is
+//! the entry into one of these sides, or into the left side of a `>x>`; a token and a call have the number of the innermost one around them. A
+//! *token* marks a part of the program's term that runs, in a *slot* of the table of tokens. A *group* is an open side with its members: the tokens,
+//! pending calls and groups directly in it. A *cell* stands for the x of an opened `f <x< g`, and is *lost*, or void, if g halts without a value.
 //!
 //! Of the clauses `held` says that the token is in the slot, `at` or `form` what it is on, `done` what becomes of the records, `others` which tokens
 //! stay in their slots, `refused` that a refused call changes nothing, and `why` its cause. `taker path ≡ aiding cell p` says that the right side of
 //! that cell is the nearest that takes what the token publishes.
 //!
 //! A function that writes an entry first asks `within` whether the limits allow it. The arguments are how many tokens and how many groups the entry
-//! adds, and in how many left sides of a `>x>` it puts a token: 0 here, where none is entered. `IsRefused` has the same three numbers.
+//! adds, and in how many left sides of a `>x>` it puts a token: 0 here, where none is entered. `IsRefused` has the same three numbers. Full means
+//! that the tokens with the pending calls would be too many, Limit that the journal has as many entries as it may, Memory that memory was refused.
+//! `P` names the run: `P.listing` is its program, where `code` gives the term of a node.
 
 ghost use Rattle.std.specs.Prelude.{◌≡◌, ◌+◌, ◌-◌, ◌++◌, ◌∷◌, [], ◌<◌, true, length, map, false, IfOk, OnOk, OnErr, IfErr, slice_set};
 ghost use Rattle.orc_rules.specs.Nodes.{code};

@@ -1,8 +1,12 @@
 //! Sub-runs: a call of a definition with values is a program of its own, which a ledger of its own can run, on another thread too. When that run is
 //! over, or yields one value, its entries are merged into the journal of the enclosing run, as if they had been made there. A *part* is such a
-//! sub-run.
+//! sub-run. A *token* marks a part of the program's term that runs: it is in a *slot* of the table of tokens, and on a value, or at a node in a
+//! *scope* (by number, what the names there stand for). Its mark, or serial, is its number in the journal; its step is the innermost entry around it
+//! into the right side of a `<x<`, or into the left side of a `;` or a `>x>`, 0 for none. A *cell* stands for the x of an opened `f <x< g`. A
+//! *cancel* is the entry with which a pending call goes, since a `bind` has dropped the right side of a `<x<` in which it was.
 //!
-//! In contracts `weight w items` is the sum of w over the items: an equation for every w says which items there are, in any order.
+//! In contracts `weight w items` is the sum of w over the items: an equation for every w says which items there are, in any order. `P` names the run:
+//! `P.listing` is its program, where `code` gives the term of a node, and `P.sites` the table of its sites.
 
 ghost use Rattle.std.specs.Prelude.{◌≡◌, ◌≤◌, ◌<◌, ◌+◌, ◌-◌, ◌^◌, ◌++◌, ◌⊎◌, ℕ, true, false, length, None, IfOk, IfErr, IfSome, MatchOption, OnOk, OnErr, vec_len, vec_capacity, option_to_list};
 ghost use Rattle.orc_rules.specs.Nodes.{code, definitions, source};

@@ -1,4 +1,5 @@
-//! Time: which calls are due, and ticks.
+//! Time: which calls are due, and ticks. A call of a site *pends* until it is answered, and is *due* at the time at which the table of sites answers
+//! it, if ever. A *tick* is the entry that sets the time. `P` names the run: `P.listing` is its program and `P.sites` the table of its sites.
 
 ghost use Rattle.std.specs.Prelude.{◌≡◌, ◌≤◌, ◌+◌, ◌++◌, ◌∷◌, [], ℕ, Some, MatchOption, IfErr, OnOk, OnErr};
 ghost use Rattle.orc_rules.specs.Timed.{IsIn};

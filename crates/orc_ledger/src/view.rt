@@ -1,4 +1,6 @@
-//! What a token does next.
+//! What a token does next. A *token* marks a part of the program's term that runs. A *scope* says by number what names stand for, and `self.cells`
+//! what each cell (the x of an opened `f <x< g`) has become. `self.steps` are the entries into right sides of a `<x<`, and into left sides of a `;`
+//! or a `>x>`: by them the function finds what takes a value. `P` names the run: `P.listing` is its program, where `code` gives the term of a node.
 
 ghost use Rattle.std.specs.Prelude.{◌≡◌};
 ghost use Rattle.orc_rules.specs.Nodes.{code, definitions};

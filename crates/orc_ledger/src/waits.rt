@@ -1,4 +1,6 @@
-//! The cells for which a token waits.
+//! The cells for which a token waits. A *cell* stands for the x of an opened `f <x< g`, and is unbound until g publishes or halts. A *token* marks a
+//! part of the program's term that runs, in a *slot* of the table of tokens. An operand is a name or a value; a *scope* says by number what names
+//! stand for. `P` names the run: `P.listing` is its program, where `code` gives the term of a node.
 
 ghost use Rattle.std.specs.Prelude.{◌≡◌, OnOk, IfErr};
 ghost use Rattle.orc_rules.specs.Nodes.{code};

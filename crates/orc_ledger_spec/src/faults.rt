@@ -1,10 +1,11 @@
-//! Why the calls of a ledger are refused.
+//! Why the calls of a ledger are refused. A *token* marks a part of the program's term that runs; a call of a site *pends* until it is answered. A
+//! *cancel* is the entry with which a pending call goes, since the cell whose right side it is in was bound.
 
 ghost use Rattle.std.specs.Prelude.{◌≡◌};
 
 use std::alloc::AllocError;
 
-/// Why a call is refused; nothing has changed then. If there are several causes, it is the first in this order.
+/// Why a call of a ledger's function is refused; nothing has changed then. If there are several causes, it is the first in this order.
 #[derive(Clone, Copy, Debug, PartialEq, Eq)]
 pub enum LedgerFault {
     /// There would be over `MOST_TOKENS` tokens and pending calls, `MOST_GROUPS` groups (with the program's own), or `MOST_FRAMES` left sides of a
@@ -29,7 +30,7 @@ impl From<AllocError> for LedgerFault {
     }
 }
 
-/// Why an answer of a call is refused; nothing has changed then. If there are several causes, it is the first in this order.
+/// Why an answer of a call of a site is refused; nothing has changed then. If there are several causes, it is the first in this order.
 #[derive(Clone, Copy, Debug, PartialEq, Eq)]
 pub enum ReturnFault {
     /// No call with this number pends: it was answered or cancelled, or never made.

@@ -2,7 +2,9 @@
 //! rules.
 //!
 //! The journal may *go on* with an entry if the rules allow that entry at the place to which the journal leads. *Moves of marks* are the entries that
-//! use no rule of Orc: `end`, `fork`, `seq` and `other`. A token's *word* is its action: what it does next.
+//! use no rule of Orc: `end`, `fork`, `seq` and `other`. A token's *word* is its action: what it does next. A *tick* is the entry that sets the time,
+//! a call is *due* when the table of sites answers it, and a run is *quiet* if it hasn't halted, no rule applies and no tick is possible. A group
+//! without members is *closed* if it goes without an entry.
 
 ghost use Rattle.orc_ledger_spec.specs.Laws.{WordIsOffered, WaitIsStill, WordIsAllowed, NoneIsLost, NextTicks, NextIsQuiet, WorkHasCause, WorkIsAllowed, TickIsNext, QuietIsNext, RootHasHalted};
 

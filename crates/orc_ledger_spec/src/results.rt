@@ -1,4 +1,6 @@
-//! What the calls of a ledger answer.
+//! What the calls of a ledger answer. A *token* marks a part of the program's term that runs. A *cell* stands for the x of an opened `f <x< g`, a
+//! pruning: it is *bound* to the first value of g, or *void* if g halts without one. An otherwise is an `f ; g`. A call of a site *pends* until it is
+//! answered.
 
 ghost use Rattle.std.specs.Prelude.{◌≡◌};
 ghost use Rattle.orc_ledger_spec.specs.Passing.{goes};

@@ -1,4 +1,5 @@
-//! The program of a source with a script's sites.
+//! The program of a source, its text, with a script's sites. A *site* is what a program calls to get an answer; a *script* is the text that says how
+//! the sites answer that aren't built in.
 
 ghost use Rattle.std.specs.Prelude.{◌≡◌, IfOk, IfErr};
 ghost use Rattle.orc_syntax.specs.Tree.{Source};
@@ -15,8 +16,8 @@ use orc_site::read_script;
 use orc_syntax::{Ast, Span, parse};
 use std::alloc::Global;
 
-// In contracts `Says script answers` says that this is the table of the script, and `Checks names s result` that the result is what the scope check
-// gives for the program s with sites of these names.
+// In contracts `IsAst ast s` says that the tree is that of the program s, `Says script answers` that this is the table of the script, and
+// `Checks names s result` that the result is what the scope check gives for the program s with sites of these names.
 
 /// A program, and what answers its calls.
 pub struct Loaded {

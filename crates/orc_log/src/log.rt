@@ -1,7 +1,10 @@
 //! The journal of a run, which holds all of its entries or none. Of entries that aren't held it knows how many they are, what they publish, and
 //! whether they are *local*: nothing outside the run affects them (no tick, no cancel, no call that a script answers). Contracts alone can name these
 //! entries, by a ghost list, the *past*. A *part* is the log of a sub-run: of a call of a definition that was run by itself. `log_with c es` is the
-//! log c with the entries es behind its own.
+//! log c with the entries es behind its own. A *token* marks a part of the program's term that runs, and entries name it by its mark. A *cell* stands
+//! for the x of an opened `f <x< g`; a *bind* gives it its value. `answers` is the table that answers the run's calls of sites. `calls` are the run's
+//! pending calls: contracts have those as `items`, and how many calls the run has made as `made`. `numbering` says under which numbers the tokens,
+//! calls and cells of a part stand in this run, and `moved` gives an entry these numbers.
 
 ghost use Rattle.std.specs.Prelude.{◌≡◌, ◌≢◌, ◌+◌, ◌≤◌, ◌^◌, ◌++◌, ◌∷◌, [], ℕ, List, true, false, length, map, take, drop, IfOk, IfSome, IfNone, OnOk, OnErr};
 ghost use Rattle.std.specs.List.{slice_get};
@@ -61,8 +64,8 @@ impl<P: Run> Model for Log<P> {
     ghost invariant = { λ c. (c.keeps ≡ P.keeps) × IsKnown P.sites c.keeps c.past.items c.passed c.published.items c.is_local (length c.held.entries) };
 }
 
-// The past, which is the ghost list of the entries that aren't held, with an entry behind it. At run time the arguments aren't used: the caller's
-// proof names them where it picks the items.
+// A ghost list of the `items` that the caller's proof picks: the contract promises no more. `push` picks the past, the entries that aren't held, with
+// this entry behind them. At run time no argument is used; the proof names them.
 fn past_with_entry(past: &GhostList<Entry>, entry: &Entry) -> GhostList<Entry>
     ghost items: { List EntryOf }
     ensures { result.items ≡ items }
@@ -72,8 +75,8 @@ fn past_with_entry(past: &GhostList<Entry>, entry: &Entry) -> GhostList<Entry>
     ghost_list_of::<Entry>()
 }
 
-// The past (the ghost list of the entries that aren't held) with a call behind it. At run time the arguments aren't used: the caller's proof names
-// them where it picks the items.
+// A ghost list of the `items` that the caller's proof picks: the contract promises no more. `push_call` picks the past, the entries that aren't held,
+// with this call behind them. At run time no argument is used; the proof names them.
 fn past_with_call(
     past: &GhostList<Entry>,
     token: u64,
@@ -90,8 +93,8 @@ fn past_with_call(
     ghost_list_of::<Entry>()
 }
 
-// The past (the ghost list of the entries that aren't held) with a bind and its cancels behind it. At run time the arguments aren't used: the
-// caller's proof names them where it picks the items.
+// A ghost list of the `items` that the caller's proof picks: the contract promises no more. `push_bind` picks the past, the entries that aren't held,
+// with this bind and its cancels behind them. At run time no argument is used; the proof names them.
 fn past_with_bind(
     past: &GhostList<Entry>,
     token: u64,
@@ -109,8 +112,8 @@ fn past_with_bind(
     ghost_list_of::<Entry>()
 }
 
-// The first `len` entries of the past, the ghost list of the entries that aren't held. At run time the arguments aren't used: the caller's proof
-// names them where it picks the items.
+// A ghost list of the `items` that the caller's proof picks: the contract promises no more. `truncate` picks the first `len` entries of the past,
+// which are those that aren't held. At run time no argument is used; the proof names them.
 fn first_of_past(past: &GhostList<Entry>, len: usize) -> GhostList<Entry>
     ghost items: { List EntryOf }
     ensures { result.items ≡ items }
@@ -120,8 +123,9 @@ fn first_of_past(past: &GhostList<Entry>, len: usize) -> GhostList<Entry>
     ghost_list_of::<Entry>()
 }
 
-// The past (the ghost list of the entries that aren't held) with the entries of a part, the log of a sub-run, behind it, under the numbers that they
-// have in this run. At run time the arguments aren't used: the caller's proof names them where it picks the items.
+// A ghost list of the `items` that the caller's proof picks: the contract promises no more. `append_known` picks the past, the entries that aren't
+// held, with those of a part (the log of a sub-run) behind them, under the numbers that they have in this run. At run time no argument is used; the
+// proof names them.
 fn past_with_part<P: Run>(
     past: &GhostList<Entry>,
     part: &Log<P>,

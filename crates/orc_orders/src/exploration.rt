@@ -1,4 +1,5 @@
-//! A program's runs in many orders, in batches whose runs several threads share.
+//! A program's runs in many orders, in batches whose runs several threads share. The *outcome* of a run is how it ended and what it published. An
+//! *order* is a number that decides what comes first in a run where the rules leave it free.
 
 ghost use Rattle.std.specs.Prelude.{◌≡◌, ◌≤◌, ◌<◌, ◌+◌, ◌^◌, ◌↔◌, length, Err, IfOk, IfErr, OnOk};
 ghost use Rattle.std.specs.List.{All};
@@ -19,8 +20,7 @@ use std::alloc::{AllocError, Global};
 use std::thread;
 use std::thread::Threads;
 
-/// The most orders in a batch; their outcomes are counted once all of them were run. An order is a number that decides what comes first in a run
-/// where the rules leave it free.
+/// The most orders in a batch; their outcomes are counted once all of them were run.
 const BATCH: u64 = 1_024;
 
 /// Threads share the runs of a batch if these runs have at least this many journal entries in all, by the mean of the batch before. A thread that
@@ -154,8 +154,8 @@ impl<R: Threads + Sync> Surveyor<'_, R> {
 }
 
 /// Runs a program in the orders from 0 up to `orders`, and gives each outcome (how a run ended, and what it published) once, sorted by the first
-/// order that came to it. The journal of each run has at most `limit` entries, cancels not counted. `workers` threads make the runs, and the calling
-/// one is one of them; the result is the same on any number.
+/// order that came to it. `answers` is the table that answers the program's calls of sites. The journal of each run has at most `limit` entries,
+/// cancels not counted. `workers` threads make the runs, and the calling one is one of them; the result is the same on any number.
 ///
 /// The fault is Range exactly if there are no workers or over `MOST_WORKERS`, or the limit is 0 or over `MOST_ENTRIES`; and Memory if memory was
 /// refused. No other fault comes if the scope check accepts the program.

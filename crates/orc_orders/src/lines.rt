@@ -11,7 +11,7 @@ use orc_outcome::End;
 use orc_rules::value::Value;
 use std::alloc::{AllocError, Global};
 
-// The word for the way in which a run ended, in an outcome's line.
+// The word for how a run ended, in an outcome's line.
 fn word_of(end: End) -> &'static str
     ensures { result.now ≡ end_word end }
 {

@@ -1,4 +1,4 @@
-//! The outcomes that came up. An outcome is how a run ended together with what it published, in order.
+//! The outcomes that came up. An outcome is how a run ended together with what it published, the first value first.
 
 ghost use Rattle.std.specs.Prelude.{◌≡◌, ◌<◌, ◌↔◌, [], true, length, slice_index_or, MatchOption, OnErr, OnOk};
 ghost use Rattle.std.specs.List.{All};
@@ -20,7 +20,7 @@ use std::marker::Model;
 pub struct Seen {
     /// How the run ended.
     pub end: End,
-    /// What the run published, in order.
+    /// What the run published, the first value first.
     pub values: Vec<Value>,
     /// The first order whose run came to this outcome, from 0.
     pub first: u64,
@@ -82,7 +82,7 @@ pub fn place_of(seen: &[Seen], end: End, values: &[Value]) -> Option<usize>
 struct Outcome {
     // How the run ended.
     end: End,
-    // What the run published, in order.
+    // What the run published, the first value first.
     values: Vec<Value>,
 }
 
@@ -199,8 +199,8 @@ impl Outcomes {
         Ok(())
     }
 
-    /// Counts one more order, whose run ended so and published these values; `order` is its number, from 0. The error is refused memory, and then
-    /// nothing has changed. `Counts` says that the outcome is added, or counted once more.
+    /// Counts one more order, whose run ended so and published these values; `order` is its number, from 0. `alloc` gives memory for copies of the
+    /// values. The error is refused memory, and then nothing has changed. `Counts` says that the outcome is added, or counted once more.
     #[tactic(auto, using(crate::proofs::Known::counted_at, crate::proofs::Known::counted_as, crate::proofs::Known::known_still))]
     pub(crate) fn count(
         &mut self,

@@ -1,5 +1,7 @@
 //! The trials of a way: its runs in many orders, and the verdicts on claims in them. A claim of a test is judged by what an observer sees of a run
-//! from outside, its *happenings*.
+//! from outside, its *happenings*. A `Told` is what is reported of a claim over many trials. A *case* is a part of a test; its *services* are sites
+//! whose answers the test says, and a *way* is one script by which they may answer. An *order* is a number that decides what comes first in a run
+//! where the rules leave it free.
 
 ghost use Rattle.std.specs.Prelude.{◌≡◌, ◌≤◌, ◌<◌, ◌+◌, ◌^◌, ℕ, List, cond, IfOk, IfErr};
 ghost use Rattle.orc_rules.specs.Nodes.{definitions, source};

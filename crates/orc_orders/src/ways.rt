@@ -1,4 +1,8 @@
-//! Tries the ways of a case. A way is one script by which the services of the case may answer; a trial is the program's run with it in one order.
+//! Tries the ways of a case. A way is one script by which the services of the case may answer; a trial is the program's run with it in one order. A
+//! *case* is a part of a test; its services are sites whose answers the test says. An order is a number that decides what comes first in a run where
+//! the rules leave it free. A *claim* of a test says what must hold of a run, and a `Told` is what is reported of a claim over many trials. In
+//! contracts `texts` are the scripts as lists of bytes, `Adds` says that the verdicts of these scripts' ways are added, and `Breaks` that for this
+//! fault not all of the ways could be tried.
 
 ghost use Rattle.std.specs.Prelude.{◌≡◌, ◌<◌, ◌+◌, ◌^◌, ◌↔◌, ℕ, List, [], Err, length, IfOk, IfErr, OnOk};
 ghost use Rattle.orc_engine.specs.Ranges.{IsInRange};

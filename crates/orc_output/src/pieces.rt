@@ -18,8 +18,8 @@ use std::io::Write;
 const PIECE: usize = 65_536;
 
 /// Writes the text of a journal; no more than a piece of it is in memory at one time. The contract promises the whole text for the second version
-/// alone. The fault is that the output failed or took nothing, that memory for a piece was refused, or that a call's site has no name in the table;
-/// then a prefix of the text was written.
+/// alone (the first one, an older form, has no lines of cancels). The fault is that the output failed or took nothing, that memory for a piece was
+/// refused, or that a call's site has no name in the table; then a prefix of the text was written.
 pub fn write_journal<W: Write>(
     alloc: Global,
     journal: &Journal,

@@ -1,5 +1,6 @@
 //! The rule of a queue: the history of its pushes, pops and thefts. No value of these types is made. A *port* is who has access to a queue: its
-//! owner, or a thief, who may only steal from it.
+//! owner, or a thief, who may only steal from it. Items are the tasks in the queue. `Protocol` and `Outcome` are traits of the kit's deque, by which
+//! it takes a rule and says what a call tells.
 ghost use Rattle.std.specs.Prelude.{true, false, []};
 ghost use Rattle.orc_pool.specs.History.{Kept, view_of, IsPush, IsPop, IsTheft, WasEmpty};
 

@@ -1,7 +1,8 @@
 //! The end of a queue that its worker owns. It pushes and pops at this end; thieves take from the other one.
 //!
 //! In contracts `own_view` is what the owner knows of the queue's history, `pushed` is how many tasks were pushed and not popped again (those that
-//! were stolen among them), and `slots` for how many there is room. The clause `rule` says how the history goes on.
+//! were stolen among them), and `slots` for how many there is room. The clause `rule` says how the history goes on. A history is the pushes, pops and
+//! thefts, in order; a *port* is who has access to the queue, its owner or a thief.
 ghost use Rattle.std.specs.Prelude.{◌≡◌, true};
 ghost use Rattle.crossbeam_deque.specs.Handles.{worker_view, worker_flavor};
 

@@ -1,4 +1,5 @@
-//! The right to steal from a queue. In contracts `theft_view` is what the holder of the right knows of the queue's history.
+//! The right to steal from a queue. In contracts `theft_view` is what the holder of the right knows of the queue's history. A queue's history is its
+//! pushes, pops and thefts, in order; the `guest` of a clause is a thief, who doesn't own the queue.
 ghost use Rattle.std.specs.Prelude.{◌≡◌, false};
 ghost use Rattle.crossbeam_deque.specs.Handles.{view, IsPassOf, stealer_deque};
 

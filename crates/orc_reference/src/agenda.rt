@@ -1,5 +1,8 @@
 //! What can come next in a run: the tokens that can move, in the order of their turns, and the calls by their due times. A token is given by its
-//! mark, a call and a cell by their numbers.
+//! mark, a call and a cell by their numbers. `marked` is the marked term, which is what is left of the program's term after the entries so far. A
+//! *cell* is the variable of an opened `<x<`, and *settled* once it is bound or lost. A *side* is the right one of a `<x<`, or the left one of a `;`.
+//! A *cancel* is the entry which says that a bind has dropped a pending call. The engine's loop asks its `Turns`, here an agenda, for the next entry,
+//! and tells it of each that was recorded.
 
 use crate::reference::{Choice, Turns};
 use orc_checker::{Marked, Side};
@@ -20,7 +23,7 @@ struct Queued {
 }
 
 /// A queue in which tokens take their turns one after another, so that none is starved; and the calls by their due times. A token that waits is in
-/// the list of each cell for which it waits, since a call can move as soon as one of its arguments is void, whichever that is.
+/// the list of each cell for which it waits, since a call can move as soon as one of its arguments is void (its cell is lost), whichever that is.
 #[derive(Drop)]
 pub struct Agenda {
     /// The queue of tokens that may be able to move, the next one first. A token that a bind has dropped stays in it: its turn is skipped.
@@ -105,7 +108,8 @@ impl Agenda {
 }
 
 impl Turns for Agenda {
-    // A move of the token whose turn it is, else the end of the halted side, else what `choose_call` chooses.
+    // A move of the token whose turn it is, else the end of the halted side (`side`, if there is one), else what `choose_call` chooses. The token
+    // that moves leaves the queue. The error is refused memory.
     fn choose(
         &mut self,
         program: &Program,

@@ -3,7 +3,9 @@
 //! The search is depth-first: it follows one run until something happens that isn't wanted, and then goes back to the last choice. The run that it
 //! finds is played again, entry by entry, so no promise on the run rests on the search, and most of the search has no contract. The *way* is the
 //! entries so far. A *position* is where a run stands after them; a position that looks like one that was tried before isn't tried again. Where a
-//! function has an `AllocError`, it is refused memory.
+//! function has an `AllocError`, it is refused memory. The marked term (`marked`) is what is left of the program's term after the way's entries. A
+//! *cancel* is the entry which says that a bind has dropped a pending call; *moves of marks* (`end`, `fork`, `seq`, `other`) are entries that use no
+//! rule of Orc. A run is *quiet* if it hasn't halted and neither a rule nor a tick is possible any more.
 
 ghost use Rattle.std.specs.Prelude.{◌≡◌, ◌⊎◌, IfOk, IfSome};
 ghost use Rattle.orc_outcome.specs.Outcome.{IsPlayed};
@@ -420,7 +422,8 @@ impl Search<'_> {
     }
 }
 
-// The entries of a way, to be played again, one in each turn. Its cancels are left out, since the engine records them by itself.
+// The entries of a way, to be played again, one in each turn. Its cancels are left out, since the engine records them by itself. The engine's loop
+// (`proceed`) asks its `Turns`, here these, for the next entry.
 #[derive(Drop)]
 struct Steps {
     // The next one last.

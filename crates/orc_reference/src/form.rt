@@ -1,4 +1,6 @@
-//! The form of a marked term as one number: terms that differ in marks and in the numbers of calls and cells alone have the same one.
+//! The form of a marked term as one number: terms that differ in marks and in the numbers of calls and cells alone have the same one. A *marked term*
+//! is what is left of the program's term after the first entries of a journal; a mark is the number of a token, and a cell the variable of an opened
+//! `<x<`.
 //!
 //! It is a sum over the parts of the term, each a hash of what the part is and of its place. A *place* is a hash of the way from the root to the
 //! part. Each kind of thing mixes in a small number of its own, 1 to 26: what they are doesn't matter as long as no two kinds have one where they

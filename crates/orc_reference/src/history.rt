@@ -1,4 +1,5 @@
-//! A run so far: its journal, and the marked term to which the journal leads.
+//! A run so far: its journal, and the marked term to which the journal leads. That term is what is left of the program's term after the journal's
+//! entries. A *cancel* is the entry which says that a bind has dropped a pending call.
 
 ghost use Rattle.std.specs.Prelude.{◌≡◌, ◌↔◌, ◌<◌, ◌++◌, ◌∷◌, [], ℕ, true, IfOk, OnOk, OnErr, vec_len, vec_capacity};
 ghost use Rattle.orc_rules.specs.Journal.{Place, moment};

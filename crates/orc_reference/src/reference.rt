@@ -1,4 +1,7 @@
-//! The loop of the reference engine: choose an entry, record it, record the cancels that it makes due, and again.
+//! The loop of the reference engine: choose an entry, record it, record the cancels that it makes due, and again. A `History` is the run so far: its
+//! journal, and the marked term, which is what is left of the program's term. A *cancel* is the entry which says that a bind has dropped a pending
+//! call. A *side* is the right one of a `<x<`, or the left one of a `;`. A *move of marks* (`end`, `fork`, `seq`, `other`) is an entry that uses no
+//! rule of Orc. A run is *quiet* if it hasn't halted and neither a rule nor a tick is possible any more.
 
 ghost use Rattle.std.specs.Prelude.{◌≡◌, ◌+◌, ◌<◌, ◌≤◌, ◌^◌, ℕ, IfOk, OnOk};
 ghost use Rattle.orc_outcome.specs.Outcome.{IsPlayed};
@@ -19,15 +22,15 @@ use std::alloc::{AllocError, Global};
 pub(crate) enum Choice {
     /// The run goes on with this entry.
     Entry(Entry),
-    /// No token can move, and no call will ever be due.
+    /// Nothing can come next, as far as the chooser knows: no token can move, no side has halted, and no call will ever be due.
     Nothing,
 }
 
 /// What chooses the next entry: an agenda (`agenda.rt`), or the entries of a run that the search has found (`Steps` in `finder.rt`). No contract
 /// depends on the choice, since `History::record` refuses an entry that the rules don't allow.
 pub(crate) trait Turns {
-    /// The entry that comes next, while no cancel is due: a move of a token, else the end of `side`, which has halted, else a return that is due now,
-    /// else a tick. The error is refused memory. `side` is None where no side has halted.
+    /// The entry that comes next, while no cancel is due. An agenda takes a move of a token, else the end of `side`, which has halted, else a return
+    /// that is due now, else a tick; `Steps` takes the next entry of its run. The error is refused memory. `side` is None where no side has halted.
     fn choose(
         &mut self,
         program: &Program,

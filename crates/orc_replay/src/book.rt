@@ -30,8 +30,9 @@ pub(crate) fn tell_rows<R: Print>(rt: &R, alloc: Global) -> io::Result<()> {
     Ok(())
 }
 
-/// Replays a journal, or only reads it where `is_read_alone`, and writes what has come of it: its entries and the state at its end, or the entry that
-/// fails. Of a text that can't be read, `read 0` or `entry 0`.
+/// Replays a journal, or only reads it and compares it with itself where `is_read_alone`. `source` and `script` are the texts of the program and of
+/// its sites' answers. Writes what has come of it: its entries and the state at its end, or the entry that fails. `read 0` says that a text can't be
+/// read or memory was refused, `entry 0` that nothing was replayed.
 pub(crate) fn tell_journal<R: Print>(
     rt: &R,
     alloc: Global,

@@ -80,8 +80,8 @@ pub(crate) fn tell_rows<R: Print>(rt: &R, alloc: Global) -> io::Result<()> {
     Ok(())
 }
 
-/// Replays a journal, and writes what has come of it: its entries and the state at its end, or the entry that fails. Of a text that can't be read,
-/// `entry 0`.
+/// Replays a journal, and writes what has come of it: its entries and the state at its end, or the entry that fails. `entry 0` says that nothing was
+/// replayed. `source` and `script` are the texts of the program and of its sites' answers.
 pub(crate) fn tell_journal<R: Print>(
     rt: &R,
     alloc: Global,

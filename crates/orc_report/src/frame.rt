@@ -8,7 +8,8 @@
 //! ```
 //!
 //! The bar `|` stands behind the gutter, which is as wide as the line's number. Columns are characters. Of a long line 100 columns are shown, at most
-//! 60 of them before the place that is pointed at; `first` is how many columns are left out in front, `left_out` of the pointed column.
+//! 60 of them before the place that is pointed at; `first` is how many columns are left out in front, `left_out` of the pointed column. A `Page` is
+//! the text that is being written: each method writes at its end.
 
 ghost use Rattle.std.specs.Prelude.{◌≤◌, ◌<◌, ◌^◌, ◌-◌};
 

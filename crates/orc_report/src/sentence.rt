@@ -1,4 +1,4 @@
-//! Sentences as data, so that they can be in a table: words with places to fill.
+//! Sentences as data, so that they can be in a table: words with places to fill. A `Page` is the text that is being written, here at its end.
 
 use crate::page::Page;
 use orc_rules::value::Value;

@@ -1,4 +1,4 @@
-//! Numbers in decimal digits.
+//! Numbers in decimal digits. In contracts `Gives f result o` says that the result is o, where f turns the code's value into that of the definitions.
 
 ghost use Rattle.std.specs.Prelude.{◌≡◌};
 ghost use Rattle.orc_rules.specs.Digits.{Gives, digits_at};

@@ -7,8 +7,10 @@ ghost use Rattle.orc_rules.specs.Kinds.{kind_of};
 use crate::kind::Kind;
 use crate::value::{Answer, Args, Value};
 
-/// One line of a journal, its fields in the order of the line: S, A and B are marks, C is a cell, K a call, M a site, all by their numbers; V is a
-/// value, T a time. docs/orc.md, *Journals*, says under which condition each is allowed and what it does.
+/// One line of a journal, its fields in the order of the line. A mark is the number of a token: S is the mark of the token that the entry names, or
+/// in `right` of the one that entered the otherwise; A and B are new marks. C is a cell, which stands for the x of an opened `f <x< g`, new in
+/// `open`, K a call, new in `call`, and M a site, all by their numbers; V is a value, T a time. docs/orc.md, *Journals*, says under which condition
+/// each is allowed and what it does.
 #[derive(Drop)]
 pub enum Entry {
     /// `end S`

@@ -1,5 +1,5 @@
 //! The limits of the project, each said once: code and contracts cite them here. docs/orc.md, *Limits*, shows most of them to users. Each number is
-//! still allowed.
+//! still allowed. A token is a place of the program at which a run can go on; a worker is a thread that moves tokens.
 
 /// The most arguments of a call, parameters of a definition, or patterns of a script's line.
 pub const MOST_ARGUMENTS: usize = 16;
@@ -47,5 +47,5 @@ pub const MOST_WORKERS: usize = 16;
 /// The workers of a run where no number is asked for.
 pub const DEFAULT_WORKERS: usize = 4;
 
-/// The most rows of a picture.
+/// The most rows of a picture, which `orc draw` makes of a journal.
 pub const MOST_ROWS: u64 = 2_000;

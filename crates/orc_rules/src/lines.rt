@@ -266,7 +266,8 @@ impl Index {
     }
 
     // The place, from 0, of the first of these lines that matches the arguments. Without such a line, how many lines there are. The clauses ask that
-    // this is the index of these lines, and that it is kept up: they have `MOST_SHAPES` shapes at most.
+    // this is the index of these lines, that it is kept up (they have `MOST_SHAPES` shapes at most), and that there are no more arguments than
+    // `Patterns` can hold.
     fn first(&self, lines: &[Line], args: &[Value]) -> usize
         requires args { length args.now ≤ MOST_ARGUMENTS }
         requires shapes { length self.now.shapes.items ≤ MOST_SHAPES }

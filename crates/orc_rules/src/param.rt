@@ -15,7 +15,7 @@ pub enum Param {
     Name(u32),
     /// A value.
     Is(Value),
-    /// A variable that has no value yet, as the number of its cell, from 1.
+    /// A variable that has no value yet, as the number of its cell, from 1: an opened `f <x< g` puts a cell for x.
     Cell(u64),
     /// A variable that will never get a value.
     Void,

@@ -111,7 +111,8 @@ pub struct Program {
     source: usize,
 }
 
-// Contracts see all of it as one `Listing`, whose terms are `code`, `source` and `definitions` of `specs/Nodes`.
+// Contracts see all of it as one `Listing`, whose terms are `code`, `source` and `definitions` of `specs/Nodes`. `code` gives the term of a node, and
+// `unfold_node` makes it of the node (`node_of`) and the terms of its parts.
 impl Model for Program {
     ghost Value = { Listing };
 

@@ -1,6 +1,9 @@
-//! Which services of a test no run has asked: a line that nobody calls may be mistyped.
+//! Which services of a test no run has asked: a line that nobody calls may be mistyped. A *service* here is a line of the test that answers calls of
+//! a site whose arguments its *patterns* take; one below `given` belongs to every case. A *case* says how services may answer, a *way* is one such
+//! choice, written as a script, and an *order* is a number that decides whose turn comes in a run.
 //!
-//! The test's runs are made again with one claim for each service, which is put to the test exactly where a run asks that service.
+//! The test's runs are made again with one claim for each service, which is put to the test exactly where a run asks that service. A `Page` is a text
+//! that is being written.
 
 use crate::scripts::CaseScripts;
 use orc_claims::claim::{Claim, Event, Plain, Simple, Slot, Wanted};
@@ -114,8 +117,9 @@ impl<'s, 'a> Services<'s, 'a> {
         }
     }
 
-    // Makes runs of the case at this place until each of its services was asked, or no run is left. `scripts` has the case's ways that were tried,
-    // and `workers` threads make the runs. The error is refused memory.
+    // Makes runs of the case at this place until each of its services was asked, or no run is left. `trials` has the source, the services' claims,
+    // the orders and the limit of the runs. `scripts` has the case's ways that were tried, and `workers` threads make the runs. The error is refused
+    // memory.
     fn try_case<'t, 'c, R: Threads + Sync>(
         &mut self,
         rt: &R,

@@ -1,4 +1,5 @@
-//! From a journal's text to what the claims of a test say of its run.
+//! From a journal's text to what the claims of a test say of its run. A *claim* says what must hold of a run. It is judged by what an observer sees
+//! of the run, its *happenings*.
 
 ghost use Rattle.std.specs.Prelude.{◌≡◌, ◌++◌, List, ℕ, length, IfOk, IfErr};
 ghost use Rattle.orc_rules.specs.Sites.{Table};
@@ -55,6 +56,7 @@ fn findings_of(alloc: Global, test: &Test<'_>, judged: &Judged) -> Result<Findin
     ensures text { IfOk result (λ f. f.text.items ≡ findings_text test.now (sight_at test.now judged.now.answers judged.now.journal judged.now.state judged.now.time)) }
     ensures failing { IfOk result (λ f. f.failing ≡ failing test.now (sight_at test.now judged.now.answers judged.now.journal judged.now.state judged.now.time)) }
 {
+    // The sites that claims name, by their numbers in the table that answered the run's calls.
     let sites = claim_sites(alloc, &judged.answers, test.sites.as_slice())?;
     let happenings = happenings_of(alloc, sites.as_slice(), &judged.journal)?;
     let seen = Seen {

@@ -2,7 +2,11 @@
 //!
 //! Each job has a function here that answers the process's status, or the [`Failure`] that `perform` reports. It hands a fault of a text or of a run
 //! to `explained` itself, since a `Failure` doesn't keep the bytes of the files. After a failure nothing was written, but where the output failed a
-//! prefix.
+//! prefix. `program` has the paths of the source and of the script, `files` reads files, and `rt` starts threads. `out` is standard output.
+//! `explained` keeps the explanation, where one is asked for. An *outcome* is how a run ended and what it published, an *order* a number that decides
+//! whose turn comes in a run, and a *schedule* any sequence of moves that the rules allow. In the contracts *done* says what was written and which
+//! status comes, *undone* what was written after a failure, *cause* what the failure comes of, and *sound* that its status is 7 only where numbers
+//! are out of range.
 //!
 //! What standard error doesn't take changes no status, so the results of writing to it are dropped (`let _`).
 
@@ -344,9 +348,9 @@ fn claims_status(failing: usize) -> u8
     if failing == 0 { 0 } else { 1 }
 }
 
-// `orc check --claims`: checks the journal of a file and judges the claims of a test on it. The status says whether all hold. `lines` is the
-// journal's text, and `claims` the test's. The failure is a file that can't be read, or a fault. `explained` gets the fault, with the names and texts
-// of the files (`subject`).
+// `orc check --claims`: checks the journal of a file and judges on it the claims of a test that stand below `always`: no journal says of which case
+// it is. The status says whether these all hold. `lines` is the journal's text, and `claims` the test's. The failure is a file that can't be read, or
+// a fault. `explained` gets the fault, with the names and texts of the files (`subject`).
 #[tactic(auto, using(crate::proofs::Statuses::unread, crate::proofs::Causing::unread_claim, crate::proofs::Statuses::cut_or_kept, crate::proofs::Sound::unread_sound, crate::proofs::Statuses::unread_untaken))]
 fn claims_file<'a, F: Files, W: Write>(
     alloc: Global,
@@ -639,8 +643,8 @@ fn do_job<'a, R: Threads + Wait + Sync, F: Files, W: Write>(
 /// FILE, JOURNAL, TEST and the script are read in this order, before anything else; but where no explanation is asked for, a JOURNAL that is to be
 /// checked is only opened then, and read while it is checked. Standard output is `out`, standard error `err`; what standard error doesn't
 /// take changes no status. Either the job was done, and both what was written and the status say what came of it; or it wasn't, and the status is
-/// that of the failure. Then nothing was written to standard output, unless that was at fault itself. The status is 7 only where the numbers of
-/// workers or of entries are out of range.
+/// that of the failure. Then nothing was written to standard output, unless that was at fault itself. The status is 7, which blames the engine, only
+/// where the numbers of workers or of entries are out of range.
 pub fn perform<R, F, W, V>(
     rt: &R,
     alloc: Global,

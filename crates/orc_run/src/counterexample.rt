@@ -1,4 +1,7 @@
-//! The text below a claim of a test that fails: the lines of the way in which it does, where it fails in a run of that way, and the run's picture.
+//! The text below a claim of a test that fails: the lines of the way in which it does, where it fails in a run of that way, and the run's picture. A
+//! *way* is one choice of what the services of the test's case answer. Its *unusual* lines tell it from other ways: there a call takes another
+//! alternative than the first, or one with a range. A `Failure` names the way, the order in which turns came, and where the claim fails. A *schedule*
+//! is any sequence of moves that the rules allow. `trials` has the source, the claims, and the sites that these name.
 
 ghost use Rattle.std.specs.Prelude.{◌≡◌, ◌++◌, IfOk, OnOk};
 ghost use Rattle.orc_findings.specs.Below.{way_text};

@@ -1,11 +1,15 @@
 //! What stands below each failure of a test.
 //!
 //! A run in an order shows a failure (`Trial`), or only the search through all schedules found it (`Schedule`). What is shown is made again from the
-//! failure's script and order: the runs of the trials aren't kept.
+//! failure's script and order: the runs of the trials aren't kept. A `Tester` has the trials, and what the options say of them. `shown` (a `Failing`)
+//! names the way, the order, and where in the run the claim fails. A *way* is one choice of what the services of a case answer, a *schedule* any
+//! sequence of moves that the rules allow.
 //!
 //! In the functions here `cases` has the scripts of each case's tried ways, and `ways` all ways of each case. `script` is that of the failure's way,
 //! `lines` are the unusual lines of that way (`unusual_lines`), and `ranges` those with the numbers of a range with which the claim fails
-//! (`ranges_of`). `number` is the failure's, from 1, and `claim` the claim's place among the test's, from 0.
+//! (`ranges_of`). `number` is the failure's, from 1, and `claim` the claim's place among the test's, from 0. `rows` are the lines of the test's
+//! table. `NO_TEXT` says that memory for what is to be written was refused, `NO_MEMORY` that memory for what is tried was. In the contracts a clause
+//! *cause* says what a fault comes of, and *sound* that the engine itself is never to blame.
 
 ghost use Rattle.std.specs.Prelude.{◌≡◌, [], IfErr, IfOk, false};
 ghost use Rattle.orc_orders.specs.Trials.{IsMadeAgain, texts};
@@ -192,7 +196,8 @@ impl<R: Threads + Sync> Tester<'_, '_, R> {
         ensures cause { IfErr result (IsUnshown self.now.trials.now.source.now 1 self.now.trials.now.limit script.now) }
         ensures sound { IfErr result (λ f. IsOwnFault f → ⊥) }
     {
-        // `see` searches one way for one claim, without the cases and the reports.
+        // `see` searches one way for one claim, without the cases and the reports. `found` is None if it finds no run that breaks the claim; then
+        // only the lines are written.
         let searcher = Searcher {
             alloc: self.alloc,
             trials: self.trials,

@@ -1,4 +1,5 @@
-//! What explains a failure, or how a run ended, where that is asked for.
+//! What explains a failure, or how a run ended, where that is asked for. A `Subject` has the titles and the texts of a command line's files, and a
+//! `Document` those of one file.
 //!
 //! An explanation that can't be made, as where memory is refused, is left out. The job's result and its output are as without it.
 
@@ -49,9 +50,11 @@ fn fault_of(fault: RunFault) -> Option<Fault> {
         RunFault::Journal(fault) => Some(Fault::Journal(fault)),
         // `Explained::refusal` explains it, which has the journal.
         RunFault::Check(_) => None,
+        // A number of workers or of entries is out of range; no command line that was accepted has such a one.
         RunFault::Engine(EngineFault::Range) => Some(Fault::Range),
         // Memory was refused to a run, to a search through runs, or to what a test tries (`NO_MEMORY`).
         RunFault::Engine(EngineFault::Memory) => Some(Fault::Run),
+        // The engine itself is to blame.
         RunFault::Engine(EngineFault::Broken) => Some(Fault::Broken),
         // Doesn't come: no command line has sites of its own.
         RunFault::Engine(EngineFault::Site(_)) => None,

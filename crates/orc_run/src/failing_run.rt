@@ -1,4 +1,7 @@
-//! The journal of a run in which a claim of a test fails.
+//! The journal of a run in which a claim of a test fails. A *claim* says what must hold of a run, and is given by its place in the test. `trials` has
+//! the source, the claims, and the limit of a run's entries; a `Way` has the program, loaded with the script of a way. A search looks at *states*,
+//! each a term with the calls that were made and with what was seen so far. A `Watch` says what it keeps of a run for a claim. In the contracts a
+//! clause *cause* says what a fault comes of, and *sound* that the engine itself is never to blame.
 
 ghost use Rattle.std.specs.Prelude.{◌≡◌, IfErr, IfOk, IfSome, OnOk, Some, false, true};
 ghost use Rattle.std.specs.Io.KnownBytes.{Keeps};
@@ -39,7 +42,7 @@ fn is_failing(verdict: Option<Verdict>) -> bool
 }
 
 // Whether the claim at this place, from 0, fails in a run of a way (one choice of what the services of a case answer) that has this journal and ended
-// so. The error is refused memory.
+// so; false also if there is no such claim. The error is refused memory.
 fn fails_in(
     alloc: Global,
     trials: &Trials<'_, '_>,
@@ -66,8 +69,8 @@ fn fails_in(
 }
 
 // Writes the journal of a run of the way of this script (one choice of what the services answer), if the claim at this place, from 0, fails in it,
-// and answers whether it does. If not, nothing is written. `script` is the way's, and only the contract names it. The fault is refused memory, or one
-// of the output.
+// and answers whether it does. If not, nothing is written. `script` is the way's, and only the contract names it. The fault is refused memory, and
+// then nothing was written, or one of the output, and then a prefix was (`LeavesUntested`).
 fn write_failing<W: Write>(
     alloc: Global,
     trials: &Trials<'_, '_>,
@@ -135,7 +138,7 @@ pub(crate) fn write_in_order<W: Write>(
     if played.summary.end == End::Memory {
         return Err(NO_MEMORY);
     }
-    // The same run is made again, so false isn't answered.
+    // The same run is made again, so false isn't answered. The prover doesn't know that, and the contract allows this fault (refused memory).
     match write_failing(alloc, trials, script, &way, &played, claim, out) {
         Ok(true) => Ok(()),
         Ok(false) => Err(NO_MEMORY),

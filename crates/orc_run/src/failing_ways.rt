@@ -1,4 +1,5 @@
-//! In which ways of a case a claim fails. Each way is a script, and fails if the run in one of its orders does.
+//! In which ways of a test's case a claim fails. A *way* is one choice of what the services of the case answer, written as a script. The claim fails
+//! in it if it fails in the run in one of the *orders*, which are numbers that decide whose turn comes.
 
 use orc_claims::claim::Claim;
 use orc_orders::{CaseTold, Trials, try_ways};

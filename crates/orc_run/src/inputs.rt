@@ -37,7 +37,8 @@ pub trait Files {
     /// A file that is read piece by piece.
     type Reader: Read + Drop;
 
-    /// All bytes of the file at this path. The fault is refused memory, or the reason why the file can't be read.
+    /// All bytes of the file at this path; where it is known what the file holds (`holds`), these. What the files hold stays the same. The fault is
+    /// refused memory, or the reason why the file can't be read.
     fn read(&mut self, path: &str) -> Result<Vec<u8>, ReadFault>
         ensures held { IfOk result (λ bytes. IsHeld (holds self.old path.now) bytes.items) }
         ensures same { (at : List ℕ) → holds self.new at ≡ holds self.old at };

@@ -96,7 +96,8 @@ impl From<LoadFault> for Unchecked {
 }
 
 // The verdict of `judge` on a journal that is read piece by piece, of which nothing is kept. The fault is one of those of `judge`, or that the
-// journal couldn't be read to its end. In the clauses `text` is what the reader may give (`MayCome`); of one whose bytes are known it is these.
+// journal couldn't be read to its end. In the clauses `text` is what the reader may give (`MayCome`); of one whose bytes are known it is these. By
+// `IsJudged` it is the text of the journal `j`, whose entries the rules allow one after another, and which leads to this state.
 fn judge_lines<R: Read + Drop>(
     alloc: Global,
     source: &[u8],

@@ -1,4 +1,8 @@
-//! From a source text to what came of its program in many orders, and to what may come of it in all schedules.
+//! From a source text to what came of its program in many orders, and to what may come of it in all schedules. An *outcome* is how a run ended and
+//! what it published, and an *order* a number that decides whose turn comes in a run. The options say in how many orders the program is run, by how
+//! many workers (threads), and how many entries a run's journal may have. In the contracts a clause *cause* says what a fault comes of, *fault* what
+//! was written then, *sound* that the engine itself is never to blame, and *range* that a number is out of range only where the options have such a
+//! one.
 //!
 //! A *state* of a search through all schedules is a term without numbers, with the calls that were made and what was published so far
 //! (`orc_schedules`).

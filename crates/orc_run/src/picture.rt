@@ -1,4 +1,4 @@
-//! From a journal's text to its picture.
+//! From a journal's text to its picture. A `Judged` is a journal that a check accepted, and an `Ast` the tree of a source.
 
 ghost use Rattle.std.specs.Prelude.{◌≡◌, IfOk, IfErr, OnOk, List, ℕ};
 ghost use Rattle.orc_outcome.specs.declared.end.Summary.{Summary};
@@ -111,7 +111,9 @@ fn with_journal(options: &RunOptions) -> RunOptions
 }
 
 // The text of the journal of a run with these options. A run for which memory was refused once it had begun is a fault here, so that no part of a run
-// is drawn as the whole; so is refused memory for the text. The engine itself is never to blame (`sound`).
+// is drawn as the whole; so is refused memory for the text. By `IsUnrunFor` the fault is one that the source or the script has, one of the engine, or
+// refused memory for the text; by `range` a number is out of range only where the options have such a one. The engine itself is never to blame
+// (`sound`).
 fn journal_of<R: Threads + Wait + Sync>(
     rt: &R,
     alloc: Global,

@@ -1,4 +1,7 @@
-//! From a source text to what its run published.
+//! From a source text to what its run published. `loaded` is the program with the table that answers its calls. The options say in which *order*
+//! turns come, and what is wanted of the run: its values, its values with their times, or its journal. In the contracts a clause *cause* says what a
+//! fault comes of, *fault* what was written then (or, with `IsOther`, which faults come), *sound* that the engine itself is never to blame, and
+//! *range* that a number is out of range only where the options have such a one.
 
 ghost use Rattle.std.specs.Prelude.{◌≡◌, ◌↔◌, List, true, is_some, Err, IfOk, IfErr, OnOk, OnErr};
 ghost use Rattle.std.specs.Io.KnownBytes.{Appends};
@@ -51,7 +54,8 @@ fn play<R: Threads + Wait + Sync>(
     };
     let (program, answers, limit) = (&loaded.program, &loaded.answers, options.limit);
     let workers = options.workers as usize;
-    // The number of the order, and None for the fixed one. A run without an order is made by `run_unordered`, whose workers share its tokens.
+    // The number of the order, and None for the fixed one. A run without an order is made by `run_unordered`, whose workers share its tokens, the
+    // places at which it can go on.
     let number = match options.order {
         Order::Unordered => {
             return run_unordered(rt, alloc, program, answers, workers, keeps, limit);
@@ -59,7 +63,8 @@ fn play<R: Threads + Wait + Sync>(
         Order::Numbered(number) => Some(number),
         Order::Fixed => None,
     };
-    // One worker takes the numbered order or its own. Several share the calls of definitions, in an order of theirs.
+    // One worker takes the numbered order or its own. Several run calls of definitions apart, and take an order that is the same for any number of
+    // them.
     if options.workers == 1 {
         return run_alone(alloc, program, answers, number, keeps, limit);
     }
@@ -137,10 +142,10 @@ pub(crate) fn run_source<R: Threads + Wait + Sync, W: Write>(
 /// whichever way it ends: what it published, a line each, with the time of each or without it, or its journal.
 ///
 /// A fault is answered where the source's text, the script or the source's names are at fault, in this order; then
-/// `Engine` where the engine brings the run to no end (the limit is out of range, or memory is refused before the run begins or for what it
-/// published; no other fault of the engine comes); and `Write` where memory for the text is refused or the output isn't taken whole. Nothing is
-/// written then, but at `Write` a prefix of the text. A run for which memory is refused once it has begun ends so, and what it has published is
-/// written.
+/// `Engine` where the engine brings the run to no end (the number of workers or the limit is out of range, or memory is refused before the run begins
+/// or for what it published; no other fault of the engine comes); and `Write` where memory for the text is refused or the output isn't taken whole.
+/// Nothing is written then, but at `Write` a prefix of the text. A run for which memory is refused once it has begun ends so, and what it has
+/// published is written.
 pub fn run_text<R: Threads + Wait + Sync, W: Write>(
     rt: &R,
     alloc: Global,

@@ -1,7 +1,9 @@
 //! The ways of a test's cases, and their scripts.
 //!
 //! A way is one choice among all that a case's services may do: for each service, or each of its first calls, one of its alternatives, and in that
-//! one number of each range. It is written as a script, so that a run of it is a run with that script.
+//! one number of each range. It is written as a script, so that a run of it is a run with that script. A `Ways` numbers the ways of one case, from 0.
+//! A `Counterexample` is what shows a failure: a run in an order, or a schedule that a search found. In the contracts a clause *cause* says what a
+//! fault comes of, and *sound* that the engine itself is never to blame.
 
 ghost use Rattle.std.specs.Prelude.{◌≡◌, IfOk, IfErr, length};
 ghost use Rattle.std.specs.List.{AllZip};
@@ -27,7 +29,7 @@ pub struct CaseScripts {
 }
 
 /// The ways of each case, in the order of the cases. The fault is that of the first case with more ways than `orc_cases` numbers (its `MOST_WAYS`),
-/// or refused memory.
+/// or refused memory; both are given as faults of the test's text (`unread`).
 #[tactic(auto, using(crate::proofs::Scripting::one_case, crate::proofs::Untold::first_many))]
 pub(crate) fn ways_of(alloc: Global, test: &Test<'_>) -> Result<Vec<Ways>, Untested>
     ensures ways { IfOk result (λ ws. AreWays (test_of test.now) 0 ws.items × (length ws.items ≡ length test.now.cases.items)) }
@@ -105,8 +107,8 @@ pub(crate) fn all_scripts(
     }
 }
 
-/// The script of the way (one choice of what the services answer) in which a failure is. A failure is always in a way that was tried, so the fault,
-/// `NO_TEXT`, doesn't come.
+/// The script of the way (one choice of what the services answer) in which a failure is (`IsScript`); it is one of those that `cases` has. A failure
+/// is always in a way that was tried, so the fault, `NO_TEXT`, doesn't come.
 pub(crate) fn script_at(cases: &[CaseScripts], found: Counterexample) -> Result<&[u8], Untested>
     ensures script { IfOk result (λ text. IsScript cases.now found text.now) }
     ensures among { IfOk result (λ text. IsAmong (all_texts cases.now) text.now) }

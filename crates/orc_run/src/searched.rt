@@ -1,7 +1,8 @@
 //! The search through all schedules of the ways in which a test's claims held.
 //!
 //! It begins with the claims that failed in no run (`Searched::Whole`), and goes through the ways of the cases one after another. A claim stays whole
-//! as long as no schedule of a way breaks it (`Breaks`) and no search has to give up (`No`).
+//! as long as no schedule of a way breaks it (`Breaks`) and no search has to give up (`No`). An `Explorer` makes one search of a way's program after
+//! another, and keeps what they share.
 //!
 //! A *state* of a search is a term without numbers, with the calls that were made and what was seen so far (`orc_schedules`). `most` is how many
 //! states a search looks at, at most, and `left` how many are left to all searches. A claim's *section* is the place of its case, from 0, or None

@@ -1,4 +1,8 @@
-//! From a source text to the journal of a run that has one of the program's outcomes.
+//! From a source text to the journal of a run that has one of the program's outcomes. An *outcome* is how a run ended and what it published, and an
+//! *order* a number that decides whose turn comes. `seen` has the outcomes of the runs in many orders. `loaded` is the program with the table that
+//! answers its calls, and `played` a run that has ended. A *state* of a search is a term with the calls that were made and what was published so far.
+//! In the contracts a clause *cause* says what a fault comes of, *fault* what was written then (or, with `IsOther`, which faults come), *sound* that
+//! the engine itself is never to blame, and *range* that a number is out of range only where the options have such a one.
 
 ghost use Rattle.std.specs.Prelude.{◌≡◌, IfErr, IfOk, IfSome, OnOk, true};
 ghost use Rattle.orc_engine.specs.Ranges.{IsInRange};
@@ -37,7 +41,7 @@ const NO_MEMORY: Unshown = Unshown::Fault(RunFault::Engine(EngineFault::Memory))
 pub enum Unshown {
     /// A text is at fault, no run could be made, or the output wasn't taken whole.
     Fault(RunFault),
-    /// There are fewer outcomes than this number, which counts from 1.
+    /// Fewer outcomes are known than this number, which counts from 1: a search that gave up gives none.
     NoOutcome(u64),
     /// There is an outcome with this number, but no run was found that has it.
     NoRun(u64),
@@ -183,8 +187,9 @@ fn run_in_order(alloc: Global, loaded: &Loaded, order: u64, limit: u64) -> Resul
 }
 
 // Writes the journal of a run that has an outcome to which no order came. `number` is the outcome's, from 1, and `seen` has the outcomes of the
-// orders. Those that only the search finds have the numbers that follow, in the order in which a search through so many states finds them. The fault
-// is that there is none with this number, that no run was found that has it, refused memory, or one of the output.
+// orders. Those that only the search finds have the numbers that follow, in the order in which a search through so many states at most finds them. It
+// finds those of all runs of at most `limit` entries, and may find others. The fault is that none is known with this number, as where the search gave
+// up, that no run was found that has it, refused memory, or one of the output.
 fn show_unseen<W: Write>(
     alloc: Global,
     loaded: &Loaded,

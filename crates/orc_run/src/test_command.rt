@@ -1,9 +1,13 @@
 //! From a test's text to the table of its claims, or to the script or the journal that shows one failure.
 //!
-//! A trial is a run in one way and one order. All trials come first; then all schedules are searched for the claims that failed in none of them.
+//! A trial is a run in one way and one order. All trials come first; then all schedules are searched for the claims that failed in none of them. A
+//! *case* says how the services of the test, which are sites, may answer; a *way* is one such choice, written as a script, and an *order* a number
+//! that decides whose turn comes. `reports` has what came of the trials of each case. A `Report` is all that the table is made of, and `rows` are its
+//! lines. A *schedule* is any sequence of moves that the rules allow.
 //!
 //! In the functions here `cases` has the scripts of each case's tried ways, and `ways` all ways of each case. A claim is its place among the test's,
-//! from 0.
+//! from 0. In the contracts a clause *cause* says what a fault comes of, *sound* that the engine itself is never to blame, and *err* or *fault*
+//! (`LeavesUntested`) that nothing was written then, or at a fault of the output a prefix.
 
 ghost use Rattle.std.specs.Prelude.{◌≡◌, List, ℕ, Some, IfOk, IfErr, OnOk, length};
 ghost use Rattle.std.specs.List.{AllZip};
@@ -205,7 +209,7 @@ impl<R: Threads + Sync> Tester<'_, '_, R> {
     }
 }
 
-// Writes a text. The fault is one of the output; a prefix of the text was written then (`LeavesUntested`).
+// Writes a text. The fault is one of the output (`IsNoText`); a prefix of the text was written then (`LeavesUntested`).
 fn write_whole<W: Write>(out: &mut W, text: &[u8]) -> Result<(), Untested>
     ensures ok { OnOk result (Appends (W.contents out.old) (W.contents out.new) text.now) }
     ensures err { IfErr result (LeavesUntested (W.contents out.old) (W.contents out.new)) }
@@ -269,6 +273,7 @@ impl<R: Threads + Sync> Tester<'_, '_, R> {
         let Ok(known) = options_text(self.alloc, names.script, options) else {
             return Err(NO_TEXT);
         };
+        // `Call` (of `orc_tally`) says how the commands that the text shows name the files and the options. It is no call of a site.
         let call = Call {
             source: names.source,
             test: names.test,
@@ -623,7 +628,7 @@ pub fn test_text<R: Threads + Sync, W: Write>(
     let others = others_of(alloc, texts.script)?;
     let mut known = known_of(alloc, texts.test, &others)?;
     let counted = ways_of(alloc, &known)?;
-    // Behind the claims of the test's lines comes the one that runs end by themselves.
+    // Behind the claims of the test's lines stands one more: that each run halts or goes quiet, so isn't cut by the limit.
     let Ok(()) = add_end(alloc, &mut known) else {
         return Err(NO_MEMORY);
     };

@@ -1,4 +1,7 @@
-//! Which calls of a test's services no line of a case answers, so that they halt at once: an argument or a pattern may be mistyped.
+//! Which calls of a test's services no line of a case answers, so that they halt at once: an argument or a pattern may be mistyped. A *service* is a
+//! site whose answers the test says; a line of it answers the calls whose arguments its *patterns* take. A line below `given` belongs to every case.
+//! A `Page` is a text that is being written; that memory was refused comes out when it is finished. A *way* is one choice of what the services of a
+//! case answer, written as a script, and `trials` has the source, and the orders and the limit of its runs.
 
 use crate::asked::is_of;
 use crate::scripts::CaseScripts;

@@ -1,4 +1,5 @@
-//! A run whose tokens several workers hold, over one journal: `orc run --unordered`.
+//! A run whose tokens (the places at which it can go on) several workers hold, over one journal: `orc run --unordered`. A worker passes a *gate*
+//! before each call of a site, and may be held there.
 
 ghost use Rattle.std.specs.Prelude.{◌≡◌, ◌↔◌, Err, true, is_some, IfOk, IfErr};
 ghost use Rattle.orc_rules.specs.Nodes.{definitions, source};
@@ -60,7 +61,8 @@ pub(crate) fn run_unordered<R: Threads + Wait + Sync>(
     };
     match run_pool(rt, alloc, program, answers, &sites, &Unheld, options) {
         Ok(played) => Ok(played),
-        // The workers brought the run to no end, so one worker makes it again.
+        // The workers brought the run to no end, so one worker makes it again: they found nothing to do where something was left, or the sites
+        // answered a call otherwise than the table says.
         Err(EngineFault::Broken | EngineFault::Site(_)) => {
             // None: in the scheduler's own order.
             run_alone(alloc, program, answers, None, keeps, limit)

@@ -1,4 +1,5 @@
-//! A run that breaks a claim as a search through all schedules says that one does.
+//! A run that breaks a claim as a search through all schedules says that one does. An *occurrence* is what an observer sees of a run: a call, its
+//! answer or its halt, or a publication. A *position* is where a run stands during the search for one.
 
 ghost use Rattle.std.specs.Prelude.{IfOk, IfSome};
 ghost use Rattle.orc_outcome.specs.Outcome.{IsPlayed};
@@ -99,7 +100,8 @@ impl Wanted for Sighting<'_> {
         }
     }
 
-    // All occurrences are met, and the run ends at the time and in the way that the search saw.
+    // All occurrences are met (`seen` counts them, `self.seen` is what the search saw), and the run ends at the time and in the way that the search
+    // saw. From the latest time on that the claim tells apart, all times are that one, here as in the search (`time`).
     fn is_met(&self, seen: usize, time: u64, end: End) -> bool {
         seen == self.seen.happened.len() && time == self.seen.now && end == self.seen.end
     }

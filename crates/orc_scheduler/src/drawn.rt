@@ -1,5 +1,8 @@
 //! Turns in a run with an order (`--order`): it draws whose turn comes, that of a token or of a call that is due. An error of type `Stop` is the
-//! reason why the run stops.
+//! reason why the run stops. The ledger has the run's records: it keeps a token, which marks a part of the program's term that runs, in a *slot*, and
+//! a `Handle` names the token. `inputs` are the program's nodes and the table that answers its calls. In contracts the type `P` names the run:
+//! `P.listing` is its program. `Advances` says that the run is nearer its end, `HasTurned` that a turn has brought it there or, if it `Rests`, has
+//! left the ledger as it was, and `Stops` that the run has cause to stop. A `Step` says how a token goes on after its move.
 
 ghost use Rattle.std.specs.Prelude.{◌≡◌, ◌≤◌, ◌<◌, true, false, IfOk, IfErr};
 ghost use Rattle.std.specs.VecDeque.{deque_len};

@@ -1,4 +1,7 @@
-//! How a run has ended, and the result that its caller gets.
+//! How a run has ended, and the result that its caller gets. The ledger has the run's records and its journal, and `inputs` are the program's nodes
+//! and the table that answers its calls. A `Stop` is why the scheduler goes no further; an `End` is how the run has ended by that. In contracts the
+//! type `P` names the run: `P.listing` is its program, and `P.keeps` says whether its journal is kept. `Stops` says that the run has cause to stop
+//! so, `HasEnded` that it has ended so, `IsPlayed` that a result is that of such a run, and `IsOwn` that a fault is the engine's.
 
 ghost use Rattle.std.specs.Prelude.{◌≡◌, true, false, is_some, IfOk, IfErr, IfSome, MatchOption};
 ghost use Rattle.orc_rules.specs.Nodes.{definitions, source};

@@ -1,5 +1,6 @@
 //! The publication that a sub-run (the run of one call of a definition, apart from the run that makes the call) holds back if a `>x>` or a side
-//! encloses its call: what encloses the call gets the value, and the sub-run publishes nothing itself.
+//! encloses its call: what encloses the call gets the value, and the sub-run publishes nothing itself. A *slot* is the place of a token in the
+//! ledger, which has a run's records. A *side* is the right one of a `<x<` or the left one of a `;`.
 
 /// The value that a sub-run holds back, and whether the sub-run can still replace its call.
 #[derive(Clone, Copy)]

@@ -1,5 +1,8 @@
 //! What comes next if no token is runnable: the answer of a call that is due, or a tick, or what the ledger finds. Calls that are due at the same
-//! time are answered in the order of their numbers. An error of type `Stop` is the reason why the run stops.
+//! time are answered in the order of their numbers. An error of type `Stop` is the reason why the run stops. In contracts the type `P` names the run,
+//! `P.listing` is its program, `Advances` says that the run has come nearer to its end, and `Stops` that it stops for a reason that it has. The
+//! ledger has the run's records: tokens in their *slots*, pending calls, and *groups*: a group is what runs in the right side of a `<x<`, in the left
+//! side of a `;`, or in the whole program. `inputs` are the program's nodes and the table that answers its calls.
 
 ghost use Rattle.std.specs.Prelude.{◌≡◌, ◌≤◌, true, false, IfOk, IfErr};
 ghost use Rattle.std.specs.VecDeque.{deque_len};
@@ -131,6 +134,7 @@ impl<P: Run> Scheduler<P> {
         match next {
             Next::Ticks(time) => match self.ledger.tick(time) {
                 Ok(()) => {
+                    // In a run with an order the calls that are due at this time get turns.
                     self.note_due()?;
                     Ok(true)
                 }

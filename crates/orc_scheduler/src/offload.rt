@@ -1,5 +1,8 @@
 //! How a run shares work out to other threads, which run calls of definitions apart. First the scheduler *spreads* tokens: each moves on to its next
-//! call of a definition. Then it lists those calls as jobs for its caller, and merges the result of each.
+//! call of a definition. Then it lists those calls as jobs for its caller, and merges the result of each. A *token* marks a part of the program's
+//! term that runs, and a `Handle` names it. The ledger has the run's records. A *side* is the right one of a `<x<` or the left one of a `;`; its
+//! *group* has what runs in it as members. `inputs` are the program's nodes and the table that answers its calls. The *moves* that have led to a
+//! token are those by which the run came to it, one after another.
 
 ghost use Rattle.std.specs.Prelude.{◌≡◌, true, false, IfOk, IfErr};
 ghost use Rattle.std.specs.VecDeque.{deque_len};
@@ -70,9 +73,10 @@ impl<P: Run> Scheduler<P> {
         Ok(())
     }
 
-    // Gives each runnable token a turn, which ends at its next call of a definition. A token that stands at such a call stays there if over `moves`
-    // moves have led to it, and every token stays where it is as long as `MOST_SIDES` sides are open. A token that stays goes behind the others, so
-    // that the next one is looked at. The error is why the run stops.
+    // Gives each runnable token a turn, which ends at its next call of a definition; if a due call is answered between two rounds of 64 turns, that
+    // takes the turn of one. A token that stands at such a call stays there if over `moves` moves have led to it, and every token stays where it is
+    // as long as `MOST_SIDES` sides are open. A token that stays goes behind the others, so that the next one is looked at. The error is why the run
+    // stops.
     fn spread_once(&mut self, inputs: &Inputs<'_, P>, moves: u32) -> Result<(), Stop>
         ensures spread { IfOk result (λ _. HasSpread self.old.ledger (deque_len self.old.ready.handles) self.new.ledger (deque_len self.new.ready.handles)) }
         ensures stops { IfErr result (λ stop. Stops P.listing self.new.ledger stop) }
@@ -173,9 +177,10 @@ impl<P: Run> Scheduler<P> {
         group == 0 || self.ledger.member_count(group) == 1
     }
 
-    /// Merges the result of a call's sub-run into the run, if a token still stands at that call, and says whether it did; if it didn't nothing
-    /// changes. If the result has a value the token on it is runnable then. If it has none, and the token's side has no other member, the side halts.
-    /// The error is why the run stops.
+    /// Merges the result of a call's sub-run (`part`) into the run, and says whether it did. If not, nothing changes: the token doesn't stand at that
+    /// call any more, the limit has no room for the result's entries, or memory was refused. A token that still stands there makes its call itself.
+    /// If the result has a value the token on it is runnable then. If it has none, and the token's side has no other member, the side halts. The
+    /// error is why the run stops.
     pub fn append_sub_run(
         &mut self,
         inputs: &Inputs<'_, P>,

@@ -12,8 +12,9 @@ use orc_rules::answers::Answers;
 use orc_rules::program::Program;
 use std::alloc::Global;
 
-/// Whether a run with this journal is quiet, by the rules alone: it applies each entry to the checker's marked term, the program's term with marks
-/// for its tokens. None if memory is refused, or if the marked term refuses an entry, as it does in no journal of a ledger.
+/// Whether a run with this journal is quiet (it hasn't halted, and nothing can come next), by the rules alone: it applies each entry to the checker's
+/// marked term, the program's term with marks for its tokens. None if memory is refused, or if the marked term refuses an entry, as it does in no
+/// journal of a ledger.
 pub(crate) fn is_quiet_at(
     alloc: Global,
     program: &Program,

@@ -1,4 +1,6 @@
-//! The run queue: the tokens whose turn comes.
+//! The run queue: the tokens whose turn comes. A *token* marks a part of the program's term that runs; the ledger, which has a run's records, keeps
+//! it in a *slot*. An *order* is a number from which it is drawn whose turn comes: that of a token, or of a call that came due. In contracts
+//! `deque_len` is how many handles the queue has; by `HasDrawn` they are one fewer if a token was drawn, else no more than before.
 
 ghost use Rattle.std.specs.Prelude.{◌≡◌, ◌≤◌, ◌<◌, ◌+◌, MatchOption};
 ghost use Rattle.std.specs.VecDeque.{deque_len};
@@ -111,7 +113,7 @@ impl Ready {
         self.handles.front().copied()
     }
 
-    /// Drops the handle of the token that has waited longest.
+    /// Drops the handle of the token that has waited longest. An empty queue stays as it is; the contract says only that the queue isn't longer.
     pub(crate) fn drop_oldest(&mut self)
         ensures { deque_len self.new.handles ≤ deque_len self.old.handles }
     {

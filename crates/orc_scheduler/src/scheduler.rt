@@ -1,6 +1,10 @@
 //! The scheduler itself: it gives tokens their turns, makes their calls, and halts groups. Each function that goes on with a run brings it nearer its
 //! end (`IsNearer`, `Advances`), and each stop has a cause (`Stops`, all in `specs/Stops.antt`). An error of type `Stop` is the reason why the run
-//! stops: the entry that was refused isn't in the journal, and the caller gives no turn any more.
+//! stops: the entry that was refused isn't in the journal, and the caller gives no turn any more. A *token* marks a part of the program's term that
+//! runs. The *ledger* has the records of a run and its journal: it keeps a token in a *slot*, and a `Handle` names the token. `inputs` are the
+//! program's nodes and the table that answers its calls. A *group* is what runs in one *side*, the right one of a `<x<` or the left one of a `;`. A
+//! turn has `MOVES` moves at most: 64. In contracts the type `P` names the run: `P.listing` is its program, and `P.keeps` says whether its journal is
+//! kept.
 
 ghost use Rattle.std.specs.Prelude.{◌≡◌, ◌≤◌, ◌<◌, ◌+◌, ◌^◌, ℕ, true, false, IfOk, IfErr, IfSome, IfNone, OnErr};
 ghost use Rattle.std.specs.VecDeque.{deque_len};
@@ -80,13 +84,14 @@ pub struct Scheduler<P: Run> {
     pub(crate) alloc: Global,
     /// The run's records and its journal. Contracts of callers speak of it.
     pub ledger: Ledger<P>,
-    // Whether the ledger keeps its journal.
+    // Whether the ledger keeps its journal, as `P.keeps` says (clause *its_keeping*).
     pub(crate) keeps: bool,
     /// The tokens whose turn comes.
     pub ready: Ready,
     // The tokens that wait, by the cells for which they do.
     waiting: Waiting,
-    // Whether one move may take a token into a `>x>` and on through it, by `feed_through`. Not so in a run with an order.
+    // Whether a token may go into a `>x>` and on through it in one move (`feed_through`), and make a call of a site the fast way (`step_at`). Not so
+    // in a run with an order.
     goes_through: bool,
     // Whether tokens *spread*, before calls are shared out to other threads: a turn ends at the next call of a definition, and the token that has
     // waited longest goes first.
@@ -255,8 +260,9 @@ impl<P: Run> Scheduler<P> {
     }
 
     /// Gives a token its turn: it moves until it is gone, waits, or has made its moves. Between two rounds of 64 turns it answers a call that is due
-    /// instead, which tokens that move on and on would starve otherwise. `Rests` if no token is runnable: then the ledger hasn't changed, and
-    /// the run queue isn't longer. After `Went` the run is nearer its end. The error is why the run stops.
+    /// instead, which tokens that move on and on would starve otherwise. `Rests` if no token is runnable: then the ledger hasn't changed, and the run
+    /// queue isn't longer. After `Went` the run is nearer its end. The error is why the run stops. In a run with an order (`--order`) the order draws
+    /// the turn instead (`drawn_turn`), and `Rests` says that no due call is left, either.
     pub(crate) fn turn(&mut self, inputs: &Inputs<'_, P>) -> Result<Turn, Stop>
         ensures turned { IfOk result (λ turn. HasTurned self.old.ledger (deque_len self.old.ready.handles) self.new.ledger (deque_len self.new.ready.handles) turn) }
         ensures stops { IfErr result (λ stop. Stops P.listing self.new.ledger stop) }
@@ -630,8 +636,8 @@ impl<P: Run> Scheduler<P> {
     }
 
     // Makes the call of a site at which the token in this slot is. The contract asks that the token can do that: all arguments have values. Where the
-    // table answers the call at once, the token on the answer goes on; but in an order a script's answer has a turn of its own. The error is why the
-    // run stops.
+    // table answers the call at once, the token on the answer goes on; but in a run with an order (`--order`: a number decides whose turn comes) a
+    // script's answer has a turn of its own. If the call halts or pends the token is gone; it never waits. The error is why the run stops.
     #[inline(always)]
     fn call(&mut self, inputs: &Inputs<'_, P>, slot: usize, token: Token) -> Result<Step, Stop>
         requires held { IsHeld self.old.ledger.slots slot token }

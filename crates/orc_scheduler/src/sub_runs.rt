@@ -1,4 +1,7 @@
-//! Sub-runs: a call of a definition runs apart from the run that makes it, with a scheduler and a ledger of its own, on any thread.
+//! Sub-runs: a call of a definition runs apart from the run that makes it, with a scheduler and a ledger of its own, on any thread. A *token* marks a
+//! part of the program's term that runs, and a `Handle` names it; the ledger, which has a run's records, keeps it in a *slot*. A *side* is the right
+//! one of a `<x<` or the left one of a `;`. `inputs` are the program's nodes and the table that answers its calls. In contracts the type `P` names
+//! the run, and `P.keeps` says whether its journal is kept.
 
 ghost use Rattle.std.specs.Prelude.{◌≡◌, ◌≤◌, IfSome};
 ghost use Rattle.orc_rules.specs.declared.limits.TheConstants.{MOST_ENTRIES};

@@ -1,4 +1,6 @@
-//! The result of a run: how it ended, what it published, and its journal.
+//! The result of a run: how it ended, what it published, and its journal. In contracts the type `P` names the run: `P.listing` is its program,
+//! `P.limit` the most entries that it may have, and `P.keeps` says whether its journal is kept. `HasEnded` says that it has ended so, and `IsPlayed`
+//! that a result is that of such a run.
 
 ghost use Rattle.std.specs.Prelude.{◌≡◌, true, is_some, IfOk, IfSome};
 ghost use Rattle.orc_rules.specs.Trace.{published};
@@ -31,7 +33,8 @@ fn kept<P: Run>(
     Ok((values, Some(journal)))
 }
 
-/// The result of a run that has ended as `end` says, with its journal if it `keeps` one. The error is refused memory.
+/// The result of a run that has ended as `end` says, with its journal if it `keeps` one. The ledger has the run's records; `inputs` is there for the
+/// contract alone. The error is refused memory.
 pub(crate) fn played<P: Run>(
     alloc: Global,
     ledger: Ledger<P>,

@@ -1,4 +1,6 @@
-//! The tokens that wait for cells, in a chain of links for each cell.
+//! The tokens that wait for cells, in a chain of links for each cell. A *cell* is the variable of an opened `f <x< g`: a token that needs its value
+//! waits until the cell is bound (it gets a value) or lost (it never will). A `Handle` names a token. `Ready` is the run queue: the tokens whose turn
+//! comes.
 
 use crate::ready::{Handle, Ready};
 use std::alloc::{AllocError, Global};

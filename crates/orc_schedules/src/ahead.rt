@@ -1,6 +1,10 @@
 //! Early steps that nobody sees. The search takes these steps of a state, and no others, before it lists what the state may do, so the orders of such
 //! steps make no states. The sieve keeps nothing of such a step, and the step leaves the answers of the calls to come as they are (`ahead_follows` in
-//! orc_search).
+//! orc_search). An *early* step leaves the term's other steps as they are, so it may go first. A state is a `Key`: the numbers of its term (what is
+//! left to run), of its list of the calls that were made, and of its list of what was seen, as far as the sieve keeps it. A `Source` is the program
+//! with the table that answers its calls (`answers`), and `Parts` goes through the parts of a term. The *sieve* says what the search keeps of what
+//! happens. An error of the sieve, and a *count past its type*, is a number that is too great: of a call's arguments, of calls, of nested prunings,
+//! or of the sites that a test names.
 
 ghost use Rattle.std.specs.Prelude.{◌≡◌, ◌<◌, length, true, IfOk, IfSome, OnOk};
 ghost use Rattle.orc_search.specs.Early.{IsHidden};
@@ -26,7 +30,8 @@ const MOST_EARLY: u64 = 1000;
 impl Tables {
     // Whether nobody sees this happening, which is that of an early step of the state `from`: the sieve keeps nothing of it, and the calls to come
     // are answered after it as before. The lists after it may be new ones, which stay in the tables then. `AreKnown` says that all numbers in the
-    // tables are of something, `Keeps` that all that was there keeps its number. The error is refused memory, or one of the sieve's.
+    // tables are of something, `IsKnown` that those of a state are, and `Keeps` that all that was there keeps its number. The error is refused
+    // memory, or one of the sieve's.
     fn is_unseen(
         &mut self,
         alloc: Global,

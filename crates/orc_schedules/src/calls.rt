@@ -1,4 +1,6 @@
-//! Occurrences, which are what became of calls and publications, as `Once` looks for them and compares them.
+//! Occurrences, which are what became of calls and publications, as `Once` looks for them and compares them. `Once` is a list to which an equal item
+//! isn't added again. A `Phase` is what became of a call: it was made, answered with a value, halted without one, or cancelled, which means that it
+//! was dropped before. A site has the number that claims have for it.
 
 ghost use Rattle.std.specs.Prelude.{◌≡◌, true, slice_index_or};
 ghost use Rattle.orc_rules.specs.declared.value.Value.TheVariants.{Signal};

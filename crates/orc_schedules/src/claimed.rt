@@ -7,7 +7,7 @@ use orc_outcome::End;
 /// apart.
 #[derive(Drop)]
 pub struct Seen {
-    /// Halted or Quiet.
+    /// Halted (all that ran has come to `stop`), or Quiet (something still waits, for what never happens).
     pub end: End,
     /// What happened in it of what the claim names, in order, with times.
     pub happened: Vec<Happening>,

@@ -1,5 +1,6 @@
 //! Lists of calls that were made, by their numbers. An *entry* (`Made`) of a list is a site with arguments, and how often it was called so, as far as
-//! later calls are answered otherwise because of it (`called`).
+//! later calls are answered otherwise because of it (`called`). Here `answers` is the table that answers the program's calls, and a `Happening` is
+//! what a step shows: a call, an answer, a publication or nothing. Lists are named by their numbers (`at`, `to`), from 0.
 //!
 //! In contracts `made_at` is the list of a number, `count_of` an entry as the definitions have it, and `Grows` says that the lists which were there
 //! stay.

@@ -1,4 +1,7 @@
-//! The search through all schedules of a program, as other crates call it.
+//! The search through all schedules of a program, as other crates call it. A *small* term is what is left of the program to run, without the numbers
+//! of calls and cells; `Terms` keeps such terms by numbers of their own. A sieve says what a search keeps of what happens, and a `ClaimSite` is a
+//! site that a test names. `limit` bounds how many entries the journal of a run has, cancels not counted. A run ends by itself where it has *halted*:
+//! all that ran has come to `stop`; or where it is *quiet*: something still waits, for what never happens.
 
 ghost use Rattle.std.specs.Prelude.{◌≡◌, ◌<◌, ◌*◌, ◌^◌, suc, length, true, Some, slice_get, IfOk, OnOk};
 ghost use Rattle.orc_rules.specs.Nodes.{source};
@@ -34,7 +37,7 @@ pub enum Schedules {
     All(Vec<Ended>, usize),
     /// There are more states than the search was to look at, as where a loop goes on publishing.
     TooMany,
-    /// A run within the limit of entries, or one to a state that was found, may come to a time of more than 64 bits.
+    /// A run within the limit of entries, or one to a state that was found, may come to a time of more than 64 bits, which the rules don't allow.
     TooLong,
 }
 
@@ -49,7 +52,7 @@ fn number_at(numbers: &[usize], at: usize) -> Option<usize>
 }
 
 // The number of the program's main term, as a small one, among `terms`; that of `stop` if the program has no such node. `numbers` has by node the
-// number of its term (`AreNumbered`). The error is refused memory.
+// number of its term (`AreNumbered`). The terms that were there stay (`Extends`). The error is refused memory.
 fn number_of_source(
     terms: &mut Terms,
     program: &Program,

@@ -1,4 +1,6 @@
-//! What terms may do after lists of calls, kept so that it is worked out once: states that differ only in what was seen share it.
+//! What terms may do after lists of calls, kept so that it is worked out once: states that differ only in what was seen share it. Terms are named by
+//! their numbers in `Terms`, and lists of calls by theirs in `Counts`; of a state (`Key`) both are looked at here. A `Source` is the program with the
+//! table that answers its calls. A `Successor` is a step: what is seen of it, and the number of the term after it.
 
 ghost use Rattle.std.specs.Prelude.{◌≡◌, ◌⊎◌, ◌<◌, ◌++◌, ◌∷◌, [], true, Some, length, slice_get, IfSome, IfOk, OnOk};
 ghost use Rattle.orc_search.specs.Nodes.{small_at, smalls, Extends};
@@ -134,7 +136,8 @@ impl Moves {
 
     /// The place, from 0, at which all is kept that the term of the state `from` may do after its list of calls; it is worked out if it isn't there.
     /// The place holds until the next `find`, which may drop all. `IsReady` asks that each node of the program has the number of its term. The error
-    /// is refused memory, or a count past its type (`successors`). The terms that were there stay, in both cases.
+    /// is refused memory, or a count past its type (`successors`): of a call's arguments, of calls, or of nested prunings. The terms that were there
+    /// stay, in both cases.
     pub fn find(
         &mut self,
         terms: &mut Terms,

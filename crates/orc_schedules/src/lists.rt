@@ -1,7 +1,11 @@
 //! Lists of what was seen on the paths to states, by their numbers. Each list is a shorter one with one thing behind it, so that paths which begin
-//! alike share their beginning. A list is named by its number (`at`, `before`, `to`), from 0.
+//! alike share their beginning. A list is named by its number (`at`, `before`, `to`), from 0. A `Happening` is what a step shows. Claims have it as
+//! an `Occurrence`, a publication or what became of a call (its `Phase`), and with its time as a `Happened`. The sieve says which of these a search
+//! keeps.
 //!
-//! In contracts `lists` is the list of all of them by their numbers, `list_at` is one, and `Grows` says that those which were there stay.
+//! In contracts `lists` is the list of all of them by their numbers, `list_at` is one, `nothing_yet` the empty one, `list_of` what a `Longer` makes,
+//! and `Grows` says that those which were there stay. `kept_by`, `names_of` and `named` say what the sieve keeps, `seen_now` and `seen_after` put it
+//! behind a list.
 
 ghost use Rattle.std.specs.Prelude.{◌≡◌, ◌<◌, ◌++◌, ◌∷◌, [], length, option_to_list, true, Some, slice_get, IfSome, IfNone, IfOk, OnOk, OnErr};
 ghost use Rattle.orc_rules.specs.declared.value.Value.{Value as Datum};

@@ -1,4 +1,7 @@
-//! The sieve: what a search keeps of what happens. The less it keeps, the fewer states there are.
+//! The sieve: what a search keeps of what happens. The less it keeps, the fewer states there are. A `Watch` has what a claim names, and the latest
+//! time that it tells apart. An `Occurrence` is a publication, or what became of a call (its `Phase`): it was made, answered, halted or cancelled. In
+//! contracts `names_of` is what a sieve keeps, `sites_of` the sites that claims name, and `named` what is kept of a list; `becomes` is what became of
+//! a call as claims have it.
 
 ghost use Rattle.std.specs.Prelude.{◌≡◌, ◌∷◌, [], IfOk, option_to_list};
 ghost use Rattle.orc_claims.specs.declared.happening.Occurrence.TheVariants.{Published as published};

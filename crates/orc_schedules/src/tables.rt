@@ -1,10 +1,15 @@
-//! The tables of a search: what it has found, and the steps by which it finds more.
+//! The tables of a search: what it has found, and the steps by which it finds more. A state (`Key`) is three numbers: of its term, of its list of
+//! calls (in `counts`), and of its list of what was seen (in `lists`), as far as the sieve keeps it. A `Successor` is a step of a term: what is seen
+//! of it, and the number of the term after it; `Moves` keeps such steps for later. A `Source` is the program with the table that answers its calls
+//! (`answers`). The *sieve* says what a search keeps of what happens. An *early* step leaves the other steps of its term as they are, so it may go
+//! first.
 //!
-//! In contracts `AreKnown` says that all numbers in the tables are of something, `Keeps` that all that was there stays with its number, `reached` is
-//! the list of the states that the numbers mean, and `outcomes` that of the ends.
+//! In contracts `AreKnown` says that all numbers in the tables are of something, `IsKnown` that those of a state are, `Keeps` that all that was there
+//! stays with its number, `reached` is the list of the states that the numbers mean, and `outcomes` that of the ends.
 //!
-//! The error of a call that searches is refused memory, or one of the sieve's or of `successors`: a count past its type. The tables may have more in
-//! them then, and the search is over. Questions to the tables (`&self`) fail by refused memory alone.
+//! The error of a call that searches is refused memory, or one of the sieve's or of `successors`: a count past its type, which is one of a call's
+//! arguments, of calls, of nested prunings, or of the sites that a test names. The tables may have more in them then, and the search is over.
+//! Questions to the tables (`&self`) fail by refused memory alone.
 
 ghost use Rattle.std.specs.Prelude.{◌≡◌, ◌<◌, ◌≤◌, ◌∷◌, [], ℕ, List, length, map, true, false, Some, slice_get, IfSome, IfNone, IfOk, OnOk};
 ghost use Rattle.orc_rules.specs.Sites.{Site};

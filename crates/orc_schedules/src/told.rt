@@ -9,7 +9,7 @@ use orc_search::node::mix;
 /// An end: how a run ended, and the number of the list of what was seen in it, of the publications, say (`Lists` gives the list).
 #[derive(Clone, Copy, PartialEq, Eq)]
 pub struct Told {
-    /// Halted or Quiet.
+    /// Halted (all that ran has come to `stop`), or Quiet (something still waits, for what never happens).
     pub end: End,
     /// The number of the list of what was seen.
     pub seen: usize,

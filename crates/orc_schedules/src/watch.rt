@@ -1,5 +1,7 @@
 //! What a search watches for, so that it can tell whether a claim holds: what the claim's events name, and times up to the latest that it tells
-//! apart.
+//! apart. A claim is a plain one (`Plain`) behind conditions, each of which asks whether an event happens. An event is that one of its alternatives
+//! (`Simple`) happens: a publication, or what is wanted (`Wanted`) to become of a call. A `Slot` stands in the place of a value there: it is a value,
+//! a variable, or any value.
 //!
 //! In contracts `NameSame` says that two lists name the same occurrences, and `all_seen` that none of a list names a cancel.
 //!

@@ -1,4 +1,6 @@
-//! The check of a program: its faults, else its terms.
+//! The check of a program: its faults, else its terms. An `Ast` is the tree of a program as it is written. In a *written-out* term each argument that
+//! is no literal or variable has a new variable in its place, and a pruning gives that its value. `Numbers` gives names their numbers, `Looking`
+//! looks for faults, `Known` has the names of definitions and sites, and `Writing` writes terms into one list of nodes.
 
 ghost use Rattle.std.specs.Prelude.{◌≡◌, List, map, IfOk};
 ghost use Rattle.orc_syntax.specs.Ast.{label, text_of, IsAst};
@@ -72,7 +74,7 @@ fn main_span(ast: &Ast) -> Span
 ///
 /// The error is the fault that stands first, of two at one place the one of the lower number (`Unbound` to `TooMany` are C1 to C8);
 /// `TooMany` at the main expression where there is no other fault and all terms together have over `MOST_NODES` nodes; `Memory` (C9),
-/// placed at 0, where a growth was refused.
+/// placed at 0, where memory was refused.
 pub fn check<'a>(alloc: Global, ast: &Ast<'a>, sites: &[&[u8]]) -> Result<Program, ScopeFault>
     ensures { (s : Source) → IsAst ast.now s → Checks (map text_of sites.now) s result }
 {

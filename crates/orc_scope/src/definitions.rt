@@ -1,5 +1,7 @@
 //! The least fault of a program, and the names of its variables. The least fault is the one that is reported: it stands first, and of those at one
-//! place it has the lowest number (`lesser`).
+//! place it has the lowest number (`lesser`). Here `looking` is the look through a program's expressions, with the names in scope and the nodes that
+//! terms may still have. `known` has the names of definitions and sites. A `Part` is what stands at a node of the tree, and a `Span` is a place in
+//! the text, in bytes.
 
 ghost use Rattle.std.specs.Prelude.{◌≡◌, ◌-◌, ◌++◌, ◌∷◌, [], ℕ, List, map, take, IfOk, OnOk};
 ghost use Rattle.orc_syntax.specs.Ast.{label, sort, IsExpr, IsDefinition, AreDefinitions, IsAst};

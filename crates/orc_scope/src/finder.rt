@@ -1,7 +1,8 @@
 //! Looks for the least fault of an expression, and counts the nodes of its written-out term.
 //!
-//! The nodes of an expression stand in postorder. They are looked at from the last one to the first, so that a whole comes before its parts and
-//! can say which names are in scope there. A stack of tasks has one for each part that is still to come.
+//! The nodes of an expression stand in postorder. They are looked at from the last one to the first, so that a whole comes before its parts and can
+//! say which names are in scope there. A stack of tasks has one for each part that is still to come. Here `known` has the names of definitions and
+//! sites, and `scope` those of variables. A `Part` is what stands at a node of the tree, and a `Span` is a place in the text, in bytes.
 
 ghost use Rattle.std.specs.Prelude.{◌≡◌, ◌-◌, ◌++◌, ◌∷◌, [], ℕ, List, map, reverse, IfOk, OnOk, IfSome};
 ghost use Rattle.orc_syntax.specs.Tree.{Tree};
@@ -18,7 +19,8 @@ use orc_syntax::{Name, Node, Operator, Part, Plain, Span};
 use std::alloc::{AllocError, Global};
 
 // In contracts `IsLeast result faults` says that the result is the least of these faults, or None where there are none; `waiting` is the stack of
-// tasks with the next one first, and `IsFit` says that each can still make its scope.
+// tasks with the next one first, and `IsFit` says that each can still make its scope. `task` is a part's scope and number, and `bound` a scope with
+// the name, if there is one, at its end.
 
 /// A part that is still to be searched, and how to make its scope then: it keeps the first `depth` names in scope, drops the names after these, which
 /// belong to parts further right, and may add one.

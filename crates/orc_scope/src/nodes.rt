@@ -1,4 +1,5 @@
-//! The nodes of terms, in which each call has its list of operands.
+//! The nodes of terms, in which each call has its list of operands. An operand is a literal or a variable. A `TermNode` names the parts of a node,
+//! and the list of a call, by their numbers. `Numbers` says which definition or site a name means.
 
 ghost use Rattle.std.specs.Prelude.{◌≡◌, ◌++◌, ◌∷◌, [], List, length, map, IfOk, OnOk, OnErr};
 ghost use Rattle.orc_rules.specs.Nodes.{HasParts, param_of, Terms as Listed};
@@ -13,7 +14,8 @@ use std::alloc::{AllocError, Global};
 use std::marker::Model;
 
 // In contracts `terms` are the terms of the nodes, in their order, `HasParts n node` says that a node's parts are among the first n nodes, and
-// `HasList n node` that its list is among the first n lists.
+// `HasList n node` that its list is among the first n lists. `outer_meaning` is what a name means by its places among definitions and sites, and
+// `called` the call of that, or `stop`.
 
 /// Terms of `orc_rules` that are being written out: nodes, each behind those of its parts, and the lists of operands that calls name by number.
 /// Each call's list is there.

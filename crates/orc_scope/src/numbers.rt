@@ -1,4 +1,5 @@
-//! The numbers of names: in terms, definitions, sites and variables are numbers of 32 bits.
+//! The numbers of names: in terms, definitions, sites and variables are numbers of 32 bits. A *new* variable is one that no name in the source means:
+//! it is bound by a `>>` or `<<`, or it stands in the place of an argument that is no literal or variable.
 
 ghost use Rattle.std.specs.Prelude.{◌≡◌, ◌<◌, ◌+◌, [], ℕ, List, length, map, slice_index_or, IfSome, IfNone};
 ghost use Rattle.orc_rules.specs.declared.param.Operand.{Operand};

@@ -1,7 +1,8 @@
 //! Writes out expressions as nodes of terms (*Written out* in docs/orc.md).
 //!
 //! The nodes of an expression stand in postorder, so they are written from the first to the last: each takes its parts, which were written just
-//! before, from the end of a stack, and leaves what it makes of them there.
+//! before, from the end of a stack, and leaves what it makes of them there. A `Piece` on the stack is an operand (a literal or a variable), which has
+//! no node yet, or the number of a node. `numbers` gives names their numbers. A `Part` is what stands at a node of the source's tree.
 
 ghost use Rattle.std.specs.Prelude.{◌≡◌, ◌<◌, ◌≤◌, ◌+◌, drop, ◌∷◌, [], ℕ, List, length, map, None, IfOk, OnOk};
 ghost use Rattle.orc_rules.specs.declared.limits.TheConstants.{MOST_ARGUMENTS};
@@ -123,7 +124,7 @@ impl Writing {
     }
 
     // The arguments of a call, which are the parts on the stack (`pieces`) from place `base` on, as operands. An argument that has a node is replaced
-    // by a new variable, whose number `fresh` gives for the argument's place in the call, from 0.
+    // by a new variable, whose number `fresh` gives for the argument's place in the call, from 0; there are `MOST_ARGUMENTS` arguments at most.
     fn operands(&self, numbers: &Numbers, base: usize) -> Operands
         requires ready { IsReady self.now }
         requires base { base ≤ length self.now.pieces.items }
@@ -156,7 +157,8 @@ impl Writing {
     }
 
     // Puts a call, whose node has the number `call`, into the prunings of its new variables, the first argument's innermost, and gives the number of
-    // the outermost one's node. The arguments are the parts on the stack from place `base` on; they stay there. So do the nodes so far (`Keeps`).
+    // the outermost one's node. The arguments are the parts on the stack from place `base` on; they stay there. So do the nodes so far (`Keeps`). The
+    // clauses ask that the nodes are there, and that the arguments are `MOST_ARGUMENTS` at most: `fresh` has numbers for so many.
     fn prunings(&mut self, call: usize, numbers: &Numbers, base: usize) -> Result<usize, AllocError>
         requires ready { IsReady self.old }
         requires base { base ≤ length self.old.pieces.items }

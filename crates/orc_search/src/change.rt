@@ -1,4 +1,10 @@
-//! Changes of all of a small term: something is put for a name, a cell is settled, or time passes.
+//! Changes of all of a small term: something is put for a name, a cell is settled, or time passes. In a small term calls and cells have no numbers of
+//! their own. A term is named by its number in `Terms`; what it becomes by a change is its *image*, which `Terms` keeps. A node is a `Tip`, which has
+//! no parts, or two terms that a `Joint` such as `|` joins. A `Param` is an argument: a name, a value, a cell without a value yet, or void, which
+//! never gets one. What goes for a cell's number says how many left sides of opened prunings stand around its own pruning.
+//!
+//! In contracts `smalls terms` is the list of all terms by their numbers, and `Extends` says that those which were there stay. `changed` is what a
+//! term becomes by a change, and `ProgressIs` says that an answer `Is` has the right number.
 
 ghost use Rattle.std.specs.Prelude.{◌≡◌, ◌<◌, List, length, map, Some, true, slice_get, IfOk, IfSome};
 ghost use Rattle.orc_rules.specs.Term.{put_param};
@@ -201,7 +207,8 @@ fn part(terms: &Terms, change: Change, stays: bool, at: usize) -> Option<usize>
 }
 
 // One step for the term of the number `at`: what it becomes if the images of its parts are kept, and otherwise a part whose image is wanted first,
-// the left one before the right one. The error is refused memory. The contract promises nothing of a part that is wanted.
+// the left one before the right one. The error is refused memory, or that there is no such term. The contract promises nothing of a part that is
+// wanted.
 fn step(terms: &mut Terms, alloc: Global, change: Change, at: usize) -> Result<Progress, AllocError>
     ensures progress { IfOk result (λ s. ProgressIs (smalls terms.old) (smalls terms.new) change at s) }
     ensures kept { Extends (smalls terms.old) (smalls terms.new) }
@@ -225,8 +232,8 @@ fn step(terms: &mut Terms, alloc: Global, change: Change, at: usize) -> Result<P
 }
 
 // One step of the whole change, for the term `at`, which was taken from the end of `todo`: its image is kept, and handed back; or the term goes back
-// to `todo`, and behind it the part that is wanted first, and the answer is None. The error is refused memory. The contract promises nothing of
-// `todo`, nor that the image is kept.
+// to `todo`, and behind it the part that is wanted first, and the answer is None. The error is refused memory, or that there is no such term. The
+// contract promises nothing of `todo`, nor that the image is kept.
 fn advance(
     terms: &mut Terms,
     alloc: Global,

@@ -1,8 +1,11 @@
 //! Early steps of a numbered term: a search may take them before all others, since they leave the term's other steps as they are (`Early` in
 //! `specs/Early.antt`). A publication is early only if a `>x>` or a cell takes it and nothing else is left of the part. A call or an answer is early
-//! only if nobody sees it, which the caller decides. All other steps are early.
+//! only if nobody sees it, which the caller decides. All other steps are early. A `Source` is the program with the table that answers its calls. A
+//! `Successor` is a step: what is seen of it (`Happening`), and the number of the term after it. A `Frame` is what encloses a part directly. A `Spot`
+//! is a part with its depth: how many left sides of opened prunings stand around it.
 //!
-//! In contracts `own` is what the definitions let a part do by itself, `IsEarly` says that a step is early, and `Extends` that all terms stay.
+//! In contracts `smalls terms` is the list of all terms by their numbers, `own` is what the definitions let a part do by itself, `IsEarly` says that
+//! a step is early, and `Extends` that all terms stay.
 
 ghost use Rattle.std.specs.Prelude.{◌≡◌, ◌<◌, ◌++◌, ◌∷◌, [], ℕ, List, length, Some, slice_get, true, IfOk, IfSome, OnOk};
 ghost use Rattle.std.specs.List.{AllZip};

@@ -1,4 +1,5 @@
-//! Images: what terms became by changes. They are kept so that a part which occurs often in a term is changed once.
+//! Images: what terms became by changes. They are kept so that a part which occurs often in a term is changed once. A `Change` puts something for a
+//! name, settles a cell or lets time pass, in a whole term. Terms are named by their numbers in `Terms`.
 
 ghost use Rattle.std.specs.Prelude.{◌≡◌, ◌⊎◌, ◌++◌, ◌∷◌, [], slice_get, IfSome};
 ghost use Rattle.orc_search.specs.Changes.{IsIn};

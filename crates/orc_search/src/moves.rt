@@ -1,4 +1,8 @@
-//! All that a numbered term may do. A part does something *by itself* (`own_step`), and `lifted_out` says what the whole does by that.
+//! All that a numbered term may do. Such a term is a small one: its calls and cells have no numbers of their own. A part does something *by itself*
+//! (`own_step`), and `lifted_out` says what the whole does by that. A `Successor` is a step: what is seen of it (`Happening`), and the number of the
+//! term after it. A node is a `Tip`, which has no parts, or two terms that a `Joint` such as `|` joins. A `Param` is an argument: a name, a value, a
+//! cell without a value yet, or void, which never gets one. A `Frame` is what encloses a part directly, and a `Spot` is a part with its depth: how
+//! many left sides of opened prunings stand around it.
 //!
 //! In contracts `smalls terms` is the list of all terms by their numbers, `Extends` says that those which were there stay, and `AllZip (IsSuccessor
 //! ..)` that numbered steps are the steps of a list, one by one. `made` are the calls that were made before. A match that hands an option back as it

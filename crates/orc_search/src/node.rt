@@ -1,5 +1,9 @@
 //! The nodes of small terms: what a small term is at its root, and the numbers of its parts among the terms. Here too are the hashes by which nodes
-//! are found.
+//! are found. A `Param` is what stands as an argument: a name, a value, a cell without a value yet, or void, which never gets one. `Found` is what
+//! comes of a call: an answer after a delay, or never one. In a small term calls and cells have no numbers of their own.
+//!
+//! In contracts `small_of_node terms` is the term of a node whose parts are among `terms`, `tip_of` that of a node without parts, and `out_of` a
+//! pending call, as the definitions have them.
 
 ghost use Rattle.std.specs.Prelude.{◌≡◌, ◌&&◌, List, true};
 ghost use Rattle.orc_search.specs.Nodes.{small_of_node, tip_of, out_of};

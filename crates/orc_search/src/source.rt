@@ -1,4 +1,9 @@
-//! The terms of a program's text as small ones. Its nodes are in an order in which parts come before what they are parts of.
+//! The terms of a program's text as small ones. Its nodes are in an order in which parts come before what they are parts of. In a small term calls
+//! and cells have no numbers of their own: `change.rt` says by what a cell goes. A term is named by its number in `Terms`. An operand of a text is a
+//! name or a value; a parameter (`Param`) of a term may be a cell or void, too.
+//!
+//! In contracts `smalls terms` is the list of all terms by their numbers, and `Extends` says that those which were there stay. `AreNumbered` says
+//! that each number is that of the small term of the program's node at its place.
 
 ghost use Rattle.std.specs.Prelude.{◌≡◌, length, map, slice_get, IfOk};
 ghost use Rattle.orc_rules.specs.Nodes.{param_of};

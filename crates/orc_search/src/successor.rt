@@ -1,4 +1,8 @@
-//! What happens in a part of a term, and what the whole becomes by it.
+//! What happens in a part of a term, and what the whole becomes by it. Terms are named by their numbers in `Terms`. A node joins two of them by a
+//! `Joint` such as `|`. A `Change` puts something for a name in a whole term, or settles a cell there.
+//!
+//! In contracts `smalls terms` is the list of all terms by their numbers, `Extends` says that those which were there stay, and `IsSuccessor` that a
+//! numbered step is that step of the definitions.
 
 ghost use Rattle.std.specs.Prelude.{◌≡◌, ◌<◌, length, Some, slice_get, IfOk};
 ghost use Rattle.orc_rules.specs.declared.param.Param.TheVariants as param_is;

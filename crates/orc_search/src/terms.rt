@@ -1,4 +1,7 @@
-//! The small terms of a search, each as a numbered node whose parts are earlier nodes. Terms share their parts, and none is ever removed.
+//! The small terms of a search, each as a numbered node whose parts are earlier nodes. In a small term calls and cells have no numbers of their own.
+//! Terms share their parts, and none is ever removed. A node is a `Tip`, which has no parts, or two terms that a `Joint` such as `|` joins. A change
+//! puts something for a name in a whole term, settles a cell or lets time pass; what a term becomes by it is its image. A summary says of a term
+//! whether it has halted (`over`), and after how much time its first call is due (`left`).
 //!
 //! In contracts `smalls` is the list of all terms by their numbers, `HasParts` says that a node's parts have lower numbers, and `Extends` that the
 //! terms which were there stay. A match that hands an option back as it is changes nothing: it is for the prover.

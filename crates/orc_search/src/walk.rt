@@ -1,4 +1,8 @@
-//! A walk through all parts of a term that can move, each part before its own parts and the left one first, without recursion.
+//! A walk through all parts of a term that can move, each part before its own parts and the left one first, without recursion. A `Successor` is a
+//! step: what is seen of it, and the number of the term after it. A `Joint` says how two terms are joined, as by `|`.
+//!
+//! In contracts `smalls terms` is the list of all terms by their numbers, `Extends` says that those which were there stay, and `IsSuccessor` that a
+//! numbered step is that step of the definitions.
 
 ghost use Rattle.std.specs.Prelude.{◌≡◌, ◌<◌, ◌++◌, ◌∷◌, [], length, reverse, IfOk, OnOk};
 ghost use Rattle.orc_search.specs.declared.node.Node.TheVariants.{Pair};

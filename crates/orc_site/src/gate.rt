@@ -2,8 +2,8 @@
 
 ghost use Rattle.std.specs.Prelude.{◌≡◌, true};
 
-/// Is passed once for each call by the worker that recorded it, before the call is made and first polled. [`Open`](crate::Open) is one that holds
-/// nobody.
+/// The worker that has recorded a call passes it, once for each call, before the call is made and first polled. A worker is a thread of the run, and
+/// to poll a call is to ask for its answer. [`Open`](crate::Open) is a gate that holds nobody.
 pub trait Gate {
     // What a caller may know of a gate: that it holds nobody, so that `is_open` answers true. By default nothing is known.
     ghost holds_nobody: { Self → Type 0 } = { λ _. ⊥ };

@@ -1,4 +1,4 @@
-//! A gate that holds nobody, for runs that nobody wants to hold up.
+//! A gate that holds nobody, for runs that nobody wants to hold up. Another gate can hold a worker (a thread of the run) before it makes a call.
 
 ghost use Rattle.std.specs.Prelude.{◌≡◌, true, false};
 

@@ -1,4 +1,6 @@
-//! A call that the table of sites answers, as a future in logical time.
+//! A call that the table of sites answers, as a future in logical time. A poll of a future is ready with the answer, or it is *pending*: then it
+//! keeps the waker from the context `cx`, which wakes the task that polled it. The *moment* is the time that the future's owner hands in. A `Source`
+//! of `futures` is what a pending poll waits for.
 
 ghost use Rattle.std.specs.Prelude.{◌≡◌, true, None};
 ghost use Rattle.orc_site.specs.Time.{found, due_from, answer_of, is_due};

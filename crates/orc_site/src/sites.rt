@@ -35,7 +35,7 @@ pub trait SiteFuture: Future<Output = Answer> {
     ghost early: { (call : Self) (answer : Reply) → Self.gives call answer → is_due (when call) (moment call) ≡ true };
 }
 
-/// Makes the calls of a program. Several workers may ask it at the same time.
+/// Makes the calls of a program. Several workers (threads of the run) may ask it at the same time.
 pub trait Sites {
     /// A call that is under way.
     type Call: SiteFuture;

@@ -189,8 +189,9 @@ impl<'a> Sketch<'a> {
         Ok(())
     }
 
-    // The spot of the pruning of an argument, by its `place` from 0, round the spot `call`; that spot itself where the argument is simple, a value or
-    // a variable. `first` is where the call's arguments begin among the pending parts. `name` and `span` are the call's.
+    // The spot of the pruning of an argument, by its `place` from 0, round the spot `call`: that of the call, or of an earlier argument's pruning
+    // round it. That spot itself where the argument is simple (a value or a variable) or isn't there. `first` is where the call's arguments begin
+    // among the pending parts. `name` and `span` are the call's.
     fn wrap(
         &mut self,
         call: usize,

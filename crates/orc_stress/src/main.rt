@@ -6,6 +6,9 @@
 //!
 //! A number that is left out is its default, and so are WORKERS and ROUNDS behind a NAME if they can't be read. If the first word is neither a number
 //! nor a NAME, the program writes the names and ends with status 2.
+//!
+//! A `Storm` is a program with how its runs have to end. `Played` is a run that has ended: how (`summary`), what it published, and its journal. A
+//! run's *gate* may hold each call before its site makes it.
 #![tactic(auto)]
 
 mod gates;

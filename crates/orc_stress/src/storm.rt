@@ -1,4 +1,5 @@
-//! The storms: programs, and how their runs have to end.
+//! The storms: programs, and how their runs have to end. `Played` is a run that has ended: how (`summary`), what it published, and its journal. A
+//! run's *gate* may hold each call before its site makes it.
 
 use orc_load::{LoadFault, Loaded};
 use orc_outcome::{End, Played};
@@ -133,8 +134,8 @@ pub const STORMS: [Storm; 12] = [
         values: &[1],
         limit: GREATEST_LIMIT,
     },
-    // Nearly as many groups as may be open, 1,024, stay open until the end, and others come and go beside them: 1,020 prunings wait for a call without
-    // an answer, and one more is opened in each of a hundred rounds. The loop of these rounds publishes 100 when it ends.
+    // Nearly as many groups as may be open, 1,024, stay open until the end, and others come and go beside them: 1,020 prunings wait for a call
+    // without an answer, and one more is opened in each of a hundred rounds. The loop of these rounds publishes 100 when it ends.
     Storm {
         name: "standing",
         source: b"def idle(n) = Lt(0, n) >b> Ift(b) >> ((x <x< Never()) | Sub(n, 1) >m> idle(m))\ndef loop(n) = Lt(n, 100) >b> (Iff(b) >> n | Ift(b) >> (x <x< (Add(n, 0) | Never())) >> Add(n, 1) >m> loop(m))\nidle(1020) | loop(0)",

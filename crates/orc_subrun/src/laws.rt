@@ -3,8 +3,8 @@
 ghost use Rattle.orc_subrun.specs.Grafts.{PartIsGrafted, ProgramIsStill};
 
 /// The journal of a part's own run (a *part* is a call of a definition that is run by itself), under its numbers in the enclosing run, continues that
-/// run's journal, if it has only local entries (no tick, no cancel, no call that a script answers) and no cancel is due. If the part publishes
-/// something, no `>x>`, no `;` and no right side of a `<x<` may enclose it: so the whole publishes that.
+/// run's journal, if it has only local entries (no tick, no cancel, no call that a script answers) and no cancel of an earlier bind is still to come.
+/// If the part publishes something, no `>x>`, no `;` and no right side of a `<x<` may enclose it: so the whole publishes that.
 pub fn part_is_grafted()
     ensures { PartIsGrafted }
 {}

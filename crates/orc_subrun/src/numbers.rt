@@ -1,4 +1,5 @@
-//! The numbers of a part's own run in the enclosing run. `own` is a number in the part, counted from 1.
+//! The numbers of a part's own run in the enclosing run. `own` is a number in the part, counted from 1. A *mark* is the number of a token, which
+//! marks a part of the program's term that runs. A *cell* stands for the x of an opened `f <x< g`.
 
 ghost use Rattle.std.specs.Prelude.{◌≡◌, ◌+◌, IfSome};
 ghost use Rattle.orc_subrun.specs.Moved.{cell_in, mark_in};

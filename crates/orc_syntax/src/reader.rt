@@ -1,7 +1,9 @@
 //! Reads a program token by token, without recursion: an operator-precedence parser with a stack of its own.
 //!
-//! A `Mode` says what was read last, a `Frame` what still waits to be closed or to get its right side. The nodes of the tree are written in
-//! the order of their ends (postorder), so the nodes of an expression that was just read are always the last ones.
+//! A `Mode` says what was read last, a `Frame` what still waits to be closed or to get its right side. The nodes of the tree are written in the order
+//! of their ends (postorder), so the nodes of an expression that was just read are always the last ones. An operand is an expression that has been
+//! read whole. `What` is what has to stand at a place, a `Joint` is an operator without a variable, and a `Side` says which way a sign of `>x>` or
+//! `<x<` points.
 
 ghost use Rattle.std.specs.Prelude.{if◌then◌else◌, ◌≡◌, ◌++◌, IfOk, IfErr, IfSome, IfNone, List, ◌∷◌, [], ℕ, Ok, Err, map, length};
 ghost use Rattle.orc_lex.specs.Tokens.{sort};
@@ -207,8 +209,8 @@ pub struct Reader<'a> {
     frames: Vec<Frame<'a>>,
 }
 
-// What a token does is inlined into the loop over the tokens: each call would copy the token and what has just been read.
-// The functions follow those of specs/Machine.antt, a state machine that is proved to read what the grammar describes.
+// The functions for what a token does are inlined into the loop over the tokens: a call that isn't inlined would copy the token and what has just
+// been read. The functions follow those of specs/Machine.antt, a state machine that is proved to read what the grammar describes.
 impl<'a> Reader<'a> {
     /// A reader that has read nothing.
     pub fn new(alloc: Global) -> Reader<'a>

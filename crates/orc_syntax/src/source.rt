@@ -136,7 +136,7 @@ fn first_fault(read: Result<Ast<'_>, SyntaxFault>, at: usize) -> SyntaxFault
 /// Reads the program that a text spells, with places in bytes from 0. The text stays borrowed: the tree's names are slices of it.
 ///
 /// A text over `LONGEST_SOURCE` bytes is refused before anything else (S6). Otherwise the fault of the least place is answered, and at one
-/// place the one with the lower number, S1 to S7; each is explained at `SyntaxFault`. `Memory` (S8), where a growth was refused, says nothing of
+/// place the one with the lower number, S1 to S7; each is explained at `SyntaxFault`. `Memory` (S8), where memory was refused, says nothing of
 /// the text.
 pub fn parse<'a>(alloc: Global, src: &'a [u8]) -> Result<Ast<'a>, SyntaxFault>
     // What is answered is what the text spells.

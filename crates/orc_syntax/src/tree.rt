@@ -1,7 +1,8 @@
 //! The tree of a program, as a list of nodes.
 //!
-//! The nodes of an expression stand in postorder: each behind its parts, so the last one is the whole. No pointers and no recursion are needed:
-//! a loop from the front meets parts before wholes, and a loop from the back wholes before parts.
+//! The nodes of an expression stand in postorder: each behind its parts, so the last one is the whole. No pointers and no recursion are needed: a
+//! loop from the front meets parts before wholes, and a loop from the back wholes before parts. A `Span` is a place in the text: its first byte, from
+//! 0, and the one behind its last.
 
 use orc_lex::token::{Plain, Span};
 
@@ -36,7 +37,7 @@ pub enum Part<'a> {
     Call(Name<'a>, usize),
     /// An operator with its two sides.
     Operation(Operator<'a>),
-    /// `val x = G F`, with x: its parts are G, then F.
+    /// `val x = G F`, with x: its parts are the expressions G, then F.
     Val(Name<'a>),
 }
 

@@ -1,4 +1,5 @@
-//! The open groups, each found by its number, and how many members each group has.
+//! The open groups, each found by its number, and how many members each group has. A *step* is the entry into the right side of a `<x<`, or into the
+//! left side of a `;` or a `>x>`; a group's `outer` is the number of the innermost step around the whole `f <x< g` or `f ; g`, 0 for none.
 //!
 //! In contracts `weight w items` is the sum of w over the items: an equation for every w says which items there are, in any order. `is_this i n` is 1
 //! if both numbers are the same, else 0. `size_of sizes i` is how many members number i has. `LeadTo` says that `places` leads to each group.

@@ -1,5 +1,7 @@
 //! The calls that pend, found by their numbers, which count from 1 in the order in which calls are made. A *place* is one in the list of pending
-//! calls, from 0.
+//! calls, from 0. A *group* is an open right side of a `<x<`, or left side of a `;`, or the program, with the tokens, calls and groups directly in
+//! it. A *step* is the entry into such a side, or into the left side of a `>x>`: a call has the number of the innermost one around it, and `steps`
+//! tells by that its group. A call is *cancelled* if the right side of a `<x<` in which it pends goes.
 //!
 //! In contracts `weight w items` is the sum of w over the items: an equation for every w says which items there are, in any order. `but p w` leaves
 //! out those that pass p. `made` is how many calls were made. `ArePlaced` says that `places` leads to each call, `HaveNotes` that each is noted with

@@ -1,6 +1,8 @@
 //! The records of a run. A *token* marks a part of the program's term that runs. A *side* is a branch that ends as a whole: the right side of a
 //! `<x<`, or the left side of a `;`. A *group* is an open side with its members: the tokens, pending calls and inner groups directly in it. A *step*
-//! is the entry into a side or into the left side of a `>x>`: from a token's innermost step outwards they are what is around it.
+//! is the entry into a side or into the left side of a `>x>`: from a token's innermost step outwards they are what is around it. A *cell* stands for
+//! the x of an opened `f <x< g`, and its right side is g. An otherwise is an `f ; g`; its number is the mark (the number in the journal) of the token
+//! that entered it. A *scope* says by number what names stand for.
 
 use orc_rules::value::{Found, Value};
 
@@ -9,7 +11,7 @@ use orc_rules::value::{Found, Value};
 pub enum Standing {
     /// The node of the program with this number, in the scope with this number; scope 0 has no names.
     At(u32, usize),
-    /// A value that a call has answered.
+    /// A value that a call of a site has answered, or that a call of a definition which was run by itself has yielded.
     On(Value),
 }
 

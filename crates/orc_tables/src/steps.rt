@@ -1,5 +1,6 @@
 //! The table of steps. It tells, of a token with this innermost step, the group and the depth, what takes a publication, and whether it is inside the
-//! right side of a cell.
+//! right side of a cell. A *token* marks a part of the program's term that runs, and a *group* is what runs in a right side of a `<x<`, a left side
+//! of a `;`, or the whole program. A *cell* stands for the x of an opened `f <x< g`, and the step into g names it.
 
 ghost use Rattle.std.specs.Prelude.{◌≡◌, ◌≤◌, ◌<◌, ◌^◌, ◌++◌, ◌∷◌, [], false, length, OnOk};
 ghost use Rattle.orc_tables.specs.Steps.{step_at, group_at, depth_at, taker_at, left_from, is_try as tries, HasRoom};
@@ -13,7 +14,7 @@ use std::marker::Model;
 
 /// The steps of a run, numbered from 1; 0 is the program as a whole. A step is the entry into the right side of a `<x<`, the left side of a `;`, or
 /// the left side of a `>x>`. A publication costs the same however many otherwises (`f ; g`) are around a token: each step notes what takes it, and an
-/// otherwise is marked only once.
+/// otherwise is marked as published only once (`leave`).
 #[derive(Drop)]
 pub struct Steps {
     // Step n is item n - 1.
@@ -102,8 +103,8 @@ impl Steps {
         }
     }
 
-    /// How many left sides of a `>x>` are around a token whose innermost step has the number `step`, out to the innermost right side of a cell; 0
-    /// past the last step.
+    /// How many left sides of a `>x>` are around a token whose innermost step has the number `step`, out to the innermost right side of a cell; 0 for
+    /// step 0 and past the last one.
     #[inline(always)]
     pub fn depth_at(&self, step: usize) -> u32
         ensures { result ≡ depth_at self.now.items step }
@@ -175,8 +176,9 @@ impl Steps {
         let _step = self.items.pop();
     }
 
-    /// Marks as published each otherwise (`f ; g`) that a publication passes on its way from step `from` outwards to what takes the publication:
-    /// their right sides never run. The loop stops at the first otherwise that is marked, since those around that one are marked, too.
+    /// Marks as published each otherwise (`f ; g`) whose left side a publication leaves on its way from step `from` outwards to what takes the
+    /// publication: their right sides never run. No step is removed. The loop stops at the first otherwise that is marked, since those around that
+    /// one are marked, too.
     pub fn leave(&mut self, from: usize)
         requires { from ≤ length self.old.items }
         ensures { self.new.items ≡ left_from self.old.items from }

@@ -1,5 +1,7 @@
 //! The tokens, each in a slot: a place in a list that a token keeps while it lives. A token is *parked* if it is known to wait, and noted with each
-//! cell for which it does.
+//! cell for which it does. A *cell* stands for the x of an opened `f <x< g`: it is bound to the first value of g, or lost if g halts without one. A
+//! token's `standing` is a value, or a node in a scope; its `step` is the number of the innermost entry around it into the right side of a `<x<`, or
+//! into the left side of a `;` or a `>x>`. A *group* is what runs in a right side of a `<x<`, a left side of a `;`, or the whole program.
 //!
 //! In contracts `live` are the tokens of the slots that aren't free, and `weight w items` is the sum of w over the items: an equation for every w
 //! says which items there are, in any order. `IsHeld slots k t` says that token t is in slot k. `StayParked` says that each token that is known to

@@ -1,4 +1,5 @@
-//! What is reported of claims is true: a law of the definitions, whose function has no body.
+//! What is reported of claims is true: a law of the definitions, whose function has no body. A *trial* is a run in some *way*, which is one choice of
+//! what the services of a test's case answer, and in some *order*, a number that decides whose turn comes. A *claim* says what must hold of each.
 
 ghost use Rattle.orc_tally.specs.Laws.{ToldIsTrue};
 

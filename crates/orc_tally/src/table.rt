@@ -1,5 +1,7 @@
 //! The rows of the table that `orc test` prints of a test. A claim's *section* is the place of its case, or None for `always`. Cases and claims are
-//! named by their places in the test, from 0.
+//! named by their places in the test, from 0. The claims of a case are held against its own runs, those of `always` against the runs of each case. A
+//! `ClaimLine` is the line of a claim: its text and its section. `Told` is what is reported of a claim over many runs, and a `Failure` is a run in
+//! which it fails.
 //!
 //! A loop that matches on the rest of a list is no `for`, since its invariant speaks of that rest.
 
@@ -94,7 +96,7 @@ pub enum Row {
     Case(usize),
     /// The claims that stand below `always` begin.
     Always,
-    /// The claim at this place failed in no run.
+    /// The claim at this place failed in no run, and no search found a schedule that breaks it.
     Holds {
         claim: usize,
         /// Whether the claim was put to the test in some run: something happened that it is about.

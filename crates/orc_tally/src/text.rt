@@ -1,7 +1,9 @@
 //! The text of the table that `orc test` prints of a test.
 //!
 //! The loops over lists aren't `for` loops, since their invariants speak of the rest of the list. Each error is refused memory. A claim's *section*
-//! is the place of its case, or None for `always`; cases and claims are named by their places in the test, from 0.
+//! is the place of its case, or None for `always`; cases and claims are named by their places in the test, from 0. A `Report` has all that the table
+//! is made of, and a `Row` is a line of it. A way is one choice of what the services of a case answer; each way is run in some orders. `Told` is what
+//! is reported of a claim over the runs of a case, and a `Counterexample` is what shows that it fails: a run, or a schedule that a search found.
 
 ghost use Rattle.std.specs.Prelude.{◌≡◌, ◌++◌, IfOk, IfSome, OnOk, Some, codes, map, true};
 ghost use Rattle.std.specs.List.{slice_get};

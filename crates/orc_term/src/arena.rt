@@ -1,4 +1,5 @@
-//! A marked term as numbered nodes: each names its parts, which are nodes too, and its parent, the node that it is a part of.
+//! A marked term, which is what is left of a program's term after the entries of a journal, as numbered nodes: each names its parts, which are nodes
+//! too, and its parent, the node that it is a part of.
 //!
 //! Node 0 is above the whole term and is its own parent. Nodes of the *program* (`TermNode`) have numbers of their own. A *scope* is the number
 //! of a list of names with what is bound to them (`orc_env`); 0 has no names.

@@ -1,5 +1,6 @@
 //! The sides that may have halted. A *side* is the right side of an opened pruning (`<x<`), or the left side of an entered otherwise (`;`): once it
-//! has halted, an entry `lost` or `right` of the journal ends it.
+//! has halted, an entry `lost` or `right` of the journal ends it. The nodes are those of a marked term, which is what is left of a program's term;
+//! `place` and `part` are their numbers.
 
 ghost use Rattle.std.specs.Prelude.{◌≡◌, ◌∷◌, ℕ, false, [], IfOk, Some, slice_get};
 ghost use Rattle.orc_term.specs.Sides.{MayBe, AreKnown, is_side, is_side_at, has_ended, is_set, HasEnded};

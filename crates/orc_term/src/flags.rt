@@ -1,5 +1,6 @@
 //! Flags of the nodes that have halted, by their numbers. A flag that is set stays set. Node 0, above the whole term, has a flag too, and is its own
-//! parent.
+//! parent. The nodes are those of a marked term, which is what is left of a program's term; `place` and `i` are their numbers. A node *has halted* if
+//! no call pends in its part of the term, no token waits there, and nothing is left but moves of marks and `lost`.
 
 ghost use Rattle.std.specs.Prelude.{◌≡◌, vec_len, [], ◌<◌, ◌≤◌, ◌∷◌, ◌++◌, ℕ, ◌&&◌, ◌⊎◌, true, false, List, Bool, length, slice_set, vec_capacity, IfSome, IfNone, slice_index_or};
 ghost use Rattle.orc_term.specs.Settling.{flag, inner_flag, HaltsNext, EndsAt, Settles};

@@ -1,4 +1,5 @@
-//! The nodes of a marked term by their numbers, with three indexes that save time: hints, where the restless nodes are, and ranks.
+//! The nodes of a marked term by their numbers, with three indexes that save time: hints, where the restless nodes are, and ranks. A node that was
+//! dropped with a side (the right one of a `<x<`, the left one of a `;`) is *gone*, and keeps its number.
 
 ghost use Rattle.std.specs.Prelude.{◌≡◌, ◌∷◌, ◌++◌, [], ◌+◌, ◌≤◌, ◌<◌, ◌^◌, List, length, slice_get, slice_set, slice_index_or, vec_len, vec_capacity, IfOk, IfSome};
 ghost use Rattle.orc_term.specs.Grafting.{relink};
@@ -23,8 +24,8 @@ pub struct Nodes {
     /// Each node's *hint*: the node itself, or a node above it such that this one and all between let through what is published below them, and don't
     /// change by it. A walk upward goes from hint to hint, so that its cost doesn't grow with the number of `|` on its way.
     hints: Vec<u32>,
-    /// Where the *restless* nodes are, those with a token, which can move now or later, and which of them were asked whether they can (`restless.rt`).
-    /// The question whether a token can move looks at the others and at new nodes alone, so that tokens that wait cost it nothing.
+    /// Where the *restless* nodes are, those with a token, which can move now or later, and which of them were asked whether they can
+    /// (`restless.rt`). The question whether a token can move looks at the others and at new nodes alone, so that tokens that wait cost it nothing.
     restless: Restless,
     /// Numbers that grow downwards. They bound how deep the nodes nest (`ranks.rt`).
     ranks: Ranks,
@@ -252,16 +253,16 @@ impl Nodes {
         }
     }
 
-    /// The nodes whose tokens have to be asked whether they can move: all with a token but those whose kinds are in `asked`. Some of the nodes have no
-    /// token, and a number may come twice.
+    /// The nodes whose tokens have to be asked whether they can move: all with a token but those whose kinds are in `asked`. Some of the nodes have
+    /// no token, and a number may come twice.
     pub fn to_ask(&self) -> ToAsk<'_>
         ensures { AreToAsk self.now.items self.now.asked result.waiting.now result.woken.now result.first_new }
     {
         self.restless.to_ask()
     }
 
-    /// Notes that all tokens were asked: none of them is asked again until `forget_asked`, or until its node gets another token by `wake`. If memory is
-    /// refused, all are asked again. The nodes stay.
+    /// Notes that all tokens were asked: none of them is asked again until `forget_asked`, or until its node gets another token by `wake`. If memory
+    /// is refused, all are asked again. The nodes stay.
     pub fn note_asked(&mut self)
         ensures items { self.new.items ≡ self.old.items }
         ensures asked { AreOfNodes self.new.items self.new.asked }
@@ -346,8 +347,8 @@ impl Nodes {
         // Nothing is noted in `restless`: a new node is asked in any case.
     }
 
-    /// Replaces a node. The new one has the same parent, lets through all that the old one let through, and has no token, or the one that was there: so
-    /// the hints stay right, and no restless node is missed.
+    /// Replaces a node. The new one has the same parent, lets through all that the old one let through, and has no token, or the one that was there:
+    /// so the hints stay right, and no restless node is missed.
     #[inline(always)]
     pub fn write_node(&mut self, i: usize, node: Node)
         requires { CanBecome self.old.items i node }

@@ -1,4 +1,6 @@
-//! Ranks of the nodes: each node has a greater one than its parent, so that the greatest rank is a bound for the levels below node 0.
+//! Ranks of the nodes: each node has a greater one than its parent, so that the greatest rank is a bound for the levels below node 0. The nodes are
+//! those of a marked term, and `items` has them by their numbers. The ranks are *kept* while each is known to be greater than that of the parent;
+//! `settle` and `settle_part` make them so, and have nothing to do with halted nodes.
 
 ghost use Rattle.std.specs.Prelude.{◌≡◌, ◌<◌, ◌≤◌, ◌∷◌, ◌++◌, [], true, ℕ, List, length, Some, slice_get, slice_set, slice_index_or, IfOk, IfSome};
 ghost use Rattle.orc_term.specs.Hints.{lifted, Follows};

@@ -1,8 +1,9 @@
 //! Where the nodes with tokens are, and which of them need not be asked again.
 //!
-//! To *ask* a token is to find out whether it can move. At each tick of a journal none can, and a token that waits often can't at the next tick either.
-//! So the checker notes that it has asked all tokens (`note_asked`), and later asks only those on nodes that came since or got a token since. Once a
-//! token that waits may be able to move, the checker has all of them asked again (`forget_asked`).
+//! To *ask* a token is to find out whether it can move. At each tick of a journal none can, and a token that waits often can't at the next tick
+//! either. So the checker notes that it has asked all tokens (`note_asked`), and later asks only those on nodes that came since or got a token since.
+//! Once a token that waits may be able to move, the checker has all of them asked again (`forget_asked`). `items` has the nodes of the marked term by
+//! their numbers; `place` and `i` are such numbers. A node's *kind* says what it is, and which parts it has.
 
 ghost use Rattle.std.specs.Prelude.{◌≡◌, ◌<◌, ◌≤◌, [], true, ℕ, List, vec_len, vec_capacity, IfOk, slice_set};
 ghost use Rattle.orc_term.specs.Hints.{restless};
@@ -199,8 +200,8 @@ impl Restless {
         }
     }
 
-    /// Notes that all tokens were asked: none of them is asked again until `forget_asked`, or until its node gets another token. If memory is refused,
-    /// all are asked again.
+    /// Notes that all tokens were asked: none of them is asked again until `forget_asked`, or until its node gets another token. If memory is
+    /// refused, all are asked again.
     pub fn note_asked(&mut self, items: &Vec<Slot>)
         ensures noted { AreNoted items.now.items self.old → AreNoted items.now.items self.new }
         ensures asked { AreOfNodes items.now.items (asked_kinds self.new) }

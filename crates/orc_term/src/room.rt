@@ -1,4 +1,5 @@
-//! Room for new nodes and numbers. An entry reserves all that it adds before its first change, so that a refusal of memory changes nothing.
+//! Room for new nodes and numbers. An entry reserves all that it adds before its first change, so that a refusal of memory changes nothing. A *mark*
+//! is the number of a token. In contracts `asked` are the kinds of the nodes whose tokens needn't be asked again whether they can move.
 
 ghost use Rattle.std.specs.Prelude.{◌≡◌, ◌∷◌, ◌++◌, [], ◌+◌, ◌<◌, ◌≤◌, ◌^◌, List, length, vec_len, vec_capacity, IfOk};
 

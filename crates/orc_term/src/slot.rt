@@ -8,7 +8,8 @@ use std::marker::Model;
 
 // A node in one enum, so that no kind takes more than 24 bytes: first the parent, then the kind's own fields, and last the numbers of the parts.
 // `Token` has a mark, a node of the program and a scope; `Number`, `Truth` and `Signal`, which are `Tip::Bears`, a mark and a value; `Waits` a call;
-// `Feeds` a name, a node of the program and a scope; `Entered` a mark, a node of the program and a scope; `Side` a cell.
+// `Feeds` a name, a node of the program and a scope; `Entered` a mark, a node of the program and a scope; `Side` a cell. `Gone` is a node that was
+// dropped, `Ended` a `stop` without a token, `Passed` a node that means just its part, and `Both` a `|`.
 #[derive(Clone, Copy)]
 enum Flat {
     Gone(u32),
@@ -31,7 +32,7 @@ pub struct Slot {
     flat: Flat,
 }
 
-// `inverse` gets a slot back from its node: only so may a type with a model be `Copy`.
+// `inverse` gets a slot back from its node: only so may a type with a model be `Copy`. `inverse_ok` proves that it is the same slot.
 impl Model for Slot {
     ghost use Rattle.orc_term.specs.Slots.{flat_of, node_in, is_again};
     ghost use Rattle.orc_term.specs.declared.arena.Node.{Node};

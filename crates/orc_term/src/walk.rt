@@ -1,4 +1,5 @@
-//! The walk of a publication, from the token upward to the `>x>` or the pruning that takes it.
+//! The walk of a publication, from the token upward to the `>x>` or the pruning that takes it. An *otherwise* is an entered `f ; g` (`Entered`): once
+//! f has published, g never starts, and the node means just f (`Passed`). `from`, `place` and `parent` are numbers of nodes of the marked term.
 
 ghost use Rattle.std.specs.Prelude.{◌≡◌, ℕ, List, length, IfSome, IfNone};
 ghost use Rattle.orc_term.specs.Arena.{Frame, Tree};

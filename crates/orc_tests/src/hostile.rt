@@ -1,5 +1,6 @@
 //! Sites that answer late, never or wrongly, that hold their calls, and that are refused memory, on several workers. A wrong or missing answer ends
-//! the run with the fault `Site` of that call (E5).
+//! the run with the fault `Site` of that call, whose code is E5. A *gate* is what each call passes before it is made. A journal is *accepted* if the
+//! check finds that it follows the rules.
 
 use crate::gates::{Board, Counts, Hold, Manner, Noting, Odd, Slow, Turnstile, Twist, Twisted};
 use crate::pools::{is_accepted, keeping, play};

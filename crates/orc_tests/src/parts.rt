@@ -1,5 +1,5 @@
-//! The parts of an engine with workers, each alone: words (counts of the passes to a group), cells that are bound once, queues of tasks, and calls of
-//! sites as futures.
+//! The parts of an engine with workers, each alone: words (counts of the passes to a group, which is what runs in one right side of a `<x<`, one left
+//! side of a `;`, or the whole program), cells that are bound once, queues of tasks, and calls of sites as futures.
 
 ghost use Rattle.std.specs.Prelude.{◌≡◌, ◌<◌, IsSome};
 ghost use Rattle.orc_word.specs.Views.{group_of};
@@ -24,7 +24,8 @@ use std::thread::Threads;
 const TASKS: u64 = 10_000;
 
 // Whether each of five calls of `take` gave a pass. A pass is taken out of a supply, and is idle until it names a group. The first one is given back
-// before the fourth call. `J` is a name of the table of groups, for the prover; so it is below.
+// before the fourth call. `J` is a name of the table of groups, for the prover; so it is below. Tests hand in `Brand`, which stands for the table of
+// that call.
 fn takes<J: Naming>(made: Unnamed) -> [bool; 5]
     requires { made.table.shared.table_id ≡ J.table }
 {
@@ -79,7 +80,7 @@ fn live<J: Naming>(made: Unnamed) -> Option<[bool; 8]>
     let last = end.last.map(|last| last.group());
     let mut third = groups.open(left.pass, 1).ok()?;
     let fresh = groups.look(&mut third);
-    // The words of the two groups, as numbers: the low bits count the passes.
+    // Ends the use of the table, and gives the words of the two groups, as numbers: the low bits count the passes.
     let words = groups.close();
     Some([
         !parted,
@@ -130,7 +131,7 @@ where
 }
 
 // In how many of a hundred rounds just one of two threads won the mark, and just one was the last. Each round opens group 0 anew. The supply needs
-// two passes for each round, since none is given back.
+// two passes for each round, since none is given back. None if a pass can't be taken, or the group can't be opened.
 fn rounds<J, R>(rt: &R, made: Unnamed) -> Option<u32>
 where
     J: Naming + Send + Sync,
@@ -185,7 +186,7 @@ fn what_was_pushed_last_is_popped_and_what_was_first_is_stolen(
 }
 
 // Steals until the owner is done and the queue is empty, and gives what was stolen. Whether the owner is done is read before each theft: nothing
-// comes into the queue afterwards, so a theft that finds nothing then is the last one.
+// comes into the queue afterwards, so a theft that finds nothing then is the last one. The error is refused memory.
 fn steal_all(
     rt: &impl Wait,
     alloc: Global,

@@ -1,6 +1,7 @@
 //! Runs on several workers: what they publish and how they end, whatever their gate and sites are, and that they do what the reference engine does. A
-//! gate that isn't open, or sites that don't go by the table, make the workers hold the run's tokens; otherwise `run_pool` runs the program as
-//! `run_parallel` does.
+//! *gate* is what each call passes before it is made, and may hold it; the *table* has the answers of the script and of built-in sites. A gate that
+//! isn't open, or sites that don't go by the table, make the workers hold the run's tokens; otherwise `run_pool` runs the program as `run_parallel`
+//! does.
 
 use crate::gates::{Slow, Turnstile, Twist, Twisted};
 use orc_engine::run_alone;

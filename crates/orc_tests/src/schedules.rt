@@ -1,5 +1,5 @@
-//! Searches through every schedule of a program for a run that breaks a claim. The rows in `outcomes` and `tests` of `checks/tables` have more
-//! such searches, by the program `orc`.
+//! Searches through every schedule of a program for a run that breaks a claim. The rows in `outcomes` and `tests` of `checks/tables` have more such
+//! searches, by the program `orc`. A *state* is what is left of the program to run, with the calls that were made and what was seen on the way.
 
 use orc_claims::happening::{Happening, Occurrence, Phase};
 use orc_load::{Loaded, load};

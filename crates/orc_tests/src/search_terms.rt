@@ -1,6 +1,6 @@
 //! Worked terms of a search through every schedule (`orc_search`). A term is a number there, and equal terms have equal numbers; so a test makes two
-//! terms that have to be the same, and compares numbers. Names are numbers, too: 5 and 6 here. Errors are refused memory, or a mistake in a row, such
-//! as a place that no term is at.
+//! terms that have to be the same, and compares numbers. Names are numbers, too: 5 and 6 here. A *cell* is the variable of an opened `<x<`; it is
+//! void once nothing can bind it any more. Errors are refused memory, or a mistake in a row, such as a place that no term is at.
 
 use orc_rules::answers::Answers;
 use orc_rules::param::{Operand, Operands, Param};
@@ -316,6 +316,7 @@ fn a_call_is_made_once_its_cell_is_bound(rt: HostRuntime) -> Result<(), Fail> {
     let answers = Answers::builtin(alloc)?;
     let mut terms = Terms::new(alloc);
     let numbers = numbered(&mut terms, alloc, &program)?;
+    // None doesn't come: `numbers` has a number for each node of the program.
     let Some(main) = numbers.get(program.source()) else {
         return Err(Fail::from(AllocError));
     };

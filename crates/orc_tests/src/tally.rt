@@ -1,4 +1,5 @@
-//! What claims see of runs, and what a tally (the counts over many runs) says of them.
+//! What claims see of runs, and what a tally (the counts over many runs) says of them. A *way* is one choice of how a test's services answer, an
+//! *order* a number that decides whose turn comes. A *trial* is a run in one way and one order; both have numbers from 0.
 
 use orc_claims::claim::{Claim, Plain};
 use orc_claims::happening::{Happening, Occurrence, Phase};
@@ -10,7 +11,7 @@ use orc_tally::{ClaimSite, Failure, Told, happenings_of, joined, noted, nothing_
 use std::alloc::{AllocError, Global};
 use std::test::Fail;
 
-// What a run says of a claim that fails at its happening 3.
+// What a run says of a claim that fails at what happens at place 3, from 0, and was put to the test: something happened that it is about.
 const FAILS: Judged = Judged {
     verdict: Verdict::FailsAt(3),
     tested: true,

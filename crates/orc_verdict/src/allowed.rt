@@ -1,4 +1,6 @@
-//! The entries that are allowed at a place of a run, as an explanation shows them: the first few, and how many there are.
+//! The entries that are allowed at a place of a run, as an explanation shows them: the first few, and how many there are. A token's number is its
+//! *mark*. A *cell* stands for the variable of an opened `<x<`. A *cancel* is due where a `bind` has dropped a pending call. A *side* is the right
+//! one of an opened `<x<`, which `lost` drops once it has halted, or the left one of an entered `;`, which `right` drops.
 
 ghost use Rattle.std.specs.Prelude.{◌≡◌, IfOk, IfSome};
 ghost use Rattle.orc_rules.specs.Journal.{Place};

@@ -1,4 +1,6 @@
-//! One entry applied, or refused for the first reason: for a caller who needs its label, or the term unchanged after a refusal.
+//! One entry applied, or refused for the first reason: for a caller who needs its label, or the term unchanged after a refusal. A *label* is what an
+//! observer sees of an entry. The marked term (`marked`) is what is left of the program's term after the entries before. A *place* is that term with
+//! its calls and the time.
 
 ghost use Rattle.std.specs.Prelude.{◌≡◌, true, IfOk, IfErr, OnErr};
 ghost use Rattle.orc_rules.specs.Nodes.{code};

@@ -1,5 +1,7 @@
 //! How deep a marked term nests, in levels: a term without parts has one, any other one more than its deepest part. `depth_of` looks at all nodes;
-//! the bounds of `most_depth` and `allowed_depth` are quick.
+//! the bounds of `most_depth` and `allowed_depth` are quick. A *marked term* is what is left of the program's term after the first entries of a
+//! journal. A node of it may hold a term of the program, whose levels `heights` has. A node is a `Leaf` without parts, or has `One` part or `Two`;
+//! `Passed` is a node that means just its part.
 
 ghost use Rattle.std.specs.Prelude.{◌≡◌, ◌≤◌, ◌+◌, ◌++◌, ℕ, List, IfOk, IfSome, OnOk};
 ghost use Rattle.orc_rules.specs.Journal.{Place};

@@ -1,4 +1,5 @@
-//! What the table of sites answers to a call that was made, and when.
+//! What the table of sites answers to a call that was made, and when. `marked` is the marked term with the calls that were made. A `Called` is such a
+//! call, with what the table said of it then (`found`).
 
 ghost use Rattle.std.specs.Prelude.{◌≡◌, ℕ, IfSome, IfNone};
 ghost use Rattle.std.specs.Bool.{Decides};

@@ -1,4 +1,6 @@
-//! The node that has a name, found by a look at all nodes.
+//! The node that has a name, found by a look at all nodes. The marked term (`marked`) is what is left of the program's term after the first entries
+//! of a journal. A *mark* is the number of a token; an entered `;` goes by the mark of the token that entered it. A *cell* stands for the variable of
+//! an opened `<x<`.
 
 ghost use Rattle.std.specs.Prelude.{◌≡◌, true, false, Some, IfSome, IfNone};
 ghost use Rattle.orc_verdict.specs.Finding.{name_at as name_shown, is_leaf, is_one, Has, HasNone, LacksAt};

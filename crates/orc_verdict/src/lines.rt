@@ -1,4 +1,6 @@
-//! The verdict on a journal's text, whose entries are taken as they are read.
+//! The verdict on a journal's text, whose entries are taken as they are read. A `Lines` is such a text whose first entries were read. The marked term
+//! (`marked`) is what is left of the program's term after the entries that were taken, and `heights` says how many levels deep each of the program's
+//! terms nests. A *cancel* is due where a `bind` has dropped a pending call.
 
 ghost use Rattle.std.specs.Prelude.{◌≡◌, ◌++◌, List, ℕ, length, IfOk, IfErr};
 ghost use Rattle.orc_rules.specs.declared.entry.Entry.{Entry as EntryOf};

@@ -1,4 +1,6 @@
-//! The entries by which tokens, sides and calls go on.
+//! The entries by which tokens, sides and calls go on. `marked` is the marked term, which is what is left of the program's term after the first
+//! entries of a journal; a token's number is its *mark*. A *side* is the right one of an opened `<x<`, by its cell, or the left one of an entered
+//! `;`, by its mark.
 
 ghost use Rattle.std.specs.Prelude.{◌≡◌, IfSome, IfNone};
 ghost use Rattle.orc_rules.specs.Journal.{Place};

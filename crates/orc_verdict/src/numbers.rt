@@ -1,4 +1,4 @@
-//! The new numbers of an entry.
+//! The new numbers of an entry. A *mark* is the number of a token, and a *cell* stands for the variable of an opened `<x<`.
 
 ghost use Rattle.std.specs.Prelude.{◌≡◌};
 ghost use Rattle.orc_rules.specs.Journal.{Place};

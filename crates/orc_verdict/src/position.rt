@@ -1,4 +1,6 @@
-//! What a token stands on, and which entries fit it. A function that recurses here does so once an argument, `MOST_ARGUMENTS` times at most.
+//! What a token stands on, and which entries fit it. A function that recurses here does so once an argument, `MOST_ARGUMENTS` times at most. The
+//! marked term (`marked`) is what is left of the program's term after the first entries of a journal. A token is on a node of it, which names the
+//! node of the program on which the token stands.
 
 ghost use Rattle.std.specs.Prelude.{◌≡◌, List, Option, Some, None, map, is_some, slice_get};
 ghost use Rattle.orc_rules.specs.Nodes.{code, definitions, param_of};

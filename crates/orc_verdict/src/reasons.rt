@@ -1,7 +1,9 @@
-//! The first reason why an entry is refused: a test for each reason, in the order of the reasons.
+//! The first reason why an entry is refused: a test for each reason, in the order of the reasons. `marked` is the marked term: what is left of the
+//! program's term after the entries before, with marks (the numbers of its tokens), calls and cells. `answers` is the table of what sites answer. A
+//! *cancel* is due where a `bind` has dropped a pending call.
 //!
 //! Each test has the same parameters, since its contract names them all. `journal_is_numbered` shows the prover a law, that a mark, a call or a cell
-//! is on at most one node of the term; nothing runs.
+//! is on at most one node of the term; nothing runs. By `Tests` the answer says whether the entry meets the condition of that reason.
 
 ghost use Rattle.std.specs.Prelude.{◌≡◌, ◌≢◌, ◌&&◌, nat_eq, suc, IfSome, IfNone};
 ghost use Rattle.std.specs.Bool.{Decides};

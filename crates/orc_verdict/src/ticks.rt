@@ -1,4 +1,5 @@
-//! Whether a tick is allowed.
+//! Whether a tick is allowed. A tick lets time pass until a pending call is due. A run is Quiet if it hasn't halted, no rule can be used, and no tick
+//! is possible. `marked` is the marked term: what is left of the program's term after the first entries of a journal, with its calls and the time.
 
 ghost use Rattle.std.specs.Prelude.{◌≡◌, ◌<◌, false, Some};
 ghost use Rattle.std.specs.Bool.{Decides};

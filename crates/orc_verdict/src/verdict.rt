@@ -1,4 +1,6 @@
-//! The verdict on a whole journal.
+//! The verdict on a whole journal. The *marked term* is what is left of the program's term after the entries that were taken. `heights` says how many
+//! levels deep each of the program's terms nests, and `answers` is the table of what sites answer. A run is Quiet if it hasn't halted, no rule of Orc
+//! can be used, and no tick is possible. A *cancel* is due where a `bind` has dropped a pending call.
 //!
 //! The depth of the term isn't computed at each entry: a bound for its levels grows by what an entry can add, and is made smaller only when it would
 //! exceed the limit. `meets_and_leads` and `tests_are_right` show the prover laws of `orc_rules`; nothing runs. The first says that an entry leads
@@ -94,7 +96,8 @@ pub(crate) fn allowed(levels: usize, more: usize) -> Option<usize>
 }
 
 /// Takes an entry; `heights` are those of the program's terms, and none is over `most`. The error is the first reason why the entry is refused, and
-/// Memory only where there is no other but perhaps its depth. After an error `taken` may have the entry, so the caller takes no more.
+/// Memory only where there is no other but perhaps its depth. After an error `taken` may have the entry, so the caller takes no more. By `Takes` the
+/// bound holds of the term after the entry if it held of the one before.
 pub(crate) fn take(
     alloc: Global,
     program: &Program,

@@ -1,5 +1,7 @@
 //! Claims: what has to hold. Each reader here takes the tokens of the line from where its part begins; None says that they are no such claim.
-//! `same_tokens` gives back what it gets, in a form that the prover knows again.
+//! `same_tokens` gives back what it gets, in a form that the prover knows again. A claim is a plain one (`Plain`) behind conditions. An event is that
+//! one of its alternatives (`Simple`) happens: a publication, or what is wanted (`Wanted`) to become of a call. A `Scope` has what names are looked
+//! up in: the sites that the test names, and all tokens of the line.
 //!
 //! In contracts `Gives f result (NAME_at ..)` says that a reader answers what the definition NAME_at gives for these tokens, and None where that
 //! does; f turns the code's value into that of the definitions.

@@ -1,4 +1,6 @@
-//! The draft of a test: what its lines so far say, and whether the next line is allowed behind them.
+//! The draft of a test: what its lines so far say, and whether the next line is allowed behind them. A service is a site whose answers a test says,
+//! and a claim is what has to hold of a run. A case has services and claims of its own; services below `given` and claims below `always` are for all
+//! cases. A `ServiceLine` has a service with its case, a `ClaimLine` the case and the text of a claim.
 //!
 //! In contracts `IsPlaced (with_NAME ..) new good` says that the draft becomes what the definition with_NAME gives, and that the answer is false
 //! where that gives nothing.

@@ -1,6 +1,8 @@
 //! Events: what may happen in a run, as claims name it. A function here reads from the front of the tokens and hands back what it read and the tokens
 //! behind it, or None if the tokens don't begin so.
-//! `same_tokens` gives back what it gets, in a form that the prover knows again.
+//! `same_tokens` gives back what it gets, in a form that the prover knows again. An event is that one of its alternatives (`Simple`) happens: a
+//! publication, or what is wanted (`Wanted`) to become of a call. A `Slot` stands in the place of a value there: it is a value, `_` or a variable. A
+//! `Scope` has the sites that the test names, and all tokens of the line.
 //!
 //! In contracts `Gives f result (NAME_at ..)` says that a reader answers what the definition NAME_at gives for these tokens, and None where that
 //! does; f turns the code's value into that of the definitions.

@@ -1,4 +1,5 @@
-//! Why a test isn't read.
+//! Why a test isn't read. A *service* is a site whose answers the test says, a *claim* what has to hold of a run. A test has the sections `given`,
+//! for services, `always`, for claims, and its cases, for both. A *way* is one script by which a case's services may answer.
 
 ghost use Rattle.std.specs.Prelude.{◌≡◌, Some};
 ghost use Rattle.orc_ways.specs.Faults.{test_line, test_status};

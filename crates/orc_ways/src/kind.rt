@@ -1,4 +1,5 @@
-//! What a line is: the beginning of a section, a service or a claim.
+//! What a line is: the beginning of a section, a service or a claim. A service is a site whose answers the test says. A `Scope` has the tokens of the
+//! line (`line`), and the sites that the test names.
 //!
 //! In contracts `Gives f result (NAME ..)` says that a function answers what the definition NAME gives for these tokens, and None where that does; f
 //! turns the code's value into that of the definitions.

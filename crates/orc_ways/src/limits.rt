@@ -1,4 +1,5 @@
-//! The limits of a test's text.
+//! The limits of a test's text. A *service* is a site whose answers a test says, a *case* a part of a test with services of its own, a *claim* what
+//! has to hold of a run. A *way* is one script by which a case's services may answer.
 
 /// The most cases of a test.
 pub const MOST_CASES: usize = 256;

@@ -1,5 +1,6 @@
-//! The sites that a line names: each name that stands before brackets with up to `MOST_ARGUMENTS` arguments, whatever the line is.
-//! `same_tokens` gives back what it gets, in a form that the prover knows again.
+//! The sites that a line names: each name that stands before brackets with up to `MOST_ARGUMENTS` arguments, whatever the line is. `same_tokens`
+//! gives back what it gets, in a form that the prover knows again. A site (`SiteName`) is a name with a number of arguments: with another number it
+//! is another site.
 //!
 //! In contracts `Gives f result (NAME ..)` says that a function answers what the definition NAME gives for these tokens, and None where that does; f
 //! turns the code's value into that of the definitions.

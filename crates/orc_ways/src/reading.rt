@@ -1,4 +1,5 @@
-//! Reading a test: its lines one after the other, and then the checks of the whole.
+//! Reading a test: its lines one after the other, and then the checks of the whole. A service is a site whose answers a test says. A case is a part
+//! of the test with services and claims of its own. A *way* is one script by which a case's services may answer.
 //!
 //! In contracts `Says` says that the text says this test, and `IsDraftFault` and `IsFault` that the fault is one of the text.
 

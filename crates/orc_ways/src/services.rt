@@ -1,4 +1,6 @@
-//! The lines of services: `Pay(_) = 1 after 0..13 | halt then 2`. `same_tokens` gives back what it gets, in a form that the prover knows again.
+//! The lines of services, that is, of sites whose answers the test says: `Pay(_) = 1 after 0..13 | halt then 2`. `same_tokens` gives back what it
+//! gets, in a form that the prover knows again. A service has alternatives, of which a script takes one, or one for each of N calls. Each is a
+//! *history*: an answer for the first call, the second one and so on. Such an answer with its range of delays, or `never`, is a `Reply`.
 //!
 //! In contracts `Gives f result (NAME_at ..)` says that a reader answers what the definition NAME_at gives for these tokens, and None where that
 //! does; f turns the code's value into that of the definitions.

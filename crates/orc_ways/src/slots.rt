@@ -1,5 +1,5 @@
-//! Slots: what stands in the place of a value, which is a value, `_` or a variable.
-//! `same_tokens` gives back what it gets, in a form that the prover knows again.
+//! Slots: what stands in the place of a value, which is a value, `_` or a variable. `same_tokens` gives back what it gets, in a form that the prover
+//! knows again. A `Scope` has all tokens of the line, among which a variable is looked up.
 //!
 //! In contracts `Gives f result (NAME_at ..)` says that a reader answers what the definition NAME_at gives for these tokens, and None where that
 //! does; f turns the code's value into that of the definitions.

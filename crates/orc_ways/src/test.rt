@@ -1,4 +1,6 @@
-//! A test as it was read. Names and lines are slices of its text.
+//! A test as it was read. Names and lines are slices of its text. A service is a site whose answers the test says; a claim is what has to hold of
+//! each run. A case is a part of the test with services and claims of its own; services below the line `given` and claims below the line `always` are
+//! for all cases.
 
 use orc_claims::claim::{Claim, Slot};
 use orc_rules::value::Answer;
@@ -26,7 +28,7 @@ pub struct SiteName<'a> {
 #[derive(Drop)]
 pub struct Service<'a> {
     pub name: &'a [u8],
-    /// One for each argument: a value, or `Any` for `_`, never a variable.
+    /// One for each argument: a value, or `Any` for `_`, which any value fits; never a variable.
     pub patterns: Vec<Slot>,
     /// What it may do, the usual alternative first. Each has an answer for the first call, the second one and so on; its last one answers all further
     /// calls.

@@ -1,4 +1,4 @@
-//! The tokens of a test's line, what one token is, and what the first tokens of some are.
+//! The tokens of a test's line, what one token is, and what the first tokens of some are. A *script* is a text that says what sites answer, and when.
 //!
 //! All readers of this crate work alike: they take tokens and hand back what they read and the tokens behind it, or None if the tokens don't begin
 //! so. A `.._step` reads one item of a list: the item, whether it is the last one, and the tokens behind the sign or word that follows it.

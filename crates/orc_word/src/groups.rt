@@ -5,7 +5,9 @@
 //! table knows the pass.
 //!
 //! In contracts `group_of` is the group that a pass names, `seen_of` are the bits that it has seen set, `won_of` those that it has won, and
-//! `deeds_of` what it has done that nothing undoes. `Opens`, `Comes` and `Marks` say which deed a call adds.
+//! `deeds_of` what it has done that nothing undoes. `Opens`, `Comes` and `Marks` say which deed a call adds. A *pass* is idle or names one group; an
+//! engine has one for each token, pending call or inner group that it counts in a group. The table is one of the kit, which may also have *slots*,
+//! places for values: this one has none.
 ghost use Rattle.std.specs.Prelude.{◌≡◌, true, false, ℕ, List, [], ◌∷◌, ◌++◌, ◌<◌, Some, None, IsSome, MatchResult, MatchOption, cond};
 ghost use Rattle.orc_word.specs.declared.view.View.{View};
 ghost use Rattle.orc_word.specs.declared.view.Stance.TheVariants.{Names};

@@ -1,4 +1,5 @@
-//! What a leave gives: the pass, idle, and to the last one the duty to close the group.
+//! What a leave gives: the pass, idle, and to the last one the duty to close the group. A group is what runs in one right side of a `<x<`, one left
+//! side of a `;`, or the whole program. A *pass* is idle or names a group, whose *word*, an atomic counter, counts it.
 ghost use Rattle.std.specs.Prelude.{◌≡◌};
 
 use crate::naming::Naming;

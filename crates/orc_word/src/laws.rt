@@ -1,4 +1,7 @@
-//! What holds over all lists of calls.
+//! What holds over all lists of calls. A *pass* is idle or names a group, which is what runs in one right side of a `<x<`, one left side of a `;`, or
+//! the whole program; the group's *word* counts the passes that name it, and has two bits, the marks. A *book* keeps an engine's records over such
+//! words; a *record* is what it keeps of a token, a pending call or an inner group. A *leave* makes a pass idle. A *commit* is one call of a book:
+//! records come and go, a group's number that was opened is in use from then on, and numbers of groups that are over become free.
 
 ghost use Rattle.orc_word.specs.Counts.{Counts};
 ghost use Rattle.orc_word.specs.Ties.{Steps};
@@ -14,7 +17,7 @@ pub fn counts()
     ensures { Counts }
 {}
 
-/// Each kind of exchange on the table of words is the event of that machine that has its name, wherever the rule holds.
+/// Each kind of exchange on the table of words is the event of that machine that has its name, wherever the table's rule holds.
 pub fn steps()
     ensures { Steps }
 {}

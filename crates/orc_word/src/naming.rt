@@ -10,7 +10,8 @@ pub trait Naming {
     ghost table: { TableId };
 }
 
-// `Brand` is for the caller that makes a table: it calls a function that is generic in the name, and picks the table at that call.
+// `Brand` is for the caller that makes a table: it calls a function that is generic in the name, and picks the table at that call. By itself it names
+// none (`no_table`).
 impl Naming for Brand {
     ghost use Rattle.orc_word.specs.Words.{no_table};
 

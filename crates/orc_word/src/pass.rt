@@ -1,4 +1,5 @@
-//! Passes: each is idle or names one group.
+//! Passes: each is idle or names one group. A group is what runs in one right side of a `<x<`, one left side of a `;`, or the whole program. Its
+//! *word*, an atomic counter, counts the passes that name it, and has two bits, which a pass may see set and may win, that is, set itself.
 ghost use Rattle.std.specs.Prelude.{◌≡◌};
 
 use crate::naming::Naming;

@@ -1,7 +1,10 @@
 //! The rule of the table of words, and what each kind of exchange tells the seat that makes it. No value of these types is made.
 //!
 //! A *seat* is that by which the table knows a pass or a supply. `doing A B` says that the exchange adds the deeds A and changes the stance by B;
-//! `seeing B` that it adds no deed. A split makes two seats of one, a join one of two.
+//! `seeing B` that it adds no deed. A split makes two seats of one, a join one of two. A *pass* is idle or names a group; a *supply* has idle passes,
+//! to be taken out. A *word* counts the passes that name its group, and has two bits, *published* and *killed*. A seat's *stance* is which of these
+//! it stands for, with the bits that it has seen and won; its *deeds* are what it did that nothing undoes. `View` has both. `Plan` says how many
+//! words and passes were made.
 ghost use Rattle.orc_word.specs.declared.view.Stance.TheVariants.{Supplies, Idle, Spent};
 ghost use Rattle.orc_word.specs.declared.bits.Bit.TheVariants.{Published, Killed};
 ghost use Rattle.std.specs.Prelude.{[], ◌++◌};

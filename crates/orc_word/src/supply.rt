@@ -1,4 +1,5 @@
-//! Supplies of idle passes: each worker has one, out of which it takes passes without asking the others.
+//! Supplies of idle passes: each worker has one, out of which it takes passes without asking the others. A *pass* is idle or names a group, whose
+//! word, an atomic counter, counts it.
 ghost use Rattle.std.specs.Prelude.{◌≡◌, ◌+◌, ◌<◌, None, MatchOption};
 ghost use Rattle.orc_word.specs.Views.{group_of, stance_of};
 ghost use Rattle.orc_word.specs.declared.view.Stance.TheVariants.{Idle};

@@ -1,4 +1,7 @@
-//! Words that have no name yet. The name, a type (`Naming`), keeps passes of one table from the words of another.
+//! Words that have no name yet. The name, a type (`Naming`), keeps passes of one table from the words of another. A *word* is an atomic counter of
+//! the passes that name its group, with two bits. A *pass* is idle or names a group; a *supply* has idle ones. A *seat* is that by which the table's
+//! rule knows a pass or a supply; `seat.me` has what the seat knows, and the slots that it holds. A table of the kit may also have *slots*, places
+//! for values; this one has none.
 ghost use Rattle.std.specs.Prelude.{◌≡◌, ◌<◌, ◌≤◌, ◌^◌, [], IfOk};
 ghost use Rattle.orc_word.specs.declared.view.Stance.TheVariants.{Supplies};
 ghost use Rattle.orc_word.specs.Views.{view_of};

@@ -1,4 +1,5 @@
-//! What a seat of the table knows. A *seat* is that by which the table's rule knows a pass or a supply; contracts speak of it by its view.
+//! What a seat of the table knows. A *seat* is that by which the table's rule knows a pass or a supply; contracts speak of it by its view. A *pass*
+//! is idle or names a group, whose *word* counts it and has two bits; a *supply* has idle passes, to be taken out.
 use crate::bits::{Bit, Bits};
 use std::collections::LinkedList;
 
@@ -12,7 +13,7 @@ pub enum Stance {
     Idle,
     /// A pass that names the group, with the bits that it has seen set and those that it has won, which means that it set them itself.
     Names(u32, Bits, Bits),
-    /// A pass that was taken back.
+    /// A pass that was taken back into a supply: this seat stands for nothing any more.
     Spent,
 }
 

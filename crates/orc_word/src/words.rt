@@ -1,4 +1,5 @@
-//! The words after the end: the table is closed, and one thread reads them.
+//! The words after the end: the table is closed, and one thread reads them. A word counts the passes to one group. A table of the kit may also have
+//! *slots*, places for values; this one has none.
 ghost use Rattle.std.specs.Prelude.{◌≡◌, ◌<◌, ℕ, List, length, slice_index};
 ghost use Rattle.std.specs.Slots.{slots_items, slots_len, IsFull};
 

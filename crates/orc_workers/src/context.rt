@@ -1,4 +1,7 @@
-//! What each worker knows of the others and of the run.
+//! What each worker knows of the others and of the run. `rt` is the runtime, by which a worker takes the lock and waits. A worker that finds no work
+//! *rests*: it waits on the condition variable. To *offer* is to say under the lock that there may be work again; `offers` counts that, `working` the
+//! workers that have begun, `resting` those of them that rest. A call is *due* once its answer's time has come. `OutsideWork` is work outside the
+//! lock: `Make` makes a call of a site, `Ask` polls one again. `P` stands for the run and its table of words, in contracts alone.
 
 use crate::setup::Setup;
 use crate::shared::{OutsideWork, Shared};

@@ -1,4 +1,7 @@
-//! What a worker has for itself: tokens, and passes for *births*, that is for the tokens and groups that its moves bring.
+//! What a worker has for itself: tokens, and passes for *births*, that is for the tokens and groups that its moves bring. A *pass* is idle or names a
+//! group (what runs in one right side of a `<x<`, one left side of a `;`, or the whole program); it stands for one record in the group, whose *word*,
+//! an atomic counter, counts the passes. To *leave* a pass makes it idle. Who leaves the last pass of a group gets a `Last`, and has to close the
+//! group under the lock. `Groups` has the words. `StepOut` has the lists for what comes of the book's calls, `Births` the passes that they use.
 
 use orc_book::{Births, Needs, StepOut, Token};
 use orc_word::{Groups, Last, Naming, Pass, Supply};
@@ -11,7 +14,7 @@ const MOST_NEAR: usize = 64;
 /// passes that the worker has to leave and the calls of whose cancels it has to tell the sites; passes for *births*, the tokens and groups that its
 /// moves bring; and the groups that it was the last to leave.
 pub(crate) struct Local<P: Naming> {
-    // Its tokens, the passes to leave and the cancelled calls. The book's calls add to it.
+    // Its tokens, the passes to leave and the cancelled calls. The book's calls add tokens and passes to it.
     pub out: StepOut<P>,
     // The passes that it lends to the book's `step`.
     pub births: Births<P>,

@@ -1,4 +1,8 @@
-//! Moves of a worker's tokens, by the book's calls.
+//! Moves of a worker's tokens, by the book's calls. The *book* keeps the records of a run. A token that is *out* is with a worker, which also has its
+//! *pass*: that stands for the token in its group (what runs in one right side of a `<x<`, one left side of a `;`, or the whole program), whose
+//! *word*, an atomic counter, counts the passes. To *leave* a pass means that the word counts it no more. A *birth* is a token or group that comes of
+//! a move. `setup` has the program, the table of what sites answer and the words; `local` has what is this worker's own: its tokens, passes for
+//! births, passes to leave. A *cell* stands for the x of an opened `<x<`. `C` is the sites' own type of a call.
 
 ghost use Rattle.std.specs.Prelude.{◌≡◌};
 
@@ -20,7 +24,7 @@ pub(crate) enum Step {
     On,
     /// The call with this number was recorded, and is to be made.
     Calls(u64),
-    /// The words of killed groups leave no room for the group that the move opens. The token is still with the worker.
+    /// Something is full, perhaps as the words of killed groups leave none for a group that the move opens. The token is still with the worker.
     Full,
 }
 
@@ -33,7 +37,7 @@ impl<P: Run + Naming, C: Drop> Shared<P, C> {
         token: Token<P>,
     ) -> Step {
         let view = self.book.view(setup.inputs, token.slot, token.serial);
-        // Without a view a bind has dropped the token's record meanwhile: the worker has to leave the pass.
+        // The view says what the token does next. Without one a bind has dropped its record meanwhile: the worker has to leave the pass.
         let Some(view) = view else {
             local.put(token.pass);
             return Step::On;

@@ -1,4 +1,5 @@
-//! Polls of calls by hand, with no runtime.
+//! Polls of calls by hand, with no runtime. A call of a site is a future (`SiteFuture`), and to *poll* it is to ask it once for its answer. It is
+//! *due* at the logical time at which it is answered; that is a number which the run counts, and no clock.
 
 ghost use Rattle.std.specs.Prelude.{IfSome, IfNone};
 

@@ -1,4 +1,8 @@
-//! Runs a program on several workers: the calling thread, and others beside it.
+//! Runs a program on several workers: the calling thread, and others beside it. A worker has tokens, the places of a program at which its run can go
+//! on. The graph is the program in packed nodes, `answers` is the table of what each site answers and when. `sites` makes the calls, and each call
+//! first passes the `gate`, which may hold its worker. A *pass* stands for one token, pending call or group in its group (what runs in one right side
+//! of a `<x<`, one left side of a `;`, or the whole program); the group's *word*, an atomic counter, counts the passes. The `supply` has the passes
+//! that name no group yet. `rt` is the runtime, by which threads start and wait; `R`, `S` and `G` are the types of runtime, sites and gate.
 
 ghost use Rattle.std.specs.Prelude.{◌≡◌, ◌≤◌, ◌*◌, ◌↔◌, true, Err, is_some, IfOk, IfErr};
 ghost use Rattle.orc_rules.specs.declared.limits.TheConstants.{MOST_ENTRIES, MOST_GROUPS, MOST_WORKERS};

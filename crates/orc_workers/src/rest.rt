@@ -1,4 +1,7 @@
-//! Work for a worker that has no token: a call that is due, a tick, or none.
+//! Work for a worker that has no token: a call that is due, a tick, or none. A *tick* is the entry by which time goes on; a call is *due* once time
+//! is that of its answer. `pending` has, by their numbers, the calls that no worker is polling, that is, asking for their answers. `inputs` has the
+//! program and the table of what sites answer. A worker *rests* while it waits for work of others. `C` is the sites' own type of a call, which is
+//! polled.
 
 ghost use Rattle.std.specs.Prelude.{◌≡◌};
 

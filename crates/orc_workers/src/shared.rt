@@ -1,4 +1,8 @@
-//! What the workers share under their one lock.
+//! What the workers share under their one lock. The *book* keeps the records of a run: tokens, pending calls and groups. A *group* is what runs in
+//! one right side of a `<x<`, one left side of a `;`, or the whole program. A worker has tokens, each with a *pass* that stands for it in its group;
+//! who leaves the last pass of a group closes the group. A *tick* is the entry by which time goes on. `setup` has the program, the table of what
+//! sites answer (`answers`), and the groups' *words*, which count the passes; `local` has what is one worker's own: its tokens and passes. A worker
+//! *rests* while it waits until others have work for it. In contracts `P` stands for the run and its table of words.
 
 use crate::local::Local;
 use crate::moves::Step;
@@ -54,7 +58,7 @@ pub(crate) enum OutsideWork<C: Drop> {
     Over,
 }
 
-/// The book of a run, the calls that wait until they are due, what ends the run, and where the workers are.
+/// The book of a run, the calls that wait until they are due, why the run has stopped, and how many workers there are and rest.
 pub(crate) struct Shared<P: Run + Naming, C: Drop> {
     // The run.
     pub(crate) book: Book<P>,
@@ -296,13 +300,15 @@ impl<P: Run + Naming, C: Drop> Shared<P, C> {
     }
 }
 
-/// The reason why a run stops if the book refuses a move of a token that still has its record, an answer, a tick or the close of a group.
+/// The reason why a run stops if the book refuses a move of a token that still has its record, an answer, a tick or the close of a group. Full says
+/// that the most tokens and calls, groups, or left sides of a `>x>` round one token are reached, or that no word is free; Limit that the journal has
+/// as many entries as it may.
 pub(crate) fn stop_of(why: BookFault) -> Stop {
     match why {
         BookFault::Full => Stop::Refused(LedgerFault::Full),
         BookFault::Limit => Stop::Refused(LedgerFault::Limit),
         BookFault::Memory => Stop::Refused(LedgerFault::Memory),
-        // The worker has called the book wrongly, and is to blame.
+        // The worker is to blame: it has called the book wrongly, or has lent it too few passes.
         BookFault::Gone | BookFault::Short | BookFault::Live | BookFault::Wrong => Stop::Broken,
     }
 }

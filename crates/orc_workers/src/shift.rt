@@ -1,4 +1,8 @@
-//! Workers at work. A *shift* is all that one worker does for a run: turns under the lock, and between them its work outside the lock.
+//! Workers at work. A *shift* is all that one worker does for a run: turns under the lock, and between them its work outside the lock. In a *turn*
+//! its tokens move; between turns it makes calls of sites, each behind the `gate`, and *polls* them: it asks for their answers. A *pass* stands for
+//! one record in its group (what runs in one right side of a `<x<`, one left side of a `;`, or the whole program), and the group's *word* counts the
+//! passes. A worker *leaves* the passes of records that have gone; who leaves a group's last pass closes the group. A bind *kills* groups: their
+//! words are in use until all passes are left. A worker that finds no work *rests* until others *offer* some.
 
 ghost use Rattle.std.specs.Prelude.{◌≡◌, false, None};
 ghost use Rattle.orc_cell.specs.Readers.{has_read};
@@ -23,7 +27,7 @@ use std::{mem, thread};
 /// How many turns a round has. Between two rounds the worker takes a call that is due, and then the token that has waited longest in its queue.
 const ROUND: u32 = 64;
 
-/// If neither sites nor gate ever wait: the number of turns in a row with more than `SPARE` tokens in its queue, after which a worker wakes another.
+/// If neither sites nor gate ever wait: how often in a row a worker puts tokens into its queue and has over `SPARE` there before it wakes another.
 const PATIENCE: u32 = 16;
 
 /// A worker with more queued tokens than this can spare some for others.
@@ -49,7 +53,7 @@ pub(crate) struct Shift<'h, P: Run + Naming, R: Wait, S: Sites, G: Gate> {
     event: CallEvent<S::Call>,
     // Its turns since the one that began this round, which isn't counted.
     turns: u32,
-    // How many turns in a row it has had more than `SPARE` tokens queued.
+    // How many times in a row it has put tokens into its queue and had more than `SPARE` there.
     rich: u32,
 }
 
@@ -240,7 +244,7 @@ impl<'h, P: Run + Naming, R: Wait, S: Sites, G: Gate> Shift<'h, P, R, S, G> {
     }
 
     // Offers `count` tokens, which were put into its queue, to workers at rest. If neither sites nor gate ever wait, it wakes one only once there
-    // have been enough tokens for some time (`PATIENCE` turns), since a wake-up takes longer than a few moves.
+    // have been enough tokens at `PATIENCE` offers in a row, since a wake-up takes longer than a few moves.
     fn offer(&mut self, count: usize) {
         if self.context.may_wait {
             self.context.offer(self.rt, count);

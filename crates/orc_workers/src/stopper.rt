@@ -1,4 +1,5 @@
-//! The reason why a run stops, which is bound once and never changes.
+//! The reason why a run stops, which is bound once and never changes. A *cell* (`orc_cell`) is bound at most once, to a value in a box that the
+//! binder hands in. All threads may read it, without a lock.
 
 use orc_cell::Cell;
 use orc_scheduler::Stop;

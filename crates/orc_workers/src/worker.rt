@@ -1,4 +1,5 @@
-//! Workers before their work begins.
+//! Workers before their work begins. A worker's work is a *shift*: turns under the lock, in which its tokens move, and work outside the lock between
+//! them. A *poller* asks calls of sites for their answers. `working` counts, under the lock, the workers that have begun.
 
 use crate::context::Context;
 use crate::local::Local;

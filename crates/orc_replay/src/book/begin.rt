@@ -1,4 +1,7 @@
-//! How a run begins: with a table of words, a supply of passes, and one token.
+//! How a run begins: with a table of words, a supply of passes, and one token. A *group* is what runs in one right side of a `<x<`, one left side of
+//! a `;`, or the whole program. Its *word* counts its *passes*, each of which stands for one record in it: a token, a pending call or an inner group.
+//! The supply has the passes that name no group. A token is *out* while it is with the replay and not with the book. `setup` has the program, the
+//! table of sites and the words.
 
 ghost use Rattle.std.specs.Prelude.{◌≡◌, ◌≤◌, true};
 ghost use Rattle.orc_rules.specs.declared.limits.TheConstants.{MOST_ENTRIES};

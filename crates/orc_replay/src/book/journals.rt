@@ -1,4 +1,7 @@
-//! Journals replayed from their beginning to their end.
+//! Journals replayed from their beginning to their end. A *pass* stands for one record (a token, a call, a group inside) in its group; the whole
+//! program has a group, too. A *warm* pass goes with no record, and is kept for the next one. A group's *word* counts its passes. An *idle* pass
+//! names no group; to *leave* a pass makes it idle. A token is *out* while it is with the replay and not with the book. `setup` has the program, the
+//! table of sites and the words.
 
 ghost use Rattle.std.specs.Prelude.{◌≡◌, ◌*◌, true};
 ghost use Rattle.orc_rules.specs.declared.limits.TheConstants.{MOST_ENTRIES, MOST_GROUPS};
@@ -34,7 +37,7 @@ pub(crate) struct Stop {
 pub(crate) struct Replayed {
     /// How many entries, cancels too.
     pub entries: usize,
-    /// Whether the run has halted, is quiet or is running after them.
+    /// Whether the run has halted, is quiet (nothing can come next, though it hasn't halted) or is running after them.
     pub state: State,
 }
 
@@ -90,7 +93,8 @@ fn replay_graph(
 }
 
 // Replays a journal. In contracts `P` stands for the run and its table of words; the caller picks it, and the clauses ask that `P` has this graph,
-// these sites and these words.
+// these sites and these words. The error names the first entry that fails, the last one for what is found only in the end (`state_of`), or 0 if
+// nothing was replayed.
 fn replay_named<P: Run + Naming>(
     alloc: Global,
     words: Unnamed,

@@ -1,5 +1,10 @@
 //! Groups that are killed: who may bind, and when their words are free again. None as the result of a function means that something isn't as it has
-//! to be. `leave` is the list to which the book adds passes that are to be left.
+//! to be. `leave` is the list to which the book adds passes that are to be left. A *group* is what runs in one right side of a `<x<`, one left side
+//! of a `;`, or the whole program. A *pass* stands for one record (a token, a pending call, an inner group) in its group, and the group's *word*
+//! counts its passes; an *idle* one names no group, and to *leave* a pass makes it idle. A bind gives a cell (the x of an opened `<x<`) its value and
+//! *kills* the groups of its right side: one pass alone wins the bit *killed* of the word. A token has a number (`serial`) and the place of its
+//! record (`slot`). `setup` has the program, the table of sites and the words. `enter_all` has the book do entries, a line each, which names first
+//! the token that moves.
 
 ghost use Rattle.std.specs.Prelude.{◌≡◌, ◌≤◌, true};
 

@@ -1,4 +1,6 @@
-//! Passes that no record has: for tokens to come, or to be left. A pass stands for one record in its group; an idle one names no group.
+//! Passes that no record has: for tokens to come, or to be left. A pass stands for one record in its group; an idle one names no group. A *group* is
+//! what runs in one right side of a `<x<`, one left side of a `;`, or the whole program. `groups` has a *word* for each, which counts the passes that
+//! name the group; the program's own has word 0. To *leave* a pass makes it idle.
 //!
 //! Loops that end by `break` go over `0..u64::MAX`, so that the prover sees an end.
 
@@ -104,6 +106,7 @@ impl<P: Naming> Passes<P> {
     }
 
     // Keeps a pass to the program's own group as long as `warm` has fewer than `most_warm`, and leaves any other one. The error is refused memory.
+    // Then a pass that was to be kept is lost, and its word counts it for good; of any other `leave` says what has become.
     fn put_away(&mut self, groups: &Groups<P>, pass: Pass<P>) -> Result<(), AllocError> {
         if pass.group() == Some(0) && self.warm.len() < self.most_warm {
             return match self.warm.push(pass) {
@@ -115,7 +118,8 @@ impl<P: Naming> Passes<P> {
         Ok(())
     }
 
-    /// Empties a list of passes: leaves them, but those to the program's own group that `keep_warm` has kept.
+    /// Empties a list of passes: leaves them, but keeps those to the program's own group as long as fewer are kept than `keep_warm` allows. The error
+    /// is refused memory: the passes before the one at which it was refused stay in the list.
     pub(crate) fn leave_all(
         &mut self,
         groups: &Groups<P>,
@@ -128,7 +132,7 @@ impl<P: Naming> Passes<P> {
         Ok(())
     }
 
-    /// Leaves the passes that `keep_warm` has kept, and keeps no more.
+    /// Leaves the passes that are kept warm, and keeps no more. The error is refused memory: those before the one at which it was refused stay kept.
     pub(crate) fn leave_warm(&mut self, groups: &Groups<P>) -> Result<(), AllocError> {
         self.most_warm = 0;
         for _ in 0..u64::MAX {

@@ -1,5 +1,10 @@
 //! Calls that a book refuses, after which the run goes on. None as the result of a function means that something isn't as it has to be. `leave` is
-//! the list to which the book adds passes that are to be left.
+//! the list to which the book adds passes that are to be left. A *group* is what runs in one right side of a `<x<`, one left side of a `;`, or the
+//! whole program. A *pass* stands for one record (a token, a pending call, an inner group) in its group, and the group's *word* counts its passes; an
+//! *idle* one names no group, and to *leave* a pass makes it idle. A token is *out* while it is with the replay and not with the book; `take_token`
+//! takes it there, by its number. `setup` has the program, the table of sites and the words. `enter_all` has the book do entries, a line each: the
+//! token that moves, then a cell and the new tokens, so that `open 1 1 2 3` opens cell 1 at token 1, with token 2 in the left side and 3 in the right
+//! one.
 
 ghost use Rattle.std.specs.Prelude.{◌≡◌, ◌≤◌, true};
 

@@ -1,4 +1,8 @@
-//! Journals replayed by calls of the book, entry by entry. A token is out while the replay has it. The book keeps a token that waits.
+//! Journals replayed by calls of the book, entry by entry. A token is out while the replay has it. The book keeps a token that waits. A token's
+//! *mark*, or serial, is its number from 1. A *group* is what runs in one right side of a `<x<`, one left side of a `;`, or the whole program. A
+//! *pass* stands for one record (a token, a pending call, an inner group) in its group, and the group's *word* counts its passes; an *idle* one names
+//! no group, and to *leave* a pass makes it idle. A bind *kills* the groups of its cell's right side: their words are in use until all their passes
+//! are left. `setup` has the program, the table of sites and the words.
 //!
 //! Of an entry the replay looks at the token, call, cell or otherwise that it names, and at a tick's time. The other marks and values in it are
 //! compared once the replay is over, when the whole journals are (`journals.rt`).
@@ -36,6 +40,7 @@ pub(crate) enum Mismatch {
     /// No such token is out, no such call pends, or another bind has killed the group before.
     Gone,
     /// The side that the entry ends still has a pass: by the rules the tokens inside may only make moves of marks, and the book makes these first.
+    /// Also: a pass still names the word that the entry's new group would take.
     Live,
     /// The token does something else next, or the call has another answer, or is due at another time.
     Wrong,
@@ -83,7 +88,7 @@ pub(crate) struct Replay<P: Run + Naming> {
     sides: Sides,
     // The tokens that are out, by their slots. A token that went with a killed group stays here until its slot is looked at or taken again.
     out: Vec<Place<P>>,
-    // The slot of each token, by its mark; there is no mark 0.
+    // The slot of each token, by its mark. Item 0 stands for no token: there is no mark 0.
     slots: Vec<usize>,
     // The slots in which a token may wait that the book doesn't keep yet.
     listed: Vec<usize>,

@@ -1,5 +1,7 @@
 //! Rows: what a row does with a book, and what the book has to answer. None as the result of a function means that something isn't as it has to be;
-//! memory that is refused counts as that, too.
+//! memory that is refused counts as that, too. A *group* is what runs in one right side of a `<x<`, one left side of a `;`, or the whole program. A
+//! *pass* stands for one record (a token, a pending call, an inner group) in its group, and the group's *word* counts its passes. A token is *out*
+//! while it is with the replay and not with the book, which keeps one that waits. `setup` has the program, the table of sites and the words.
 
 ghost use Rattle.std.specs.Prelude.{◌≡◌, ◌≤◌, true};
 ghost use Rattle.orc_rules.specs.declared.limits.TheConstants.{MOST_ENTRIES};
@@ -79,11 +81,11 @@ pub(crate) enum Shows {
 /// A row: a program with a script, and what is done with a book of it.
 #[derive(Clone, Copy)]
 pub(crate) struct Row {
-    /// What the row shows, in the words that the program writes.
+    /// What the row shows, in the words that `orc_replay` writes.
     pub name: &'static str,
     /// The text of the program.
     pub source: &'static str,
-    /// The text of its script; empty if it calls no site of a script.
+    /// The text of the script, which says how the program's own sites answer; empty if it calls none of those.
     pub script: &'static str,
     /// The most entries of the journal, cancels left out.
     pub limit: usize,
@@ -140,7 +142,8 @@ pub(crate) fn has_written<P: Run + Naming>(
     so(is_whole && text.as_slice() == wanted.as_slice())
 }
 
-// Whether two answers of `Book::next` are the same one; the type `Next` has no `==`.
+// Whether two answers of `Book::next` are the same one: `Work` (something comes before time goes on), `Ticked` (the book has made a tick) or `Quiet`
+// (nothing can come any more); the type `Next` has no `==`.
 fn is_next(one: Next, other: Next) -> bool {
     match (one, other) {
         (Next::Work, Next::Work) => true,
@@ -216,7 +219,8 @@ fn show_with<P: Run + Naming>(
 }
 
 // `show` for a graph that is built. In contracts `P` stands for the run and its table of words; the caller picks it, and the clauses ask that `P` has
-// this graph, these sites, this limit and these words. `limit` and `count` are those of the row (`count` its number of words).
+// this graph, these sites, this limit and these words, of which there are two at least, since some rows open word 1. `limit` and `count` are those of
+// the row (`count` its number of words).
 fn show_named<P: Run + Naming>(
     alloc: Global,
     words: Unnamed,

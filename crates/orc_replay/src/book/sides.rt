@@ -1,6 +1,7 @@
-//! What each group is, by the number of its word: the whole program, the right side of a cell, or the left side of an otherwise. The replay notes
-//! this beside the book, to know which entry ends a group, or that none does.
+//! What each group is, by the number of its word: the whole program, the right side of a cell, or the left side of an otherwise (`;`). The replay
+//! notes this beside the book, to know which entry ends a group, or that none does.
 //!
+//! A group's *word* counts its passes, and goes to another group once this one is closed and no pass names it; here a word is meant by its number.
 //! Words are numbers below the number of words. For any other one the program's own group is answered, and nothing is noted.
 
 use orc_rules::limits::MOST_GROUPS;
@@ -26,7 +27,7 @@ struct Group {
     parent: u32,
     // Whether a publication has left it, so that it ends without an entry.
     is_left: bool,
-    // Whether a bind has dropped it by itself; the groups inside it aren't marked.
+    // Whether a bind, the entry that gives a cell its value and drops the right side, has dropped this very group. The groups inside aren't marked.
     is_killed: bool,
 }
 
@@ -81,8 +82,8 @@ impl Sides {
     }
 
     /// Notes that a publication has left the left sides from the group `from` outwards, up to the group `to`, which it doesn't leave. False if one of
-    /// them is a right side, whose cell would have taken the publication. Open groups are nested at most `MOST_GROUPS` deep, so the loop reaches
-    /// `to`.
+    /// them is a right side, whose cell would have taken the publication, or if `to` isn't outside `from`; the left sides before that are noted even
+    /// so. Open groups are nested at most `MOST_GROUPS` deep, so the loop reaches `to`.
     pub(crate) fn leave(&mut self, from: u32, to: u32) -> bool {
         let mut word = from;
         for _outwards in 0..MOST_GROUPS {

@@ -1,4 +1,8 @@
-//! Tokens that move by `step`, in the order in which they came. None as the result of a row means that something isn't as it has to be.
+//! Tokens that move by `step`, in the order in which they came. None as the result of a row means that something isn't as it has to be. A *pass*
+//! stands for one record (a token, a pending call, an inner group) in its group, which is what runs in one right side of a `<x<`, one left side of a
+//! `;`, or the whole program; an *idle* one names no group. `births` has the passes that are lent for the records that a move brings, `out` the
+//! tokens (`born`) and the passes to be left that came of moves. `setup` has the program, the table of sites and the groups' words, which count the
+//! passes.
 
 ghost use Rattle.std.specs.Prelude.{◌≡◌, true};
 

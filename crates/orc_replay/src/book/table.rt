@@ -1,7 +1,10 @@
-//! The rows: what each shows, in the words that the program writes for it.
+//! The rows: what each shows, in the words that `orc_replay` writes for it.
 //!
 //! The entries in a row's steps are those that Orc's rules allow of its program. A token gets the next mark, a call and a cell the next number, each
-//! from 1; of two tokens that come at once the left one has the lower mark.
+//! from 1; of two tokens that come at once the left one has the lower mark. A line names the token that moves (a `return` the call), then a cell or
+//! call and the new marks. Of a row's steps `Does` has the book do such lines, and `Refuses` tries an answer that it has to refuse. The others are
+//! what has to be so then: the book keeps this token, which waits (`Keeps`), or has given it out (`IsOut`), this comes next (`Next`), time is this
+//! (`Now`), this is the first call that is due (`Due`), there are so many entries (`Entries`), the run has halted or not (`HasEnded`).
 
 use crate::book::begin::{PASSES, WORDS};
 use crate::book::rows::{Row, Shows, Step};

@@ -1,5 +1,6 @@
 //! Rows on sub-runs: a ledger of its own runs a call of a definition, and the ledger of the enclosing run merges what that wrote. In contracts `P`
-//! stands for the enclosing run and `Q` for the sub-run; `limit` is the most entries of a journal, 1 at least.
+//! stands for the enclosing run and `Q` for the sub-run; `limit` is the most entries of a journal, 1 at least. What is merged is the *part*, the
+//! sub-run once it is over.
 
 ghost use Rattle.std.specs.Prelude.{◌≡◌, ◌≤◌, true, false};
 ghost use Rattle.orc_rules.specs.declared.limits.TheConstants.{MOST_ENTRIES};

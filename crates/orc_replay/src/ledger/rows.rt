@@ -1,4 +1,4 @@
-//! Rows by calls of the ledger: what it writes, what comes next, and what it refuses.
+//! Rows by calls of the ledger: what it writes, what comes next, and what it refuses. In contracts `P` stands for the run.
 
 ghost use Rattle.std.specs.Prelude.{◌≡◌, true};
 ghost use Rattle.orc_rules.specs.declared.limits.TheConstants.{MOST_ENTRIES};
@@ -111,7 +111,7 @@ fn step_holds<P: Run>(replay: &mut Replay<P>, inputs: &Inputs<'_, P>, step: &Ste
     }
 }
 
-// Whether the journal has exactly the lines of the steps `Does`. The error is refused memory.
+// Whether the journal has exactly the lines of the steps `Does`. The clause asks that the run keeps its journal. The error is refused memory.
 fn has_lines<P: Run>(
     alloc: Global,
     ledger: &Ledger<P>,
@@ -248,6 +248,7 @@ pub(crate) const CALLS: [Row; 6] = [
         source: "(Rwait(3) >> Ift(false)) ; 9",
         script: "",
         steps: &[
+            // Token 1 enters the left side of the `;` as 2, which enters that of the `>>` as 3, which makes call 1.
             Step::Does("other 1 2\nseq 2 3\ncall 3 1 Rwait(3)\n"),
             // Call 1 was made at time 0. Its place is 1, since no script answers `Rwait`.
             Step::Asked(1, 0, 1),
