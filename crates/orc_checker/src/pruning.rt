@@ -79,7 +79,7 @@ fn reserve_cell(
     Ok(())
 }
 
-/// How many scopes there are, which is the number of the last one.
+/// How many scopes have a record, which is the number of the last one: scope 0, that of the program, has none.
 pub(crate) fn scope_count(scopes: &Vec<StoredScope>) -> u32
     requires { vec_len scopes.now < 2 ^ 32 }
     ensures { result ≡ length scopes.now.items }

@@ -75,7 +75,7 @@ pub(crate) enum Beside {
     Only(&'static str),
 }
 
-/// The commands, each with what the help says of it.
+/// The commands, each with what the help says of it. By these names `words.rt` knows which one is asked for.
 pub(crate) const COMMANDS: [(&str, &str); 6] = [
     ("run", "Run a program and write what it publishes"),
     (

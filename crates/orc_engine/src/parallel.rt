@@ -80,7 +80,8 @@ pub(crate) struct WorkerThreads<'c, R> {
 /// How an attempt to run calls of definitions side by side has gone.
 #[derive(Clone, Copy)]
 enum Trial {
-    /// Too few tokens were runnable, or one of the calls has won a race: it yields a value, or may, so that those behind it may be in vain.
+    /// Too few tokens were runnable, or one of the calls that were tried first has won a race: it yields a value, or may, so that those behind it may
+    /// be in vain.
     Few,
     /// More sub-runs stopped at their limit than gave a result.
     Long,

@@ -3,7 +3,7 @@
 //! `<x<`.
 //!
 //! It is a sum over the parts of the term, each a hash of what the part is and of its place. A *place* is a hash of the way from the root to the
-//! part. Each kind of thing mixes in a small number of its own, 1 to 26: what they are doesn't matter as long as no two kinds have one where they
+//! part. Each kind of thing mixes in a small number of its own, 0 to 26: what they are doesn't matter as long as no two kinds have one where they
 //! could be mixed up. Nothing is promised of a form. Two terms may have the same number by chance, and then a search takes one for the other. `node`
 //! is a node of the program, `scope` the number of the scope in which its names mean something (`orc_term::arena`).
 

@@ -13,7 +13,7 @@ pub const DEFAULT_ENTRIES: u64 = 100_000;
 /// The longest text of a journal, in bytes: 1 GiB.
 pub const LONGEST_JOURNAL: usize = 1_073_741_824;
 
-/// The longest source and the longest script, in bytes: 1 MiB each.
+/// The longest source, the longest script (that of a way together with its own lines) and the longest text of a test, in bytes: 1 MiB each.
 pub const LONGEST_SOURCE: usize = 1_048_576;
 
 /// The most brackets and `val`s within one another, in one definition or main expression.

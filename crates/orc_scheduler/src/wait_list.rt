@@ -54,7 +54,7 @@ impl Waiting {
     // Stores a link in a free place, else behind the others, and gives its place, from 1. The error is refused memory, or that a new place needs more
     // than 32 bits.
     fn put(&mut self, link: Link) -> Result<u32, AllocError> {
-        // None if no place is free: `free` is 0 then.
+        // 0 if no place is free: `link_at` gives None then.
         let place = self.free;
         if let Some(free) = self.link_at(place) {
             self.free = free.next;

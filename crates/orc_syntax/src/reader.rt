@@ -103,7 +103,7 @@ pub enum StepError {
     Memory,
     /// No program goes on with this token; this would have to stand in its place.
     Wanted(What),
-    /// One more bracket, `val` or operator than a definition or main expression may have. Only `Depth` gives it.
+    /// One more open bracket or `val`, or one more operator, than a definition or main expression may have. Only `Depth` gives it.
     Deep,
 }
 

@@ -116,8 +116,8 @@ fn read_text<'a>(alloc: Global, src: &'a [u8]) -> Result<Ast<'a>, SyntaxFault>
     }
 }
 
-// The fault of a text that stops being UTF-8 at the byte `at`. `read` is what reading the tokens gave: its fault if that stands before `at`, and
-// otherwise `Encoding`.
+// The fault of a text that stops being UTF-8 at the byte `at`. `read` is what reading the tokens gave. The answer is the fault of `read` if that
+// stands before `at`, and otherwise `Encoding`.
 fn first_fault(read: Result<Ast<'_>, SyntaxFault>, at: usize) -> SyntaxFault
     ensures { result ≡ first_of read.entry at }
 {

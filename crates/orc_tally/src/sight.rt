@@ -26,7 +26,7 @@ pub fn claim_number(sites: &[ClaimSite], site: u32, arguments: usize) -> u32
     requires { length sites.now < 2 ^ 32 }
     ensures { result ≡ number_from 0 sites.now site arguments }
 {
-    // No `for`, since the loop's invariant speaks of the sites that are left.
+    // No `for`, since the invariant that the proof gives the loop speaks of the sites that are left.
     let mut number = 0;
     let mut rest = sites;
     loop {

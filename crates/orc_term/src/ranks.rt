@@ -149,7 +149,7 @@ fn queue_above(items: &Vec<Slot>, at: usize) -> u32 {
 // Which free ranks are left while ranks grow: some right above one node, for the `|` that later sends put there.
 #[derive(Clone, Copy)]
 struct Gap {
-    // The number of the node right above which they are left.
+    // The number of the node right above which they are left; 0 for no gap, since node 0 is no part.
     below: usize,
     // By how much this node's rank is to exceed that of the node above it.
     step: u32,

@@ -53,7 +53,7 @@ pub(crate) struct Shift<'h, P: Run + Naming, R: Wait, S: Sites, G: Gate> {
     event: CallEvent<S::Call>,
     // Its turns since the one that began this round, which isn't counted.
     turns: u32,
-    // How many times in a row it has put tokens into its queue and had more than `SPARE` there.
+    // How many times in a row it has put tokens into its queue and had more than `SPARE` there, since it last woke another worker.
     rich: u32,
 }
 
