@@ -100,180 +100,173 @@ where
     let Ok(graph) = Graph::build(alloc, program) else {
         return Err(EngineFault::Memory);
     };
-    let limit = limit as usize;
-    run_graph(
-        rt, alloc, program, &graph, answers, sites, gate, workers, limit,
-    )
-}
-
-// Runs a program whose graph is built, with workers and a limit in range, and asks the sites and the gate. The journal is kept. By the clause
-// *played* the result is the outcome of a run of the program. The faults are those of `run_pool` but Range.
-fn run_graph<R, S, G>(
-    rt: &R,
-    alloc: Global,
-    program: &Program,
-    graph: &Graph,
-    answers: &Answers,
-    sites: &S,
-    gate: &G,
-    workers: usize,
-    limit: usize,
-) -> Result<Played, EngineFault>
-where
-    R: Threads + Wait + Sync,
-    S: Sites + Sync,
-    S::Call: Send,
-    G: Gate + Sync,
-    requires workers { (1 ≤ workers) × (workers ≤ MOST_WORKERS) }
-    requires limit { (1 ≤ limit) × (limit ≤ MOST_ENTRIES) }
-    requires graph { graph.now ≡ program.now }
-    ensures played { IfOk result (λ p. IsPlayed program.now answers.now limit p.summary p.published.items p.journal) }
-    ensures kept { IfOk result (λ p. is_some p.journal ≡ true) }
-    ensures range { IfErr result (λ fault. fault ≡ EngineFault.Range → ⊥) }
-{
-    // `PASSES` for each worker, and one for the program's first token. The error is refused memory.
-    let Ok(words) = Unnamed::new(alloc, WORDS, PASSES * workers as u32 + 1) else {
-        return Err(EngineFault::Memory);
-    };
-    run_named::<Brand, R, S, G>(
-        rt, alloc, words, program, graph, answers, sites, gate, workers, limit,
-    )
-}
-
-// Runs a program with workers, once its graph is built and the words of the groups are made (a group's word counts the passes to it). In contracts
-// `P` stands for the run, with its program and sites, and for the table of words; the caller picks it, and the clauses ask that all of these are
-// those of `P`. The faults are those of `run_pool` but Range.
-fn run_named<'x, P, R, S, G>(
-    rt: &'x R,
-    alloc: Global,
-    words: Unnamed,
-    program: &'x Program,
-    graph: &'x Graph,
-    answers: &'x Answers,
-    sites: &'x S,
-    gate: &'x G,
-    workers: usize,
-    limit: usize,
-) -> Result<Played, EngineFault>
-where
-    P: Run + Naming + Send + Sync,
-    R: Threads + Wait + Sync,
-    S: Sites + Sync,
-    S::Call: Send,
-    G: Gate + Sync,
-    requires limit { (1 ≤ limit) × (limit ≤ MOST_ENTRIES) }
-    requires named { limit ≡ P.limit }
-    requires program { program.now ≡ P.listing }
-    requires graph { graph.now ≡ P.listing }
-    requires answers { answers.now.sites ≡ P.sites }
-    requires kept { P.keeps ≡ true }
-    requires table { words.table.shared.table_id ≡ P.table }
-    requires words { words.table.shared.table_id.words ≡ 2 * MOST_GROUPS }
-    ensures played { IfOk result (λ p. IsPlayed program.now answers.now limit p.summary p.published.items p.journal) }
-    ensures kept { IfOk result (λ p. is_some p.journal ≡ true) }
-    ensures range { IfErr result (λ fault. fault ≡ EngineFault.Range → ⊥) }
-{
-    // The words of the groups, and all passes, of which each worker gets a part.
-    let (groups, mut supply) = words.named::<P>();
-    let Some(idle) = supply.take(&groups) else {
-        // Never so: the supply is new, and so is word 0 below. No contract says so.
-        return Err(EngineFault::Broken);
-    };
-    // The first token is in the program's own group, whose word is 0.
-    let Ok(pass) = groups.open(idle, 0) else {
-        return Err(EngineFault::Broken);
-    };
-    let inputs = Inputs::new(graph, answers);
-    // The book keeps the journal (`true`): the workers read a call's request there.
-    let Ok((book, token)) = Book::<P>::new(alloc, &inputs, true, limit, WORDS, pass) else {
-        return Err(EngineFault::Memory);
-    };
-    let setup = Setup {
-        inputs: &inputs,
-        groups: &groups,
-    };
-    // The cell that is bound to the reason once the run stops.
-    let Ok(why) = Cell::new(alloc) else {
-        return Err(EngineFault::Memory);
-    };
-    let Ok(stopper) = Stopper::new(alloc, &why) else {
-        return Err(EngineFault::Memory);
-    };
-    let shared = Mutex::new(Shared::new(alloc, book, stopper));
-    play(
-        rt, alloc, setup, supply, token, &shared, &why, sites, gate, workers,
-    )?;
-    // `play` has waited for all threads, so nobody else has the lock.
-    let (book, stop) = shared.into_inner().into_book();
-    // This scheduler gives no turn: it finds from the records how the run ended.
-    let scheduler = Scheduler::new(alloc, book.into_ledger(), true);
-    match scheduler.finish(program, &inputs, stop) {
-        Ok(Some(played)) => Ok(played),
-        // The journal is kept, so the end can be told.
-        Ok(None) => unreachable!(),
-        Err(fault) => Err(fault),
-    }
-}
-
-// Lets all workers work until the run has stopped. The first worker, on the calling thread, begins with `token`, the run's first. `supply` has the
-// passes of all workers. `why` is bound once the run stops, to the reason. The fault is Memory if memory for the workers was refused, or Broken if
-// there are too few passes or no workers.
-fn play<'x, P, R, S, G>(
-    rt: &'x R,
-    alloc: Global,
-    setup: Setup<'x, P>,
-    supply: Supply<P>,
-    token: Token<P>,
-    shared: &'x Mutex<Shared<P, S::Call>>,
-    why: &'x Cell<Stop>,
-    sites: &'x S,
-    gate: &'x G,
-    workers: usize,
-) -> Result<(), EngineFault>
-where
-    P: Run + Naming + Send + Sync,
-    R: Threads + Wait + Sync,
-    S: Sites + Sync,
-    S::Call: Send,
-    G: Gate + Sync,
-    ensures range { IfErr result (λ fault. fault ≡ EngineFault.Range → ⊥) }
-{
-    let Ok(mut queues) = worker_queues::<Token<P>>(alloc, workers) else {
-        return Err(EngineFault::Memory);
-    };
-    // The first worker's queue. It is there, since each worker has a queue and there is one worker at least. The others' queues stay in the list.
-    let Some(queue) = queues.pop() else {
-        return Err(EngineFault::Broken);
-    };
-    let mut supply = supply;
-    let mut local = local_of(alloc, setup.groups, &mut supply)?;
-    // The first worker begins with the run's first token.
-    local.hold(token);
-    let wakeups = Condvar::new();
-    let idle = AtomicU64::new(0);
-    // Whether a call may wait for what another thread does: then a worker hands over all that others may need before it makes one.
-    let may_wait = sites.may_wait() || gate.may_wait();
-    let context = Context {
+    let pool = Pool {
+        rt,
         alloc,
-        setup,
-        shared,
-        why,
-        wakeups: &wakeups,
-        idle: &idle,
+        workers,
         sites,
         gate,
-        may_wait,
     };
-    let first = Worker {
-        rt,
-        context: &context,
-        queue,
-        local,
-        is_first: true,
-    };
-    let others = others_of(rt, &context, &mut supply, queues)?;
-    run_all(rt, first, others);
-    Ok(())
+    pool.run_graph(program, &graph, answers, limit as usize)
+}
+
+// The workers of a run before it begins, and whom they call.
+#[derive(Drop)]
+struct Pool<'h, R, S, G> {
+    // Starts their threads.
+    rt: &'h R,
+    // They take memory from this allocator.
+    alloc: Global,
+    // How many there are. The calling thread is one of them.
+    workers: usize,
+    // They make the calls.
+    sites: &'h S,
+    // Each call passes it before it is made.
+    gate: &'h G,
+}
+
+impl<R, S, G> Pool<'_, R, S, G>
+where
+    R: Threads + Wait + Sync,
+    S: Sites + Sync,
+    S::Call: Send,
+    G: Gate + Sync,
+{
+    // Runs a program whose graph is built, with workers and a limit in range, and asks the sites and the gate. The journal is kept. By the clause
+    // *played* the result is the outcome of a run of the program. The faults are those of `run_pool` but Range.
+    fn run_graph(
+        &self,
+        program: &Program,
+        graph: &Graph,
+        answers: &Answers,
+        limit: usize,
+    ) -> Result<Played, EngineFault>
+        requires workers { (1 ≤ self.now.workers) × (self.now.workers ≤ MOST_WORKERS) }
+        requires limit { (1 ≤ limit) × (limit ≤ MOST_ENTRIES) }
+        requires graph { graph.now ≡ program.now }
+        ensures played { IfOk result (λ p. IsPlayed program.now answers.now limit p.summary p.published.items p.journal) }
+        ensures kept { IfOk result (λ p. is_some p.journal ≡ true) }
+        ensures range { IfErr result (λ fault. fault ≡ EngineFault.Range → ⊥) }
+    {
+        // `PASSES` for each worker, and one for the program's first token. The error is refused memory.
+        let Ok(words) = Unnamed::new(self.alloc, WORDS, PASSES * self.workers as u32 + 1) else {
+            return Err(EngineFault::Memory);
+        };
+        self.run_named::<Brand>(words, program, graph, answers, limit)
+    }
+
+    // Runs a program with workers, once its graph is built and the words of the groups are made (a group's word counts the passes to it). In
+    // contracts `P` stands for the run, with its program and sites, and for the table of words; the caller picks it, and the clauses ask that all of
+    // these are those of `P`. The faults are those of `run_pool` but Range.
+    fn run_named<P: Run + Naming + Send + Sync>(
+        &self,
+        words: Unnamed,
+        program: &Program,
+        graph: &Graph,
+        answers: &Answers,
+        limit: usize,
+    ) -> Result<Played, EngineFault>
+        requires limit { (1 ≤ limit) × (limit ≤ MOST_ENTRIES) }
+        requires named { limit ≡ P.limit }
+        requires program { program.now ≡ P.listing }
+        requires graph { graph.now ≡ P.listing }
+        requires answers { answers.now.sites ≡ P.sites }
+        requires kept { P.keeps ≡ true }
+        requires table { words.table.shared.table_id ≡ P.table }
+        requires words { words.table.shared.table_id.words ≡ 2 * MOST_GROUPS }
+        ensures played { IfOk result (λ p. IsPlayed program.now answers.now limit p.summary p.published.items p.journal) }
+        ensures kept { IfOk result (λ p. is_some p.journal ≡ true) }
+        ensures range { IfErr result (λ fault. fault ≡ EngineFault.Range → ⊥) }
+    {
+        // The words of the groups, and all passes, of which each worker gets a part.
+        let (groups, mut supply) = words.named::<P>();
+        let Some(idle) = supply.take(&groups) else {
+            // Never so: the supply is new, and so is word 0 below. No contract says so.
+            return Err(EngineFault::Broken);
+        };
+        // The first token is in the program's own group, whose word is 0.
+        let Ok(pass) = groups.open(idle, 0) else {
+            return Err(EngineFault::Broken);
+        };
+        let inputs = Inputs::new(graph, answers);
+        // The book keeps the journal (`true`): the workers read a call's request there.
+        let Ok((book, token)) = Book::<P>::new(self.alloc, &inputs, true, limit, WORDS, pass) else {
+            return Err(EngineFault::Memory);
+        };
+        let setup = Setup {
+            inputs: &inputs,
+            groups: &groups,
+        };
+        // The cell that is bound to the reason once the run stops.
+        let Ok(why) = Cell::new(self.alloc) else {
+            return Err(EngineFault::Memory);
+        };
+        let Ok(stopper) = Stopper::new(self.alloc, &why) else {
+            return Err(EngineFault::Memory);
+        };
+        let shared = Mutex::new(Shared::new(self.alloc, book, stopper));
+        self.play(setup, supply, token, &shared, &why)?;
+        // `play` has waited for all threads, so nobody else has the lock.
+        let (book, stop) = shared.into_inner().into_book();
+        // This scheduler gives no turn: it finds from the records how the run ended.
+        let scheduler = Scheduler::new(self.alloc, book.into_ledger(), true);
+        match scheduler.finish(program, &inputs, stop) {
+            Ok(Some(played)) => Ok(played),
+            // The journal is kept, so the end can be told.
+            Ok(None) => unreachable!(),
+            Err(fault) => Err(fault),
+        }
+    }
+
+    // Lets all workers work until the run has stopped. The first worker, on the calling thread, begins with `token`, the run's first. `supply` has
+    // the passes of all workers. `why` is bound once the run stops, to the reason. The fault is Memory if memory for the workers was refused, or
+    // Broken if there are too few passes or no workers.
+    fn play<P: Run + Naming + Send + Sync>(
+        &self,
+        setup: Setup<'_, P>,
+        supply: Supply<P>,
+        token: Token<P>,
+        shared: &Mutex<Shared<P, S::Call>>,
+        why: &Cell<Stop>,
+    ) -> Result<(), EngineFault>
+        ensures range { IfErr result (λ fault. fault ≡ EngineFault.Range → ⊥) }
+    {
+        let Ok(mut queues) = worker_queues::<Token<P>>(self.alloc, self.workers) else {
+            return Err(EngineFault::Memory);
+        };
+        // The first worker's queue. It is there, since each worker has a queue and there is one worker at least. The others' queues stay in the list.
+        let Some(queue) = queues.pop() else {
+            return Err(EngineFault::Broken);
+        };
+        let mut supply = supply;
+        let mut local = local_of(self.alloc, setup.groups, &mut supply)?;
+        // The first worker begins with the run's first token.
+        local.hold(token);
+        let wakeups = Condvar::new();
+        let idle = AtomicU64::new(0);
+        let context = Context {
+            alloc: self.alloc,
+            setup,
+            shared,
+            why,
+            wakeups: &wakeups,
+            idle: &idle,
+            sites: self.sites,
+            gate: self.gate,
+            // Whether a call may wait for what another thread does: then a worker hands over all that others may need before it makes one.
+            may_wait: self.sites.may_wait() || self.gate.may_wait(),
+        };
+        let first = Worker {
+            rt: self.rt,
+            context: &context,
+            queue,
+            local,
+            is_first: true,
+        };
+        let others = others_of(self.rt, &context, &mut supply, queues)?;
+        run_all(self.rt, first, others);
+        Ok(())
+    }
 }
 
 // What a worker has at first: `PASSES` passes, taken out of the run's supply. Broken if the supply has too few, which doesn't come up: it was made

@@ -1,7 +1,7 @@
 use Rattle.std.proofs.Common.{◌≡◌, true, sym, subst, rules}
 use Rattle.std.specs.Prelude.{MatchOption, is_some}
 use Rattle.orc_outcome.specs.Outcome.{IsPlayed}
-use Rattle.orc_workers.proofs.pool.run_named.Goals as goal
+use Rattle.orc_workers.proofs.pool.Pool.run_named.Goals as goal
 
 pub returns-in-Ok-Some-clause-played : goal.returns-in-Ok-Some-clause-played
 returns-in-Ok-Some-clause-played g c =
