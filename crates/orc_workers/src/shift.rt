@@ -51,7 +51,7 @@ pub(crate) struct Shift<'h, P: Run + Naming, R: Wait, S: Sites, G: Gate> {
     poller: Poller,
     // The result of its last call, which the next turn reports under the lock.
     event: CallEvent<S::Call>,
-    // Its turns since the one that began this round, which isn't counted.
+    // Its turns in this round, `ROUND` at most.
     turns: u32,
     // How many times in a row it has put tokens into its queue and had more than `SPARE` there, since it last woke another worker.
     rich: u32,
@@ -149,13 +149,12 @@ impl<'h, P: Run + Naming, R: Wait, S: Sites, G: Gate> Shift<'h, P, R, S, G> {
 
     // A turn under the lock, in which the worker's tokens move. Gives the work that it has to do outside the lock.
     fn turn(&mut self) -> OutsideWork<S::Call> {
-        self.turns = self.turns.saturating_add(1);
-        // A round has `ROUND` turns after the one that begins it.
-        let begins_round = self.turns > ROUND;
+        let begins_round = self.turns >= ROUND;
         if begins_round {
             self.turns = 0;
             self.take_oldest();
         }
+        self.turns = self.turns.saturating_add(1);
         // The result of the last call, which this turn reports.
         let event = mem::replace(&mut self.event, CallEvent::None);
         let context = self.context;
