@@ -134,6 +134,7 @@ impl Counts {
 
     /// Counts a call of the site with this number and these arguments if a script answers the site; else nothing changes, since no other site's
     /// answers depend on how many calls there were. The error is refused memory, and then nothing changes either.
+    #[inline(always)]
     pub fn add(&mut self, answers: &Answers, site: u32, args: &Args) -> Result<(), AllocError>
         ensures added { OnOk result (CountsCall answers.now.sites site args.now self.old self.new) }
         ensures refused { OnErr result (self.new ≡ self.old) }

@@ -21,6 +21,7 @@ pub fn due_time(found: Found, made_at: u64) -> Option<u64>
 /// Checks that a call which was made at the time `made_at` is due now, at the time `now`, with this answer, by what the table said when it was made
 /// (`found`). The error is Answer if the table said another answer or never, and Time if the call is due at another time, or never since the sum is
 /// over the greatest time.
+#[inline(always)]
 pub fn check_due(found: Found, made_at: u64, answer: Answer, now: u64) -> Result<(), RuleFault>
     ensures due { IfOk result (λ _. DueNow made_at found answer now) }
     ensures not_due { IfErr result (λ r. IsNotDue made_at found answer now r) }

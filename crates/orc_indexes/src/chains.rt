@@ -191,6 +191,7 @@ impl Chains {
     }
 
     /// Follows a `Vec::swap_remove`: the member at `place` is gone, and the one at `last` has moved to `place`. `last` may be `place` itself.
+    #[inline(always)]
     pub fn swap_take(&mut self, place: usize, last: usize) {
         self.take(place);
         let link = link_at(&self.links, last);

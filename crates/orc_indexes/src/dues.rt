@@ -82,6 +82,7 @@ impl Dues {
     }
 
     /// The least number of a call, `from` or more, that is noted with exactly this time. None if there is none.
+    #[inline(always)]
     pub fn first_at(&self, time: u64, from: u64) -> Option<u64>
         ensures { MatchOption result ((k : ℕ) → IsNoted self.now time k → k < from) (IsLeastFrom self.now time from) }
     {
@@ -103,6 +104,7 @@ impl Dues {
     }
 
     /// Takes a note out, if it is there, so that there are fewer. The others stay.
+    #[inline(always)]
     pub fn forget(&mut self, time: u64, number: u64)
         ensures kept { KeepsBut self.old self.new time number }
         ensures gone { IsNoted self.old time number → length self.new < length self.old }

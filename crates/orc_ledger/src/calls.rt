@@ -24,6 +24,7 @@ impl<P: Run> Ledger<P> {
     /// the answer is a value, a token on the value comes in the call's place, and the token's slot is given; if the call halts, None is given. Each
     /// other token stays in its slot. Gone if no such call pends, Wrong if the table says otherwise or the call isn't due now, Limit if the journal
     /// has as many entries as its limit, else Memory. Nothing has changed then.
+    #[inline(always)]
     pub fn returned(&mut self, number: u64, answer: Answer) -> Result<Option<usize>, ReturnFault>
         ensures done { IfOk result (λ slot. (c : Its) × Pends self.old number c × IsReturned self.old c answer slot self.new) }
         ensures others { OnOk result (KeepsAll self.old.slots self.new.slots) }
@@ -57,6 +58,7 @@ impl<P: Run> Ledger<P> {
 
     // Answers a call, which is due now, with a value. Gives the slot of the token on the value, which comes in the call's place. The error is refused
     // memory, and then nothing changes. `due` and `room` ask what `returned` has tested.
+    #[inline(always)]
     fn give(&mut self, call: Call, value: Value) -> Result<usize, LedgerFault>
         requires pends { IsIn call self.old.calls }
         requires due { DueNow call.made_at call.found (Gives value) self.old.now }
@@ -88,6 +90,7 @@ impl<P: Run> Ledger<P> {
 
     // Answers a call, which is due now, with a halt. The error is refused memory, and then nothing changes. `due` and `room` ask what `returned` has
     // tested.
+    #[inline(always)]
     fn give_up(&mut self, call: Call) -> Result<(), LedgerFault>
         requires pends { IsIn call self.old.calls }
         requires due { DueNow call.made_at call.found Halt self.old.now }

@@ -213,6 +213,7 @@ impl<P: Run> Ledger<P> {
     }
 
     /// The record of the call that pends with this number, the call's in the journal, from 1; None if no such call pends.
+    #[inline(always)]
     pub fn pending(&self, number: u64) -> Option<Call>
         ensures { MatchOption result (weight (has_number number) self.now.calls ≡ 0) (Pends self.now number) }
     {

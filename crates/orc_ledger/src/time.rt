@@ -19,6 +19,7 @@ use orc_tables::Call;
 impl<P: Run> Ledger<P> {
     /// The least number over `number` (0 for all calls) of a pending call that is due now: the call's number in the journal. None where no such call
     /// is due. No record changes: `&mut` is for the notes of due times, of which the function drops those whose calls are gone.
+    #[inline(always)]
     pub fn due_beyond(&mut self, number: u64) -> Option<u64>
         ensures due { MatchOption result ((k : ℕ) → IsDueBeyond self.old.calls number self.old.now k → ⊥) (IsLeastBeyond self.old.calls number self.old.now) }
         ensures same { self.new ≡ self.old }
@@ -28,6 +29,7 @@ impl<P: Run> Ledger<P> {
 
     /// The call with the least number of those that are due now, and the answer that the table gives. None where no call is due, and then none is
     /// overdue. No record changes: `&mut` is for the notes of due times, of which the function drops those whose calls are gone.
+    #[inline(always)]
     pub fn due(&mut self) -> Option<(Call, Answer)>
         ensures due { MatchOption result ((c : Its) (t : ℕ) → IsIn c self.old.calls → due_of c ≡ Some t → t ≤ self.old.now → ⊥) (λ d. Pends self.old d.0.number d.0 × IsDueNow P.listing P.sites self.old d.0.number d.1 × IsLeastBeyond self.old.calls 0 self.old.now d.0.number) }
         ensures same { self.new ≡ self.old }
@@ -61,6 +63,7 @@ impl<P: Run> Ledger<P> {
     /// Sets the time to `time`, in logical units, and writes the tick. The rules have to allow the tick (`MayTick`): no rule can be used now, and
     /// `time` is the least due time of the pending calls, later than now. Limit where the journal has as many entries as its limit, else Memory;
     /// nothing has changed then.
+    #[inline(always)]
     pub fn tick(&mut self, time: u64) -> Result<(), LedgerFault>
         requires { MayTick P.listing P.sites self.old time }
         ensures done { OnOk result (self.new ≡ record self.old { journal = self.old.journal ++ Tick time ∷ []; entries = self.old.entries + 1; now = time }) }

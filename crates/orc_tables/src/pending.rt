@@ -120,6 +120,7 @@ fn call_at(items: &Vec<Call>, place: usize) -> Option<Call>
 
 // The call with this number, and its place; None if the call doesn't pend. The clause `none` promises that only if `places` leads to each call
 // (`ArePlaced`).
+#[inline(always)]
 fn find(items: &Vec<Call>, places: &Vec<usize>, number: u64) -> Option<Spot>
     ensures found { IfSome result (λ s. (slice_get items.now.items s.place ≡ Some s.call) × (s.call.number ≡ number)) }
     ensures none { IfNone result (ArePlaced items.now.items places.now.items → (k : ℕ) (c : Its) → slice_get items.now.items k ≡ Some c → c.number ≡ number → ⊥) }
@@ -143,6 +144,7 @@ fn find(items: &Vec<Call>, places: &Vec<usize>, number: u64) -> Option<Spot>
 
 // Removes the call at this place of `items`, the list of pending calls, and gives that call; the last one takes its place. `places` leads to each
 // call before and after (`ArePlaced`), so that calls are found by their numbers. Those before it stay where they are (`before`), so a loop can go on.
+#[inline(always)]
 fn remove_at(
     items: &mut Vec<Call>,
     places: &mut Vec<usize>,
@@ -176,6 +178,7 @@ fn remove_at(
 }
 
 // Takes the note of when this call is due out of `dues`, if the call is ever due. Other calls keep their notes.
+#[inline(always)]
 fn forget(dues: &mut Dues, call: Call)
     ensures { (t k : ℕ) → IsNoted dues.old t k → IsNoted dues.new t k ⊎ (k ≡ call.number) }
 {
@@ -221,6 +224,7 @@ fn drop_inside(
 }
 
 // Whether the call with this number pends and is due at this time. `places` has to lead to each call (`ArePlaced`), or a call could be missed.
+#[inline(always)]
 fn is_due(items: &Vec<Call>, places: &Vec<usize>, time: u64, number: u64) -> bool
     requires { ArePlaced items.now.items places.now.items }
     ensures due { result ≡ true → (c : Its) × IsIn c items.now.items × (c.number ≡ number) × (due_of c ≡ Some time) }
@@ -260,6 +264,7 @@ fn next_due(items: &Vec<Call>, places: &Vec<usize>, dues: &mut Dues) -> Option<u
 // The least number over `beyond` whose call is due at exactly this time; None if there is none. Notes in between whose calls are gone are dropped, so
 // the loop ends. The clauses ask that `places` leads to each call, and that each call is noted with its due time; `fits` that `beyond + 1` doesn't
 // overflow.
+#[inline(always)]
 fn due_beyond(
     items: &Vec<Call>,
     places: &Vec<usize>,
@@ -317,6 +322,7 @@ impl Pending {
     }
 
     /// The pending call with this number, its number in the journal, from 1. None if no such call pends.
+    #[inline(always)]
     pub fn get(&self, number: u64) -> Option<Call>
         ensures { MatchOption result (weight (has_number number) self.now.items ≡ 0) (λ c. IsIn c self.now.items × (c.number ≡ number)) }
     {
@@ -362,6 +368,7 @@ impl Pending {
     }
 
     /// Makes room for the number of a call that won't pend, since it is answered at once. The error is refused memory. The calls stay either way.
+    #[inline(always)]
     pub fn reserve_number(&mut self) -> Result<(), AllocError>
         ensures items { self.new.items ≡ self.old.items }
         ensures made { self.new.made ≡ self.old.made }
@@ -400,6 +407,7 @@ impl Pending {
 
     /// Removes the pending call with this number, and gives it; None, and nothing changes, where no such call pends. The number stays given out
     /// (`made`).
+    #[inline(always)]
     pub fn take(&mut self, number: u64) -> Option<Call>
         ensures made { self.new.made ≡ self.old.made }
         ensures taken { (w : Its → ℕ) → weight w self.new.items ≡ weight (but (is_numbered number) w) self.old.items }
@@ -490,6 +498,7 @@ impl Pending {
 
     /// The least number over `beyond` whose call is due at exactly this time; None if there is none. With `beyond` 0 it is the first such call. Notes
     /// in between whose calls are gone are dropped: hence `&mut`. The calls stay.
+    #[inline(always)]
     pub fn due_beyond(&mut self, time: u64, beyond: u64) -> Option<u64>
         ensures items { self.new.items ≡ self.old.items }
         ensures made { self.new.made ≡ self.old.made }
