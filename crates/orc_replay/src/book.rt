@@ -1,11 +1,10 @@
 //! Drives a book (a ledger whose tokens may be out with workers, `orc_book`) by its calls alone, with no worker: what they write, what they give out,
 //! and what they refuse.
 
-mod begin;
+mod hand;
+mod held;
 mod journals;
-mod kills;
 mod passes;
-mod refusals;
 mod replay;
 mod rows;
 mod setup;
@@ -46,7 +45,7 @@ pub(crate) fn tell_journal<R: Print>(
         return println!(rt; "read {entries}");
     }
     match replay_text(alloc, source, script, journal) {
-        Ok(replayed) => println!(rt; "same {} {:?}", replayed.entries, replayed.state),
+        Ok((entries, state)) => println!(rt; "same {entries} {state:?}"),
         Err(stop) => println!(rt; "entry {}: {:?}", stop.at, stop.why),
     }
 }

@@ -2,10 +2,12 @@
 //! families of rows, and in journals of the second version, entry by entry.
 
 mod apart;
+mod notes;
 mod replay;
 mod rows;
 
-use crate::ledger::replay::{Mismatch, Stop, replay_journal};
+use crate::ledger::replay::replay_journal;
+use crate::stop::{Stop, UNREAD};
 use orc_journal_text::read_journal;
 use orc_load::load;
 use orc_rules::entry::State;
@@ -21,16 +23,11 @@ pub(crate) fn replay_text(
     script: &[u8],
     text: &[u8],
 ) -> Result<(usize, State), Stop> {
-    // The answer for a text that can't be read: nothing was replayed.
-    let unread = Stop {
-        at: 0,
-        why: Mismatch::Other,
-    };
     let Ok(loaded) = load(alloc, source, script) else {
-        return Err(unread);
+        return Err(UNREAD);
     };
     let Ok(journal) = read_journal(alloc, text, &loaded.answers) else {
-        return Err(unread);
+        return Err(UNREAD);
     };
     let state = replay_journal(alloc, &loaded.program, &loaded.answers, &journal)?;
     Ok((journal.len(), state))

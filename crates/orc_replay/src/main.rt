@@ -9,6 +9,7 @@
 
 mod book;
 mod ledger;
+mod stop;
 mod texts;
 
 use std::alloc::Global;

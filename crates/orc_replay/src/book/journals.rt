@@ -6,14 +6,14 @@
 ghost use Rattle.std.specs.Prelude.{◌≡◌, ◌*◌, true};
 ghost use Rattle.orc_rules.specs.declared.limits.TheConstants.{MOST_ENTRIES, MOST_GROUPS};
 
-use crate::book::begin::{PASSES, WORDS, begin};
-use crate::book::replay::{Mismatch, Replay};
-use crate::book::setup::Setup;
+use crate::book::replay::Replay;
+use crate::book::setup::{PASSES, Setup, WORDS};
+use crate::stop::{Mismatch, REFUSED, Stop, UNREAD};
 use crate::texts::are_same;
 use orc_graph::Graph;
 use orc_journal::{Journal, Version};
 use orc_journal_text::read_journal;
-use orc_ledger::{Inputs, Ledger, Next};
+use orc_ledger::{Inputs, Next};
 use orc_load::load;
 use orc_log::Run;
 use orc_rules::answers::Answers;
@@ -23,47 +23,18 @@ use orc_word::{Naming, Unnamed};
 use std::alloc::Global;
 use std::marker::Brand;
 
-/// The entry at which a replay fails, from 1, and why; 0 if nothing was replayed.
-#[derive(Clone, Copy, Debug, PartialEq, Eq)]
-pub(crate) struct Stop {
-    /// The entry's place, from 1, cancels counted; 0 if nothing was replayed.
-    pub at: usize,
-    /// Why it fails.
-    pub why: Mismatch,
-}
-
-/// A journal that was replayed: how many entries it has, cancels too, and what the book says of the place to which they have led.
-#[derive(Clone, Copy)]
-pub(crate) struct Replayed {
-    /// How many entries, cancels too.
-    pub entries: usize,
-    /// Whether the run has halted, is quiet (nothing can come next, though it hasn't halted) or is running after them.
-    pub state: State,
-}
-
 /// How many passes to the program's own group a replay keeps for the next records there, as a worker keeps some. The number only bears on speed.
 const MOST_WARM: usize = 64;
 
-/// Nothing was replayed: a text can't be read, or the journal is of the first version.
-const UNREAD: Stop = Stop {
-    at: 0,
-    why: Mismatch::Other,
-};
-
-/// Nothing was replayed, since memory was refused for the graph, the words or the book.
-const REFUSED: Stop = Stop {
-    at: 0,
-    why: Mismatch::Memory,
-};
-
 /// Replays the text of a journal of the second version: a book that begins with the program does each entry by the call for its kind, and the replay
-/// leaves each pass as soon as no record has it. Ok if the book writes the same journal.
+/// leaves each pass as soon as no record has it. Ok if the book writes the same journal: how many entries it has, cancels too, and the state to which
+/// they have led, Halted, Quiet (nothing can come next, though the run hasn't halted) or Running.
 pub(crate) fn replay_text(
     alloc: Global,
     source: &[u8],
     script: &[u8],
     text: &[u8],
-) -> Result<Replayed, Stop> {
+) -> Result<(usize, State), Stop> {
     let Ok(loaded) = load(alloc, source, script) else {
         return Err(UNREAD);
     };
@@ -76,20 +47,11 @@ pub(crate) fn replay_text(
     if journal.version() != Version::Two {
         return Err(UNREAD);
     }
-    replay_graph(alloc, &graph, &loaded.answers, &journal)
-}
-
-// Replays a journal of the program with this graph, under a new table of words, which has no name in contracts yet: `replay_named` names it.
-fn replay_graph(
-    alloc: Global,
-    graph: &Graph,
-    answers: &Answers,
-    journal: &Journal,
-) -> Result<Replayed, Stop> {
+    // A new table of words, which has no name in contracts yet: `replay_named` names it.
     let Ok(words) = Unnamed::new(alloc, WORDS, PASSES) else {
         return Err(REFUSED);
     };
-    replay_named::<Brand>(alloc, words, graph, answers, journal)
+    replay_named::<Brand>(alloc, words, &graph, &loaded.answers, &journal)
 }
 
 // Replays a journal. In contracts `P` stands for the run and its table of words; the caller picks it, and the clauses ask that `P` has this graph,
@@ -101,7 +63,7 @@ fn replay_named<P: Run + Naming>(
     graph: &Graph,
     answers: &Answers,
     journal: &Journal,
-) -> Result<Replayed, Stop>
+) -> Result<(usize, State), Stop>
     requires graph { graph.now ≡ P.listing }
     requires answers { answers.now.sites ≡ P.sites }
     requires limit { P.limit ≡ MOST_ENTRIES }
@@ -117,14 +79,15 @@ fn replay_named<P: Run + Naming>(
         inputs: &inputs,
         groups: &groups,
     };
-    let Some(mut replay) = begin(alloc, &setup, supply, WORDS, MOST_ENTRIES as usize) else {
+    let limit = MOST_ENTRIES as usize;
+    let Some(mut replay) = Replay::<P>::begin(alloc, &setup, supply, WORDS, limit) else {
         return Err(REFUSED);
     };
-    replay.passes.keep_warm(MOST_WARM);
+    replay.held.passes.keep_warm(MOST_WARM);
     follow(&setup, &mut replay, journal)?;
     let entries = journal.len();
     match state_of(alloc, &setup, replay, journal) {
-        Ok(state) => Ok(Replayed { entries, state }),
+        Ok(state) => Ok((entries, state)),
         Err(why) => Err(Stop { at: entries, why }),
     }
 }
@@ -166,19 +129,10 @@ fn state_of<P: Run + Naming>(
     let has_ended = replay.close_run(setup)?;
     let mut ledger = replay.into_ledger();
     match are_same(alloc, setup.inputs.answers, ledger.journal(), journal) {
-        Some(true) => state_after(setup, &mut ledger, has_ended),
-        Some(false) => Err(Mismatch::Other),
-        None => Err(Mismatch::Memory),
+        Some(true) => {}
+        Some(false) => return Err(Mismatch::Other),
+        None => return Err(Mismatch::Memory),
     }
-}
-
-// The state in which the ledger is. `has_ended` says whether the book has closed the program's own group; the error is that the term hasn't halted
-// then, or has halted though the group is open.
-fn state_after<P: Run + Naming>(
-    setup: &Setup<'_, P>,
-    ledger: &mut Ledger<P>,
-    has_ended: bool,
-) -> Result<State, Mismatch> {
     if ledger.has_halted() != has_ended {
         return Err(Mismatch::Other);
     }

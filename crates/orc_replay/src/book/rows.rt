@@ -1,16 +1,14 @@
 //! Rows: what a row does with a book, and what the book has to answer. None as the result of a function means that something isn't as it has to be;
 //! memory that is refused counts as that, too. A *group* is what runs in one right side of a `<x<`, one left side of a `;`, or the whole program. A
-//! *pass* stands for one record (a token, a pending call, an inner group) in its group, and the group's *word* counts its passes. A token is *out*
-//! while it is with the replay and not with the book, which keeps one that waits. `setup` has the program, the table of sites and the words.
+//! *pass* stands for one record (a token, a pending call, an inner group) in its group, and the group's *word* counts its passes; an *idle* one names
+//! no group, and to *leave* a pass makes it idle. A token is *out* while it is with the replay and not with the book, which keeps one that waits. A
+//! row may take a token, and passes that are to be left, into its *hand*. A bind gives a cell (the x of an opened `<x<`) its value and *kills* the
+//! groups of its right side: one pass alone wins the bit *killed* of the word. `setup` has the program, the table of sites and the words.
 
 ghost use Rattle.std.specs.Prelude.{◌≡◌, ◌≤◌, true};
 ghost use Rattle.orc_rules.specs.declared.limits.TheConstants.{MOST_ENTRIES};
 
-use crate::book::begin::begin;
-use crate::book::kills::{
-    ends_after_a_kill, gives_a_lost_mark_back, keeps_words_of_the_killed, tells_killed_tokens,
-};
-use crate::book::refusals::{is_live, refuses_other_moves, refuses_words_that_are_named};
+use crate::book::hand::{Call, Hand, Left, acts};
 use crate::book::replay::Replay;
 use crate::book::setup::Setup;
 use crate::book::steps::{goes_on_until_full, makes_moves};
@@ -33,6 +31,8 @@ use std::marker::Brand;
 pub(crate) enum Step {
     /// The book does these entries, a line each, and writes exactly these.
     Does(&'static str),
+    /// The book has written these entries, a line each, in the steps before.
+    Wrote(&'static str),
     /// The book keeps the token with this mark, which waits.
     Keeps(u64),
     /// The token with this mark is out.
@@ -47,30 +47,49 @@ pub(crate) enum Step {
     Refuses(u64, Answer, BookFault),
     /// The journal has this many entries, cancels not counted.
     Entries(usize),
+    /// So many killed groups use a word.
+    Dying(usize),
+    /// The last bind has cancelled the calls with these numbers.
+    Cancelled(&'static [u64]),
     /// Whether the run has halted: once the replay has left all passes that it can, the book closes the program's own group. If it has, this is the
     /// last step, since that closes the run.
     HasEnded(bool),
+    /// Takes the token with this mark, which is out, into the hand.
+    Takes(u64),
+    /// The token in the hand is out again.
+    Holds,
+    /// The token in the hand has no record any more.
+    IsGone,
+    /// The book refuses this call for the token in the hand, for this reason. The token comes back with its pass, and nothing more is to be left.
+    Denies(Call, BookFault),
+    /// The token in the hand binds. The passes that are to be left then come into the hand, and no token that waits for the cell comes out.
+    Binds,
+    /// The token in the hand publishes. Its pass comes into the hand, to be left.
+    Publishes,
+    /// The token in the hand is dropped. Its pass stays in the hand, to be left.
+    Drops,
+    /// The pass of the token in the hand wins the mark *killed* of its group, outside the book, as another worker's bind would.
+    Wins,
+    /// The pass of the token in the hand, the only one to the program's own group, is left though the token is there. The book refuses to close the
+    /// group as Live, and the token gets another pass.
+    LeavesEarly,
+    /// A pass that no record has opens word 1, which the book would take next for a group, and comes into the hand.
+    NamesNext,
+    /// The tokens that wait for this cell come out.
+    Wakes(u64),
+    /// So many passes in the hand are to be left.
+    ToLeave(usize),
+    /// The first pass in the hand names the program's own group.
+    IsOfRun,
+    /// The pass at this place in the hand is left, and this comes of it.
+    Leaves(usize, Left),
 }
 
-/// What a row shows of a book. `show_with` has the function for each.
+/// What a row shows of a book.
 #[derive(Clone, Copy)]
 pub(crate) enum Shows {
-    /// These steps hold, one after another, on one book.
+    /// These steps hold, one after another, on one book, and the journal has the lines of the steps `Does` and `Wrote`, and no others.
     Steps(&'static [Step]),
-    /// A killed group ends with its last pass, and the run with the last pass to the program's own group.
-    EndsAfterAKill,
-    /// A bind is refused if the group's mark *killed* was won before.
-    GivesALostMarkBack,
-    /// A killed group's word is taken until its last pass is left.
-    KeepsWordsOfTheKilled,
-    /// A token that was out in a killed group is refused, and comes back with its pass.
-    TellsKilledTokens,
-    /// The program's own group isn't closed while a token is in it.
-    IsLive,
-    /// A token is refused every call of the book but that for its next move.
-    RefusesOtherMoves,
-    /// A pruning is refused if a pass still names the word that its group would take.
-    RefusesWordsThatAreNamed,
     /// If the token that has waited longest always moves next: the number of entries before a move is refused, the reason, and how many of the lent
     /// passes to the program's group (one, for a fork) remain then.
     MakesMoves(usize, BookFault, usize),
@@ -153,12 +172,22 @@ fn is_next(one: Next, other: Next) -> bool {
     }
 }
 
-// Does a step or asks the book. Some if the book does, says or refuses what the step wants.
-fn is_so<P: Run + Naming>(setup: &Setup<'_, P>, replay: &mut Replay<P>, step: &Step) -> Option<()> {
+// Does a step or asks the book. Some if the book does, says or refuses what the step wants. The clause asks that there are two words at least, since
+// some rows open word 1.
+fn is_so<P: Run + Naming>(
+    setup: &Setup<'_, P>,
+    replay: &mut Replay<P>,
+    hand: &mut Hand<P>,
+    step: &Step,
+) -> Option<()>
+    requires { 2 ≤ P.table.words }
+{
     match *step {
         Step::Does(lines) => enter_all(setup, replay, lines),
+        // It is compared in the end (`are_so`).
+        Step::Wrote(_) => Some(()),
         Step::Keeps(mark) => so(replay.keeps(setup, mark)),
-        Step::IsOut(mark) => so(replay.is_out(mark)),
+        Step::IsOut(mark) => so(replay.held.is_out(mark)),
         Step::Next(next) => so(is_next(replay.book.next(setup.inputs).ok()?, next)),
         Step::Now(time) => so(replay.book.now() == time),
         // The least number over 0: calls are numbered from 1.
@@ -168,65 +197,45 @@ fn is_so<P: Run + Naming>(setup: &Setup<'_, P>, replay: &mut Replay<P>, step: &S
             Err(why) => so(why == fault),
         },
         Step::Entries(entries) => so(replay.book.entries() == entries),
+        Step::Dying(groups) => so(replay.book.dying() == groups),
+        Step::Cancelled(calls) => so(replay.held.cancelled.as_slice() == calls),
         Step::HasEnded(ended) => so(replay.close_run(setup).ok()? == ended),
+        // All others are about the hand.
+        _ => acts(setup, replay, hand, step),
     }
 }
 
-// All steps hold, one after another, and the journal has the lines of the steps `Does`, and no others. For that the run has to keep its journal.
+// All steps hold, one after another, and the journal has the lines of the steps `Does` and `Wrote`, and no others. The clauses ask that the run keeps
+// its journal, and that there are two words at least.
 fn are_so<P: Run + Naming>(
     alloc: Global,
     setup: &Setup<'_, P>,
     mut replay: Replay<P>,
     steps: &[Step],
 ) -> Option<()>
-    requires { P.keeps ≡ true }
+    requires keeps { P.keeps ≡ true }
+    requires words { 2 ≤ P.table.words }
 {
+    let mut hand = Hand::new(alloc);
     let mut lines = String::new(alloc);
     for step in steps {
-        is_so(setup, &mut replay, step)?;
-        if let Step::Does(entries) = step {
+        is_so(setup, &mut replay, &mut hand, step)?;
+        if let Step::Does(entries) | Step::Wrote(entries) = step {
             lines.push_str(entries).ok()?;
         }
     }
     has_written(alloc, setup, replay, lines.as_str())
 }
 
-// Does with this run, which has just begun, what the row shows: Some if all is as it has to be. The clauses ask that the run keeps its journal, and
-// that there are two words at least, since some rows open word 1.
-fn show_with<P: Run + Naming>(
-    alloc: Global,
-    setup: &Setup<'_, P>,
-    replay: Replay<P>,
-    shows: Shows,
-) -> Option<()>
-    requires keeps { P.keeps ≡ true }
-    requires words { 2 ≤ P.table.words }
-{
-    match shows {
-        Shows::Steps(steps) => are_so(alloc, setup, replay, steps),
-        Shows::EndsAfterAKill => ends_after_a_kill(alloc, setup, replay),
-        Shows::GivesALostMarkBack => gives_a_lost_mark_back(alloc, setup, replay),
-        Shows::KeepsWordsOfTheKilled => keeps_words_of_the_killed(alloc, setup, replay),
-        Shows::TellsKilledTokens => tells_killed_tokens(alloc, setup, replay),
-        Shows::IsLive => is_live(alloc, setup, replay),
-        Shows::RefusesOtherMoves => refuses_other_moves(alloc, setup, replay),
-        Shows::RefusesWordsThatAreNamed => refuses_words_that_are_named(alloc, setup, replay),
-        Shows::MakesMoves(entries, why, left) => {
-            makes_moves(alloc, setup, replay, entries, why, left)
-        }
-        Shows::IsFullAfter(entries) => goes_on_until_full(alloc, setup, replay, entries),
-    }
-}
-
-// `show` for a graph that is built. In contracts `P` stands for the run and its table of words; the caller picks it, and the clauses ask that `P` has
-// this graph, these sites, this limit and these words, of which there are two at least, since some rows open word 1. `limit` and `count` are those of
-// the row (`count` its number of words).
+// Does with a run that begins what the row shows: Some if all is as it has to be. In contracts `P` stands for the run and its table of words; the
+// caller picks it, and the clauses ask that `P` has this graph, these sites, this limit and these words, of which there are two at least, since some
+// rows open word 1. `limit` and `count` are those of the row (`count` its number of words).
 fn show_named<P: Run + Naming>(
     alloc: Global,
     words: Unnamed,
     graph: &Graph,
     answers: &Answers,
-    row: &Row,
+    shows: &Shows,
     limit: usize,
     count: u32,
 ) -> Option<()>
@@ -245,8 +254,14 @@ fn show_named<P: Run + Naming>(
         inputs: &inputs,
         groups: &groups,
     };
-    let replay = begin(alloc, &setup, supply, count, limit)?;
-    show_with(alloc, &setup, replay, row.shows)
+    let replay = Replay::<P>::begin(alloc, &setup, supply, count, limit)?;
+    match *shows {
+        Shows::Steps(steps) => are_so(alloc, &setup, replay, steps),
+        Shows::MakesMoves(entries, why, left) => {
+            makes_moves(alloc, &setup, replay, entries, why, left)
+        }
+        Shows::IsFullAfter(entries) => goes_on_until_full(alloc, &setup, replay, entries),
+    }
 }
 
 /// Some if a book does what a row shows. None if it doesn't, if the row's texts are no program and script, or if memory is refused.
@@ -265,5 +280,6 @@ pub(crate) fn show(alloc: Global, row: &Row) -> Option<()> {
         return None;
     }
     let words = Unnamed::new(alloc, count, passes).ok()?;
-    show_named::<Brand>(alloc, words, &graph, &loaded.answers, row, limit, count)
+    let shows = &row.shows;
+    show_named::<Brand>(alloc, words, &graph, &loaded.answers, shows, limit, count)
 }

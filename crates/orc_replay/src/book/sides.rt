@@ -64,9 +64,12 @@ impl Sides {
         }
     }
 
-    /// What the group with this word is.
-    pub(crate) fn side(&self, word: u32) -> Side {
-        self.group(word).side
+    /// Whether the group with this word is this side, which an entry ends; or, if no side is named, whether the group ends without an entry.
+    pub(crate) fn ends_by(&self, word: u32, side: Option<Side>) -> bool {
+        match side {
+            Some(side) => self.group(word).side == side,
+            None => self.goes_silently(word),
+        }
     }
 
     /// Notes that a side was entered: its group has the word `word`, and is inside the group with the word `parent`.
@@ -124,9 +127,9 @@ impl Sides {
         }
     }
 
-    /// Whether a group ends without an entry: it has published, or it or an enclosing one was killed. Each enclosing group has a word of its own, so
-    /// the loop reaches the program's group, with word 0, after `2 * MOST_GROUPS` groups at most: no run has more words (`WORDS`).
-    pub(crate) fn goes_silently(&self, word: u32) -> bool {
+    // Whether a group ends without an entry: it has published, or it or an enclosing one was killed. Each enclosing group has a word of its own, so
+    // the loop reaches the program's group, with word 0, after `2 * MOST_GROUPS` groups at most: no run has more words (`WORDS`).
+    fn goes_silently(&self, word: u32) -> bool {
         if self.group(word).is_left {
             return true;
         }

@@ -56,12 +56,12 @@ fn moves_once<P: Run + Naming>(
     births: &mut Births<P>,
     out: &mut StepOut<P>,
 ) -> Option<()> {
-    let token = replay.take_token(1)?;
+    let token = replay.held.take(1)?;
     let view = replay.book.view(setup.inputs, token.slot, token.serial)?;
     // The token is to enter the `>x>`. For that it needs no pass, neither to its group nor an idle one.
     so(matches!(view.what, Action::Seq) && view.needs.same == 0 && view.needs.idle == 0)?;
     let slot = token.slot;
-    let double = replay.passes.same(setup.groups, &token.pass)?;
+    let double = replay.held.passes.same(setup.groups, &token.pass)?;
     replay
         .book
         .step(setup.groups, setup.inputs, token, births, out)
@@ -79,20 +79,15 @@ fn moves_once<P: Run + Naming>(
         Err(refused) => {
             so(refused.why == BookFault::Gone && out.born.len() == 1)?;
             // The second pass isn't the last one to the group: the new token has the first.
-            so(!replay.passes.leave(setup.groups, refused.back.pass).ok()?)
+            so(
+                !replay
+                    .held
+                    .passes
+                    .leave(setup.groups, refused.back.pass)
+                    .ok()?,
+            )
         }
     }
-}
-
-// The token in `out`, at the fork, needs one pass to its own group.
-fn needs_one<P: Run + Naming>(
-    setup: &Setup<'_, P>,
-    replay: &Replay<P>,
-    out: &StepOut<P>,
-) -> Option<()> {
-    let token = out.born.first()?;
-    let view = replay.book.view(setup.inputs, token.slot, token.serial)?;
-    so(matches!(view.what, Action::Fork) && view.needs.same == 1 && view.needs.idle == 0)
 }
 
 /// The tokens of `(1 | 2) >x> Add(x, 10)` move in the order in which they came. One pass to the program's group is lent for the fork, and an idle one
@@ -111,10 +106,13 @@ pub(crate) fn makes_moves<P: Run + Naming>(
     let mut births = Births::new(alloc);
     let mut out = StepOut::new(alloc);
     moves_once(setup, &mut replay, &mut births, &mut out)?;
-    needs_one(setup, &replay, &out)?;
-    let same = replay.passes.same(setup.groups, &out.born.first()?.pass)?;
+    // The token in `out`, at the fork, needs one pass to its own group.
+    let token = out.born.first()?;
+    let view = replay.book.view(setup.inputs, token.slot, token.serial)?;
+    so(matches!(view.what, Action::Fork) && view.needs.same == 1 && view.needs.idle == 0)?;
+    let same = replay.held.passes.same(setup.groups, &token.pass)?;
     births.same.push(same).ok()?;
-    let idle = replay.passes.idle(setup.groups)?;
+    let idle = replay.held.passes.idle(setup.groups)?;
     births.idle.push(idle).ok()?;
     so(move_in_line(setup, &mut replay, &mut births, &mut out)? == why)?;
     so(replay.book.entries() == entries)?;
@@ -132,7 +130,7 @@ pub(crate) fn goes_on_until_full<P: Run + Naming>(
 ) -> Option<()> {
     let mut births = Births::new(alloc);
     let mut out = StepOut::new(alloc);
-    let first = replay.take_token(1)?;
+    let first = replay.held.take(1)?;
     out.born.push(first).ok()?;
     for _move in 0..entries {
         move_one(setup, &mut replay, &mut births, &mut out).ok()?;
@@ -152,7 +150,7 @@ fn move_one<P: Run + Naming>(
     out: &mut StepOut<P>,
 ) -> Result<(), BookFault> {
     if births.idle.is_empty()
-        && let Some(idle) = replay.passes.idle(setup.groups)
+        && let Some(idle) = replay.held.passes.idle(setup.groups)
         && births.idle.push(idle).is_err()
     {
         return Err(BookFault::Memory);

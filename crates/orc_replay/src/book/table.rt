@@ -2,12 +2,13 @@
 //!
 //! The entries in a row's steps are those that Orc's rules allow of its program. A token gets the next mark, a call and a cell the next number, each
 //! from 1; of two tokens that come at once the left one has the lower mark. A line names the token that moves (a `return` the call), then a cell or
-//! call and the new marks. Of a row's steps `Does` has the book do such lines, and `Refuses` tries an answer that it has to refuse. The others are
-//! what has to be so then: the book keeps this token, which waits (`Keeps`), or has given it out (`IsOut`), this comes next (`Next`), time is this
-//! (`Now`), this is the first call that is due (`Due`), there are so many entries (`Entries`), the run has halted or not (`HasEnded`).
+//! call and the new marks. Of a row's steps `Does` has the book do such lines. `Step` says what the others do, or what has to be so then. Some take a
+//! token, or passes that are to be left, into the row's *hand*; a *pass* stands for one record in its group, and the group's *word* counts its
+//! passes.
 
-use crate::book::begin::{PASSES, WORDS};
+use crate::book::hand::{Call, Left};
 use crate::book::rows::{Row, Shows, Step};
+use crate::book::setup::{PASSES, WORDS};
 use orc_book::{BookFault, Next};
 use orc_rules::limits::MOST_ENTRIES;
 use orc_rules::value::{Answer, Value};
@@ -160,6 +161,120 @@ const IS_CANCELLED: [Step; 6] = [
     Step::HasEnded(true),
 ];
 
+// In `x <x< (Rwait(0) | 1)` token 1 opens cell 1, with token 2 in the left side and 3 in the right one. Token 3 forks to 4 and 5, and token 4 makes
+// call 1. Token 5, at the 1, binds while call 1 pends. Two passes are to be left, that of the token and that of the call: until then one killed group
+// uses a word. The bind cancels call 1, so the book refuses its answer as Gone. The second pass that is left is the group's last one. To close the
+// group adds no entry, and gives the pass to the group outside it that the book held for it. Token 2 has waited for cell 1, and now it can publish.
+// Once that pass is left, and that of token 2, the run has halted.
+const ENDS_AFTER_A_KILL: [Step; 18] = [
+    Step::Does("open 1 1 2 3\nfork 3 4 5\ncall 4 1 Rwait(0)\n"),
+    Step::Takes(5),
+    Step::Binds,
+    Step::Wrote("bind 5 1 1\ncancel 1\n"),
+    Step::ToLeave(2),
+    Step::Cancelled(&[1]),
+    Step::Dying(1),
+    Step::Refuses(1, SIGNAL, BookFault::Gone),
+    Step::Leaves(1, Left::Nothing),
+    Step::Leaves(0, Left::Killed),
+    Step::ToLeave(1),
+    Step::IsOfRun,
+    Step::Wakes(1),
+    Step::Takes(2),
+    Step::Publishes,
+    Step::Wrote("publish 2 1\n"),
+    Step::Leaves(0, Left::Nothing),
+    Step::Leaves(0, Left::Run),
+];
+
+// In `x <x< 1` token 3, at the 1, is to bind. The book refuses the bind as Gone if the group's mark *killed* was won before: it adds nothing, and the
+// token comes back.
+const GIVES_A_LOST_MARK_BACK: [Step; 4] = [
+    Step::Does("open 1 1 2 3\n"),
+    Step::Takes(3),
+    Step::Wins,
+    Step::Denies(Call::Bind, BookFault::Gone),
+];
+
+// With two words, one of which a killed group has: the book refuses a pruning as Full until that group's last pass was left and the book has closed
+// it. The first pruning of `(x <x< 1) >y> (z <z< 2)` takes word 1, the only one beside the program's own. Token 3 is in its left side. Token 4, at
+// the 1, binds its cell. Token 3 has waited for cell 1, and sends its value into the `>y>`. Token 5 is at the second pruning, for which no word is
+// free as long as the pass of token 4, which has bound, isn't left.
+const KEEPS_WORDS_OF_THE_KILLED: [Step; 13] = [
+    Step::Does("seq 1 2\nopen 2 1 3 4\n"),
+    Step::Takes(4),
+    Step::Binds,
+    Step::Wrote("bind 4 1 1\n"),
+    Step::Wakes(1),
+    Step::Does("send 3 5 1\n"),
+    Step::Takes(5),
+    Step::Denies(Call::Prune, BookFault::Full),
+    Step::Dying(1),
+    Step::ToLeave(1),
+    Step::Leaves(0, Left::Killed),
+    Step::Holds,
+    Step::Does("open 5 2 6 7\n"),
+];
+
+// In `x <x< (1 | 2)` token 4 binds while token 5 is out and in the hand, so the bind drops the record of token 5. The book refuses a bind of token 5
+// as Gone, and the token comes back with its pass. The killed group's word stays taken until that pass is left.
+const TELLS_KILLED_TOKENS: [Step; 8] = [
+    Step::Does("open 1 1 2 3\nfork 3 4 5\n"),
+    Step::Takes(5),
+    Step::Does("bind 4 1 1\n"),
+    Step::IsGone,
+    Step::Denies(Call::Bind, BookFault::Gone),
+    Step::Dying(1),
+    Step::Drops,
+    Step::Leaves(0, Left::Killed),
+];
+
+// In `(Add(x, 1) <x< stop) ; 7` the left side of the otherwise yields nothing: token 3, at `Add(x, 1)`, waits for cell 1, until token 4, at `stop`,
+// has ended and the cell is lost. Then token 3 can't get a value. The book doesn't close the program's own group while token 5, at the 7, is in it,
+// and does once that token has published.
+const IS_LIVE: [Step; 12] = [
+    Step::Does("other 1 2\nopen 2 1 3 4\n"),
+    Step::Keeps(3),
+    Step::Does("end 4\n"),
+    Step::Keeps(3),
+    Step::Does("lost 1\n"),
+    Step::IsOut(3),
+    Step::Does("void 3\nright 1 5\n"),
+    Step::Takes(5),
+    Step::LeavesEarly,
+    Step::Publishes,
+    Step::Wrote("publish 5 7\n"),
+    Step::Leaves(0, Left::Run),
+];
+
+// In `(1 | 2) >x> Add(x, 10)` token 1 is at the `>x>` and can only enter it: the book refuses each other call as Wrong, adds nothing, and gives the
+// token back. Then the token goes on.
+const REFUSES_OTHER_MOVES: [Step; 11] = [
+    Step::Takes(1),
+    Step::Denies(Call::End, BookFault::Wrong),
+    Step::Denies(Call::Publish, BookFault::Wrong),
+    Step::Denies(Call::Site, BookFault::Wrong),
+    Step::Denies(Call::Wait, BookFault::Wrong),
+    Step::Denies(Call::Bind, BookFault::Wrong),
+    Step::Denies(Call::Fork, BookFault::Wrong),
+    Step::Entries(0),
+    Step::ToLeave(0),
+    Step::Holds,
+    Step::Does("seq 1 2\n"),
+];
+
+// In `x <x< 1` a pass that no record has names word 1, which the book would take next for a group. The book refuses the pruning as Live then, and
+// does it once that pass was left. To close that word is refused as Gone, since the word stands for no group.
+const REFUSES_WORDS_THAT_ARE_NAMED: [Step; 7] = [
+    Step::NamesNext,
+    Step::Takes(1),
+    Step::Denies(Call::Prune, BookFault::Live),
+    Step::Entries(0),
+    Step::Leaves(0, Left::Stranger),
+    Step::Holds,
+    Step::Does("open 1 1 2 3\n"),
+];
+
 // A program that several rows have, a pipeline: each of two values goes through a call.
 const PIPE: &str = "(1 | 2) >x> Add(x, 10)";
 
@@ -180,7 +295,7 @@ pub(crate) fn rows() -> [Row; 21] {
             "a lost cell starts the right side of an otherwise, and the program's group isn't closed before it is empty",
             "(Add(x, 1) <x< stop) ; 7",
             "",
-            Shows::IsLive,
+            Shows::Steps(&IS_LIVE),
         ),
         row(
             "a call is answered once it is due, by the table's answer alone",
@@ -216,13 +331,13 @@ pub(crate) fn rows() -> [Row; 21] {
             "a killed group ends with the second of two passes, and the run with the second of two more",
             "x <x< (Rwait(0) | 1)",
             "",
-            Shows::EndsAfterAKill,
+            Shows::Steps(&ENDS_AFTER_A_KILL),
         ),
         row(
             "a bind whose mark was won before is refused and adds nothing",
             "x <x< 1",
             "",
-            Shows::GivesALostMarkBack,
+            Shows::Steps(&GIVES_A_LOST_MARK_BACK),
         ),
         // There are two words: word 1 is the only one for the two prunings. The row needs far fewer than 100 passes.
         with_words(
@@ -230,25 +345,25 @@ pub(crate) fn rows() -> [Row; 21] {
             "(x <x< 1) >y> (z <z< 2)",
             2,
             100,
-            Shows::KeepsWordsOfTheKilled,
+            Shows::Steps(&KEEPS_WORDS_OF_THE_KILLED),
         ),
         row(
             "a token that was out in a killed group is gone, and comes back with its pass",
             RACE,
             "",
-            Shows::TellsKilledTokens,
+            Shows::Steps(&TELLS_KILLED_TOKENS),
         ),
         row(
             "a pruning whose word a pass names is refused and adds nothing",
             "x <x< 1",
             "",
-            Shows::RefusesWordsThatAreNamed,
+            Shows::Steps(&REFUSES_WORDS_THAT_ARE_NAMED),
         ),
         row(
             "a token does nothing but what it does next",
             PIPE,
             "",
-            Shows::RefusesOtherMoves,
+            Shows::Steps(&REFUSES_OTHER_MOVES),
         ),
         // The four moves are `seq`, `fork` (which takes the lent pass, so 0 remain) and two `send`. The next token is at a call, which `step` doesn't
         // make, so it is refused as Wrong.

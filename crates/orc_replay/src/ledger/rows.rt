@@ -3,8 +3,9 @@
 ghost use Rattle.std.specs.Prelude.{◌≡◌, true};
 ghost use Rattle.orc_rules.specs.declared.limits.TheConstants.{MOST_ENTRIES};
 
-use crate::ledger::replay::{Mismatch, Replay, Stop};
+use crate::ledger::replay::Replay;
 use crate::ledger::replay_text;
+use crate::stop::{Mismatch, Stop};
 use orc_graph::Graph;
 use orc_journal_text::{read_entry, write_journal};
 use orc_ledger::{Action, Inputs, Ledger, LedgerFault, Next, ReturnFault, Run};
@@ -415,8 +416,8 @@ pub(crate) fn limits_refuse(alloc: Global) -> bool {
 }
 
 // Programs, journals that the rules allow, and where and why their replay fails: each has an entry before an `end`, a move of marks (an entry without
-// a rule), which the ledger makes first. In the first two a side is ended before its token has made its `end`, and in the last time goes on before
-// it.
+// a rule), without which the ledger refuses it. In the first two a side is ended before its token has made its `end`, and in the last time goes on
+// before it.
 const EARLY: [(&[u8], &[u8], Stop); 3] = [
     (
         // The `lost` at entry 2 comes before token 3, in the right side, has made its `end`: the side still has a member (Live).

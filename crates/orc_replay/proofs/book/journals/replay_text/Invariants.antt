@@ -1,7 +1,7 @@
 -- The program, the sites and the most entries name the run, whose journal is kept; and the words name their own table.
 use Rattle.std.proofs.Common.{true}
 use Rattle.orc_rules.specs.declared.limits.TheConstants.{MOST_ENTRIES}
-use Rattle.orc_replay.proofs.book.journals.replay_graph.Given as goal
+use Rattle.orc_replay.proofs.book.journals.replay_text.Given as goal
 
 abbrev pub ghosts-replay_named-P-Run : goal.ghosts-replay_named-P-Run
 ghosts-replay_named-P-Run a = record { listing = a.graph.now; sites = a.answers.now.sites; limit = MOST_ENTRIES; keeps = true }
