@@ -30,6 +30,7 @@ ghost use Rattle.orc_ledger.specs.Others.{KeepsOthers};
 
 use crate::inputs::Inputs;
 use crate::ledger::Ledger;
+use crate::requests::CallNumbers;
 use orc_calls::Counts;
 use orc_frames::Action;
 use orc_ledger_spec::{Called, Halted, LedgerFault};
@@ -49,26 +50,24 @@ fn answer_at_once(found: Found) -> Option<Answer>
     }
 }
 
-// Writes a call and its answer, and counts in `counts` a call of the site with these arguments, if a script answers the site. `token` is the mark of
-// the token that makes the call, `call` the call's number, `site` the site's, `answer` the entry of the return, which publishes nothing (`silent`).
-// Where memory is refused nothing changes.
+// Writes a call and its answer, and counts in `counts` a call of the site with these arguments, if a script answers the site. `answer` is the entry
+// of the return, which publishes nothing (`silent`). Where memory is refused nothing changes.
 #[inline(always)]
 fn write_answered<P: Run>(
     journal: &mut Log<P>,
     counts: &mut Counts,
     inputs: &Inputs<'_, P>,
-    token: u64,
-    call: u64,
-    site: u32,
+    numbers: CallNumbers,
     args: &Args,
     answer: &Entry,
 ) -> Result<(), LedgerFault>
     requires silent { IsSilent answer.now }
-    ensures added { OnOk result (journal.new ≡ log_with (log_with journal.old (Calls token call site args.now ∷ [])) (answer.now ∷ [])) }
-    ensures counted { OnOk result (CountsCall inputs.now.answers.now.sites site args.now counts.old counts.new) }
+    ensures added { OnOk result (journal.new ≡ log_with (log_with journal.old (Calls numbers.token numbers.call numbers.site args.now ∷ [])) (answer.now ∷ [])) }
+    ensures counted { OnOk result (CountsCall inputs.now.answers.now.sites numbers.site args.now counts.old counts.new) }
     ensures refused { OnErr result ((journal.new ≡ journal.old) × (counts.new ≡ counts.old)) }
     ensures why { IfErr result (λ fault. fault ≡ LedgerFault.Memory) }
 {
+    let CallNumbers { token, call, site } = numbers;
     // The journal's length before both entries, to which it is cut if the answer's entry or the counting is refused.
     let entries = journal.len();
     if journal
@@ -184,6 +183,11 @@ impl<P: Run> Ledger<P> {
             }
         };
         let number = call.number;
+        let numbers = CallNumbers {
+            token: token.serial,
+            call: number,
+            site,
+        };
         // The call never pends: all that the table of calls gets is its number, for which there has to be room.
         match self.calls.reserve_number() {
             Ok(()) => {}
@@ -201,9 +205,7 @@ impl<P: Run> Ledger<P> {
                     &mut self.journal,
                     &mut self.counts,
                     inputs,
-                    token.serial,
-                    number,
-                    site,
+                    numbers,
                     args,
                     &Entry::Return(number, mark, value),
                 )?;
@@ -228,9 +230,7 @@ impl<P: Run> Ledger<P> {
                     &mut self.journal,
                     &mut self.counts,
                     inputs,
-                    token.serial,
-                    number,
-                    site,
+                    numbers,
                     args,
                     &Entry::ReturnHalt(number),
                 )?;

@@ -18,8 +18,7 @@ ghost use Rattle.orc_rules.specs.declared.param.Param.TheVariants.{Name, Is};
 ghost use Rattle.orc_rules.specs.Term.{stop, param, site, call, par, seq, prune, other, values_of};
 ghost use Rattle.orc_rules.specs.declared.limits.TheConstants.{MOST_ARGUMENTS};
 ghost use Rattle.orc_rules.specs.declared.value.Value.{Value as ValueOf};
-ghost use Rattle.orc_rules.specs.Nodes.{code, param_of, unfold_node};
-ghost use Rattle.orc_graph.specs.Graph.{term_node};
+ghost use Rattle.orc_rules.specs.Nodes.{code, param_of};
 ghost use Rattle.orc_rules.specs.Journal.{IsVoid};
 ghost use Rattle.orc_env.specs.Scopes.{close, close_param, given, without};
 ghost use Rattle.orc_frames.specs.Spelling.{whole, feeding, aiding};
@@ -451,46 +450,6 @@ impl<P: Run> Ledger<P> {
         }
     }
 
-    // Moves a token by the node at which it is, which is `node`, in the scope with the number `scope`; each kind of node has its `move_..`. `added`
-    // is used by a call of a definition alone, `cancelled` by a bind, and `claim` (what another worker may have won first) where a bind is made or a
-    // side opened. Tokens in other slots stay there, but for those that a bind drops with the right side.
-    #[inline(always)]
-    pub(crate) fn move_at<C: Claim>(
-        &mut self,
-        inputs: &Inputs<'_, P>,
-        slot: usize,
-        token: Token,
-        scope: usize,
-        node: Node,
-        claim: &mut C,
-        added: &mut Vec<StoredScope>,
-        cancelled: &mut Vec<u64>,
-    ) -> Result<Moved, LedgerFault>
-        requires held { IsHeld self.old.slots slot token }
-        requires at { StandsAt P.listing token scope (unfold_node (code P.listing) P.listing.lists (term_node node)) }
-        ensures done { IfOk result (λ m. Moves P.listing self.old slot token m cancelled.new.items self.new) }
-        ensures asked { OnOk result (HasAsked P.listing self.old token (claim.new ≡ claim.old) (C.got claim.old claim.new)) }
-        ensures others { IfOk result (λ m. KeepsBy (code P.listing) self.old slot m self.new) }
-        ensures refused { OnErr result (self.new ≡ self.old) }
-        ensures why { IfErr result (λ fault. IsBarredAt P.listing self.old token (claim.new ≡ claim.old) (C.lost claim.old claim.new) fault) }
-    {
-        match node {
-            Node::Stop => self.move_end(slot, token),
-            Node::Name(name) => self.move_name(slot, token, scope, name, claim, cancelled),
-            Node::Is(value) => self.move_value(slot, token, value, claim, cancelled),
-            Node::Site(_, list) => self.move_site(inputs, slot, token, scope, list),
-            Node::Call(definition, list) => {
-                self.move_def(inputs, slot, token, scope, definition, list, added)
-            }
-            Node::Par(left, right) => self.move_fork(slot, token, scope, left, right),
-            Node::Seq(left, name, right) => self.move_feed(slot, token, scope, left, name, right),
-            Node::Prune(left, name, right) => {
-                self.move_prune(slot, token, scope, left, name, right, claim)
-            }
-            Node::Other(left, right) => self.move_other(slot, token, scope, left, right, claim),
-        }
-    }
-
     /// Moves this token, which is in this slot, by its action, what it does next (`what` gives it): the kind of entry follows from the token's node
     /// and from what takes its value. A call of a site is not made, and a token that waits stays as it is. If a cell is bound or a side opened, the
     /// claim (what another worker may have won first) is asked last. Any other move leaves the claim untouched, and so does a refusal before it is
@@ -515,10 +474,23 @@ impl<P: Run> Ledger<P> {
     {
         match token.standing {
             Standing::On(value) => self.move_value(slot, token, value, claim, cancelled),
-            Standing::At(node, scope) => {
-                let node = inputs.graph.node(node as usize);
-                self.move_at(inputs, slot, token, scope, node, claim, added, cancelled)
-            }
+            Standing::At(node, scope) => match inputs.graph.node(node as usize) {
+                Node::Stop => self.move_end(slot, token),
+                Node::Name(name) => self.move_name(slot, token, scope, name, claim, cancelled),
+                Node::Is(value) => self.move_value(slot, token, value, claim, cancelled),
+                Node::Site(_, list) => self.move_site(inputs, slot, token, scope, list),
+                Node::Call(definition, list) => {
+                    self.move_def(inputs, slot, token, scope, definition, list, added)
+                }
+                Node::Par(left, right) => self.move_fork(slot, token, scope, left, right),
+                Node::Seq(left, name, right) => {
+                    self.move_feed(slot, token, scope, left, name, right)
+                }
+                Node::Prune(left, name, right) => {
+                    self.move_prune(slot, token, scope, left, name, right, claim)
+                }
+                Node::Other(left, right) => self.move_other(slot, token, scope, left, right, claim),
+            },
         }
     }
 

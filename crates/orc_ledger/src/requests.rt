@@ -39,22 +39,33 @@ use orc_rules::entry::Entry;
 use orc_rules::value::Args;
 use orc_tables::{Call, Standing, Token};
 
+// The numbers in the entry of a call.
+#[derive(Clone, Copy)]
+pub(crate) struct CallNumbers {
+    // The mark of the token that makes the call.
+    pub(crate) token: u64,
+    // The call's own number, from 1.
+    pub(crate) call: u64,
+    // The number of the site.
+    pub(crate) site: u32,
+}
+
 // Writes the entry of a call. If a script answers the site, it counts the call too, since the script may answer the next one with these arguments
-// otherwise. `token` is the mark of the token that makes the call, `call` the call's number. Where memory is refused nothing changes.
+// otherwise. Where memory is refused nothing changes.
+#[inline(always)]
 fn write_call<P: Run>(
     journal: &mut Log<P>,
     counts: &mut Counts,
     inputs: &Inputs<'_, P>,
-    token: u64,
-    call: u64,
-    site: u32,
+    numbers: CallNumbers,
     args: &Args,
 ) -> Result<(), LedgerFault>
-    ensures added { OnOk result (journal.new ≡ log_with journal.old (Calls token call site args.now ∷ [])) }
-    ensures counted { OnOk result (CountsCall inputs.now.answers.now.sites site args.now counts.old counts.new) }
+    ensures added { OnOk result (journal.new ≡ log_with journal.old (Calls numbers.token numbers.call numbers.site args.now ∷ [])) }
+    ensures counted { OnOk result (CountsCall inputs.now.answers.now.sites numbers.site args.now counts.old counts.new) }
     ensures refused { OnErr result ((journal.new ≡ journal.old) × (counts.new ≡ counts.old)) }
     ensures why { IfErr result (λ fault. fault ≡ LedgerFault.Memory) }
 {
+    let CallNumbers { token, call, site } = numbers;
     // The journal's length before the call, to which it is cut if the counting is refused.
     let entries = journal.len();
     match journal.push_call(inputs.answers, token, call, site, args.as_slice()) {
@@ -141,15 +152,12 @@ impl<P: Run> Ledger<P> {
             Ok(()) => {}
             Err(_) => return Err(LedgerFault::Memory),
         }
-        write_call(
-            &mut self.journal,
-            &mut self.counts,
-            inputs,
-            token.serial,
-            call.number,
+        let numbers = CallNumbers {
+            token: token.serial,
+            call: call.number,
             site,
-            args,
-        )?;
+        };
+        write_call(&mut self.journal, &mut self.counts, inputs, numbers, args)?;
         self.entries += 1;
         // A group is what runs inside one right side of a `<x<`, one left side of a `;`, or the whole program. The call is a member of the token's
         // group in the token's place: no group changes its number of members.
