@@ -30,6 +30,7 @@ pub use claim::{Always, Claim};
 pub use inputs::Inputs;
 pub use laws::{calls_fit, offered, stands};
 pub use ledger::Ledger;
+pub use onward::Sequence;
 pub use orc_frames::{Action, Taker};
 pub use orc_ledger_spec::{
     Called, HaltFault, Halted, LedgerFault, Moved, Next, Passed, Request, ReturnFault,

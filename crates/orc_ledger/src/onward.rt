@@ -29,6 +29,17 @@ use orc_log::Run;
 use orc_rules::value::{Args, Value};
 use orc_tables::{Standing, Token};
 
+/// The parts of an `f >x> g`.
+#[derive(Clone, Copy)]
+pub struct Sequence {
+    /// The node of f.
+    pub left: u32,
+    /// The number of x.
+    pub name: u32,
+    /// The node of g.
+    pub right: u32,
+}
+
 impl<P: Run> Ledger<P> {
     // Sends the value on which the token in the slot `slot` stands to the `>x>` that takes the value, and answers true. False, and nothing changes,
     // where something else takes the value or the entry is refused: whoever moves the token next makes that move, or meets the refusal again and
@@ -114,28 +125,27 @@ impl<P: Run> Ledger<P> {
     }
 
     /// `f >x> g`: a token on the left side, in the same slot, as `feed` puts it there. If that token is at a call of a site with values, the call is
-    /// made, as `call_through` makes it; and if the call is answered at once the `>x>` takes the answer. `left` and `right` are the nodes of f and g,
-    /// `name` is the number of x, `scope` the number of the whole term's scope. The fault says why the first entry is refused, and then nothing
-    /// changes; what is refused after that entry is left undone, and is no fault. If the token gets through, or the call halts, the step into the
-    /// left side (its record in the table of steps) goes again. `args` is lent for the arguments. Tokens in other slots stay there.
+    /// made, as `call_through` makes it; and if the call is answered at once the `>x>` takes the answer. `scope` is the number of the whole term's
+    /// scope. The fault says why the first entry is refused, and then nothing changes; what is refused after that entry is left undone, and is no
+    /// fault. If the token gets through, or the call halts, the step into the left side (its record in the table of steps) goes again. `args` is lent
+    /// for the arguments. Tokens in other slots stay there.
     pub fn feed_through(
         &mut self,
         inputs: &Inputs<'_, P>,
         slot: usize,
         token: Token,
         scope: usize,
-        left: u32,
-        name: u32,
-        right: u32,
+        sequence: Sequence,
         args: &mut Args,
     ) -> Result<Passed, LedgerFault>
         requires held { IsHeld self.old.slots slot token }
-        requires at { StandsAt P.listing token scope (seq (code P.listing left) name (code P.listing right)) }
+        requires at { StandsAt P.listing token scope (seq (code P.listing sequence.left) sequence.name (code P.listing sequence.right)) }
         ensures done { (ks : List ℕ) → IfOk result (λ p. Passes P.listing P.sites self.old slot token p ks self.new) }
         ensures others { OnOk result (KeepsOthers self.old.slots slot self.new.slots) }
         ensures refused { OnErr result (self.new ≡ self.old) }
         ensures why { IfErr result (λ fault. IsHindered P.listing self.old token fault) }
     {
+        let Sequence { left, name, right } = sequence;
         // The mark that `feed` gives to the token on the left side.
         let mark = self.next_mark;
         self.feed(slot, token, scope, left, name, right)?;

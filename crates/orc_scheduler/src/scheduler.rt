@@ -28,8 +28,8 @@ use crate::wait_list::Waiting;
 use orc_env::StoredScope;
 use orc_graph::{Graph, Node};
 use orc_ledger::{
-    Action, Called, HaltFault, Halted, Inputs, Ledger, LedgerFault, Moved, Passed, Run, Standing,
-    Token, calls_fit,
+    Action, Called, HaltFault, Halted, Inputs, Ledger, LedgerFault, Moved, Passed, Run, Sequence,
+    Standing, Token, calls_fit,
 };
 use orc_rules::limits::MOST_GROUPS;
 use orc_rules::value::Args;
@@ -550,9 +550,10 @@ impl<P: Run> Scheduler<P> {
             Node::Seq(left, name, right) if self.goes_through => {
                 // `self.args` is lent for the arguments, in case that f is a call of a site.
                 let args = &mut self.args;
+                let sequence = Sequence { left, name, right };
                 match self
                     .ledger
-                    .feed_through(inputs, slot, token, scope, left, name, right, args)
+                    .feed_through(inputs, slot, token, scope, sequence, args)
                 {
                     Ok(passed) => match passed {
                         // The call in f halted at once. Its group ends if nothing is left in it.
