@@ -40,8 +40,7 @@ use orc_log::{Log, Run};
 use orc_rules::entry::Entry;
 use orc_rules::value::Value;
 use orc_tables::{
-    Group, Standing, Token, leave_calls, leave_groups, leave_tokens, list_side, side_group,
-    take_out,
+    Group, Standing, Token, leave_calls, leave_groups, leave_tokens, side_group, take_out,
 };
 
 // Writes what the cell with this number has become: a value, or void if its right side halted without one. If there is no such cell, nothing changes.
@@ -120,8 +119,7 @@ impl<P: Run> Ledger<P> {
         // Lists what is inside the right side: the numbers of the calls, which are to be cancelled, in `cancelled`, the rest in `self.crowd`. `known`
         // is false if only the calls were found: then each table is searched below. `side_group` guesses the side's group by the token; a wrong guess
         // costs only time.
-        let known = list_side(
-            &mut self.crowd,
+        let known = self.crowd.list_side(
             &self.tokens,
             &self.calls,
             &self.groups,

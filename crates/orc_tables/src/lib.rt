@@ -11,7 +11,7 @@ mod steps;
 mod tokens;
 
 pub use crowd::Crowd;
-pub use exits::{leave_calls, leave_groups, leave_tokens, list_side, side_group, take_out};
+pub use exits::{leave_calls, leave_groups, leave_tokens, side_group, take_out};
 pub use groups::Groups;
 pub use pending::Pending;
 pub use records::{Call, Frame, Group, Side, Standing, Step, Token};

@@ -44,7 +44,7 @@ invariant_of-self-2 g c =
     let s' : Records = record { limit = b.limit; journal = c.write_bind.new.journal.entries; entries = b.entries + 1; next_mark = b.next_mark; now = b.time; made = c.leave_calls.new.calls.made; tokens = live c.wake.new.self.items; slots = c.wake.new.self.items; calls = c.leave_calls.new.calls.items; scopes = b.scopes.items; steps = b.steps.items; groups = c.leave_groups.new.groups.items; cells = c.settle.new.cells.items } in
     let groups : (w : Group → ℕ) → weight w s'.groups ≡ weight (but (λ (h : Group). side_inside a.cell s.steps h.outer h.side) w) s.groups = λ w. c.leave_groups.ensures.rest w ∙ ap (weight (but (λ (h : Group). side_inside a.cell s.steps h.outer h.side) w)) (c.leave_calls.ensures.groups ∙ c.leave_tokens.ensures.groups) in
     let D : Drops cd a.cell (Is a.value) s s' = drops l g.P.Run.sites s c.self.invariant.kept.lawful a.cell (Is a.value) s' refl refl refl refl c.leave_calls.ensures.made (λ w. ap (λ z. weight w (live z)) c.wake.ensures.items ∙ c.leave_tokens.ensures.rest w) c.leave_calls.ensures.rest groups refl refl c.settle.ensures in
-    let A : AreCancelled cd a.cell s ks = side-cancelled l g.P.Run.sites s c.self.invariant.kept.lawful c.self.invariant.kept.grouped a.cell c.list_side.new.crowd.groups.items c.list_side.new.crowd.slots.items ks c.in_ok-known.known c.in_ok-known.ensures.known c.in_ok-known.ensures.listed in
+    let A : AreCancelled cd a.cell s ks = side-cancelled l g.P.Run.sites s c.self.invariant.kept.lawful c.self.invariant.kept.grouped a.cell c.list_side.new.self.groups.items c.list_side.new.self.slots.items ks c.in_ok-known.known c.in_ok-known.ensures.known c.in_ok-known.ensures.listed in
     let journal : s'.journal ≡ s.journal ++ Bind a.token.serial a.cell a.value ∷ map Cancel ks = ap (λ j. j.entries) c.in_ok-write_bind.ensures.added in
     let held : IsHeld s.slots a.slot a.token = rw (← c.self.view_is) at c.requires.held in
     let form : standing cd (its_env cd s) a.token.standing ≡ param (is_.Is a.value) = rw (← c.self.view_is) at c.requires.form in
@@ -112,7 +112,7 @@ returns-clause-cancelled g c =
     let cd = code l in
     let s : Records = record { limit = b.limit; journal = b.journal.entries; entries = b.entries; next_mark = b.next_mark; now = b.time; made = b.calls.made; tokens = live b.tokens.items; slots = b.tokens.items; calls = b.calls.items; scopes = b.scopes.items; steps = b.steps.items; groups = b.groups.items; cells = b.cells.items } in
     let ks : List ℕ = c.list_side.new.numbers.items in
-    let A : AreCancelled cd a.cell s ks = side-cancelled l g.P.Run.sites s c.self.invariant.kept.lawful c.self.invariant.kept.grouped a.cell c.list_side.new.crowd.groups.items c.list_side.new.crowd.slots.items ks c.in_ok-known.known c.in_ok-known.ensures.known c.in_ok-known.ensures.listed in
+    let A : AreCancelled cd a.cell s ks = side-cancelled l g.P.Run.sites s c.self.invariant.kept.lawful c.self.invariant.kept.grouped a.cell c.list_side.new.self.groups.items c.list_side.new.self.slots.items ks c.in_ok-known.known c.in_ok-known.ensures.known c.in_ok-known.ensures.listed in
     rw (← c.self.view_is) A
 
 pub list_side-requires : goal.list_side-requires
@@ -123,14 +123,14 @@ leave_tokens-requires g c =
     let b = c.self.inside in
     let l = g.P.Run.listing in
     let s : Records = record { limit = b.limit; journal = b.journal.entries; entries = b.entries; next_mark = b.next_mark; now = b.time; made = b.calls.made; tokens = live b.tokens.items; slots = b.tokens.items; calls = b.calls.items; scopes = b.scopes.items; steps = b.steps.items; groups = b.groups.items; cells = b.cells.items } in
-    record { listed = λ yes_. let k = c.in_ok-known.ensures.known yes_ in slots-listed l g.P.Run.sites s c.self.invariant.kept.lawful c.self.invariant.kept.grouped c.args.cell c.list_side.new.crowd.groups.items c.list_side.new.crowd.slots.items c.list_side.new.numbers.items k.1 refl }
+    record { listed = λ yes_. let k = c.in_ok-known.ensures.known yes_ in slots-listed l g.P.Run.sites s c.self.invariant.kept.lawful c.self.invariant.kept.grouped c.args.cell c.list_side.new.self.groups.items c.list_side.new.self.slots.items c.list_side.new.numbers.items k.1 refl }
 
 pub leave_calls-requires : goal.leave_calls-requires
 leave_calls-requires g c =
     let b = c.self.inside in
     let l = g.P.Run.listing in
     let s : Records = record { limit = b.limit; journal = b.journal.entries; entries = b.entries; next_mark = b.next_mark; now = b.time; made = b.calls.made; tokens = live b.tokens.items; slots = b.tokens.items; calls = b.calls.items; scopes = b.scopes.items; steps = b.steps.items; groups = b.groups.items; cells = b.cells.items } in
-    record { listed = λ yes_. let k = c.in_ok-known.ensures.known yes_ in numbers-listed l g.P.Run.sites s c.self.invariant.kept.lawful c.self.invariant.kept.grouped c.args.cell c.list_side.new.crowd.groups.items c.list_side.new.crowd.slots.items c.list_side.new.numbers.items k.1 }
+    record { listed = λ yes_. let k = c.in_ok-known.ensures.known yes_ in numbers-listed l g.P.Run.sites s c.self.invariant.kept.lawful c.self.invariant.kept.grouped c.args.cell c.list_side.new.self.groups.items c.list_side.new.self.slots.items c.list_side.new.numbers.items k.1 }
 
 pub leave_groups-requires : goal.leave_groups-requires
 leave_groups-requires g c =
@@ -141,7 +141,7 @@ leave_groups-requires g c =
     record {
       listed = λ yes_ h i.
           let k = c.in_ok-known.ensures.known yes_ in
-          groups-listed l g.P.Run.sites s c.self.invariant.kept.lawful c.self.invariant.kept.grouped c.args.cell c.list_side.new.crowd.groups.items c.list_side.new.crowd.slots.items c.list_side.new.numbers.items k.1 h (subst (λ z. IsIn h z) same i);
+          groups-listed l g.P.Run.sites s c.self.invariant.kept.lawful c.self.invariant.kept.grouped c.args.cell c.list_side.new.self.groups.items c.list_side.new.self.slots.items c.list_side.new.numbers.items k.1 h (subst (λ z. IsIn h z) same i);
       once = λ i. omega (arith, ap (weight (λ (h : Group). is_this i h.number)) same, c.self.invariant.kept.grouped.once i);
     }
 
