@@ -489,11 +489,15 @@ impl<'a> Reader<'a> {
     {
         let parameters = mem::replace(&mut self.parameters, Vec::new(self.alloc));
         let nodes = mem::replace(&mut self.nodes, Vec::new(self.alloc));
+        let room = nodes.len();
         self.definitions.push(Definition {
             name,
             parameters,
             body: Expr { nodes },
         })?;
+        // Bodies are often alike, so the next one gets room for as many nodes at once. The room that is left over in all bodies together is for no
+        // more nodes than they have.
+        self.nodes.reserve(room)?;
         Ok(())
     }
 
