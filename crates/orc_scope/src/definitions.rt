@@ -137,8 +137,8 @@ fn parameter_names<'a>(names: &mut Names<'a>, parameters: &[Name<'a>]) -> Result
 }
 
 // The name that a node binds: the variable of `>x>`, `<x<` or `val x`. None for any other node.
-fn bound_name(part: Part<'_>) -> Option<&[u8]>
-    ensures { bound (bind_of result) [] ≡ sort_names (sort part.entry) }
+fn bound_name<'a>(part: &Part<'a>) -> Option<&'a [u8]>
+    ensures { bound (bind_of result) [] ≡ sort_names (sort part.now) }
 {
     match part {
         Part::Operation(Operator::Seq(Some(name)) | Operator::Prune(Some(name)))
@@ -152,7 +152,7 @@ fn bound_names<'a>(names: &mut Names<'a>, nodes: &[Node<'a>]) -> Result<(), Allo
     ensures { (t : Tree) → IsExpr nodes.now t → OnOk result (names.new ≡ names.old ++ names_bound t) }
 {
     for node in nodes {
-        if let Some(text) = bound_name(node.part) {
+        if let Some(text) = bound_name(&node.part) {
             names.push(text)?;
         }
     }

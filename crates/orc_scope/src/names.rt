@@ -150,6 +150,8 @@ impl<'a> Names<'a> {
     }
 
     /// Keeps the first `len` names, and removes the others. If there are no more, all stay.
+    // Inlined, since mostly no name goes.
+    #[inline(always)]
     pub fn truncate(&mut self, len: usize)
         ensures { self.new ≡ take len self.old }
     {

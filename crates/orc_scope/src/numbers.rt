@@ -65,6 +65,7 @@ impl<'a, 's> Numbers<'a, 's> {
 
     /// The number of a variable of this name; where no variable has it, the first number behind those of all variables, which is that of a new one.
     /// The cast loses nothing, here and below: all numbers fit 32 bits.
+    #[inline(always)]
     #[tactic(auto, using(crate::proofs::Places::position_within))]
     pub fn variable(&self, text: &[u8]) -> u32
         ensures { result ≡ number self.now.names text.now }

@@ -84,6 +84,7 @@ impl Writing {
 
     // Takes the last two parts from the stack, and gives the numbers of their nodes, the left one first. The nodes so far stay (`Keeps`). None where
     // there are fewer, which the nodes of a tree rule out. The clauses say of both cases which parts are left (`IfSides`, `OnNoSides`).
+    #[inline(always)]
     fn pop_sides(&mut self) -> Result<Option<(usize, usize)>, AllocError>
         requires { IsReady self.old }
         ensures some { IfOk result (IfSides (λ i j. parts self.old ≡ term_at (terms self.new.nodes) j ∷ term_at (terms self.new.nodes) i ∷ parts self.new)) }
