@@ -35,6 +35,7 @@ pub fn write_flag(flags: &mut Vec<bool>, i: usize, flag: bool)
 }
 
 /// Whether a node with parts has halted, by the flags of its parts.
+#[inline(always)]
 fn inner_halts(flags: &Vec<bool>, kind: Kind) -> bool
     ensures { result ≡ inner_flag flags.now.items kind }
 {
@@ -60,6 +61,7 @@ pub fn both(left: bool, right: bool) -> bool
 
 /// The node above the one at `place`, which has just halted, if its flag isn't set yet and it has halted by the flags of its parts. None otherwise:
 /// then nothing above halts by this.
+#[inline(always)]
 fn halts_next(nodes: &Nodes, flags: &Vec<bool>, place: u32) -> Option<u32>
     ensures next { IfSome result (λ p. HaltsNext nodes.now.items flags.now.items place p) }
     ensures last { IfNone result (EndsAt nodes.now.items flags.now.items place) }
@@ -94,6 +96,7 @@ pub fn push_flag(flags: &mut Vec<bool>, candidates: &mut Candidates, place: u32,
 
 /// Sets the flag of the node with the number `place`, which has halted. If the node is a side (the right side of an opened pruning or the left side
 /// of an entered otherwise), it becomes a candidate: the search for halted sides looks at it.
+#[inline(always)]
 fn set_flag(nodes: &Nodes, flags: &mut Vec<bool>, candidates: &mut Candidates, place: u32)
     ensures items { flags.new.items ≡ slice_set flags.old.items place true }
     ensures capacity { vec_capacity flags.new ≡ vec_capacity flags.old }

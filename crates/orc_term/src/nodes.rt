@@ -11,7 +11,7 @@ ghost use Rattle.orc_term.specs.Rising.{nowhere};
 use crate::arena::{Double, Kind, Node, Single, Tip};
 use crate::ranks::Ranks;
 use crate::restless::{Restless, ToAsk};
-use crate::room::{fits, push_within};
+use crate::room::{fits, push_within, reserve_two};
 use crate::slot::Slot;
 use std::alloc::{AllocError, Global};
 use std::marker::Model;
@@ -75,6 +75,7 @@ fn set_item(items: &mut Vec<Slot>, i: usize, node: Node)
 
 // Whether what a node's part publishes goes through the node and leaves it as it is. A node that is gone has no parts; the answer true for it keeps
 // the hints right that lead past a node when it becomes gone.
+#[inline(always)]
 fn lets_through(kind: Kind, part: u32) -> bool
     ensures { result ≡ lets kind part }
 {
@@ -92,6 +93,7 @@ fn lets_through(kind: Kind, part: u32) -> bool
 
 // The hint of node `i`: the node itself, or one above it up to which nothing takes or is changed by what the node publishes. `i` where there is no
 // such node.
+#[inline(always)]
 fn hint_at(hints: &Vec<u32>, i: usize) -> usize
     ensures { result ≡ slice_index_or hints.now.items i i }
 {
@@ -102,6 +104,7 @@ fn hint_at(hints: &Vec<u32>, i: usize) -> usize
 }
 
 // The hint of node `i` in the 32 bits in which it is stored; `i` itself where there is no such node.
+#[inline(always)]
 fn stored_hint(hints: &Vec<u32>, i: u32) -> u32
     ensures { result ≡ slice_index_or hints.now.items i i }
 {
@@ -112,6 +115,7 @@ fn stored_hint(hints: &Vec<u32>, i: u32) -> u32
 }
 
 // Writes the hint of node `i`: the number of that node itself or of one above it. Where there is no such node nothing changes.
+#[inline(always)]
 fn set_hint(hints: &mut Vec<u32>, i: u32, hint: u32)
     ensures items { hints.new.items ≡ slice_set hints.old.items i hint }
     ensures len { vec_len hints.new ≡ vec_len hints.old }
@@ -235,6 +239,7 @@ impl Nodes {
     }
 
     /// A node's hint: the node itself, or one above it up to which nothing takes a publication of the node or is changed by it.
+    #[inline(always)]
     pub fn hint(&self, i: usize) -> usize
         ensures { IsAbove self.now.items i result }
     {
@@ -307,6 +312,7 @@ impl Nodes {
     }
 
     /// Reserves memory for two more nodes, whose numbers have 32 bits. The error is refused memory, or that 32 bits are too few. The nodes stay.
+    #[inline(always)]
     pub fn reserve(&mut self) -> Result<(), AllocError>
         ensures items { self.new.items ≡ self.old.items }
         ensures asked { self.new.asked ≡ self.old.asked }
@@ -314,12 +320,13 @@ impl Nodes {
     {
         // The numbers of both new nodes have to fit 32 bits.
         fits(self.items.len() + 2)?;
-        self.items.try_reserve(2)?;
-        self.hints.try_reserve(2)?;
+        reserve_two(&mut self.items)?;
+        reserve_two(&mut self.hints)?;
         Ok(())
     }
 
     /// Reserves memory for one node that gets a token by `wake`. The error is refused memory. The nodes stay.
+    #[inline(always)]
     pub fn reserve_wake(&mut self) -> Result<(), AllocError>
         ensures items { self.new.items ≡ self.old.items }
         ensures asked { self.new.asked ≡ self.old.asked }

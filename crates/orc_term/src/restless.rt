@@ -91,6 +91,7 @@ fn reserve_listed(items: &Vec<Slot>, list: &mut Vec<u32>) -> Result<(), AllocErr
 }
 
 // Adds to `list` the number of node `place`, if the node has a token. The error is refused memory.
+#[inline(always)]
 fn push_restless(items: &Vec<Slot>, list: &mut Vec<u32>, place: u32) -> Result<(), AllocError>
     ensures kept { (i : ℕ) → IsListed i list.old.items → IsListed i list.new.items }
     ensures added { IfOk result (λ _. restless (kind_at items.now.items place) ≡ true → IsListed place list.new.items) }
@@ -156,6 +157,7 @@ impl Restless {
     }
 
     /// Makes room for one node that gets a token. The error is refused memory.
+    #[inline(always)]
     pub fn reserve(&mut self, items: &Vec<Slot>) -> Result<(), AllocError>
         ensures noted { AreNoted items.now.items self.old → AreNoted items.now.items self.new }
         ensures asked { asked_kinds self.new ≡ asked_kinds self.old }

@@ -20,6 +20,7 @@ pub enum Taker {
 }
 
 /// What a node is after a publication has gone through it: an otherwise loses its right side, and any other node stays.
+#[inline(always)]
 pub fn passed(node: Node) -> Node
     ensures { result ≡ pass_node node }
 {
@@ -33,6 +34,7 @@ pub fn passed(node: Node) -> Node
 }
 
 /// The node at `parent`, of kind `above`, as the taker of what the node at `place` below it publishes. None if it lets the publication through.
+#[inline(always)]
 pub(crate) fn taker_here(above: Kind, place: usize, parent: u32) -> Option<Taker>
     ensures { result ≡ up above place parent }
 {
