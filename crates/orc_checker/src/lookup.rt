@@ -12,6 +12,7 @@ use orc_term::nodes::Nodes;
 
 /// `places` has for each mark, or for each cell's pruning, the node on which it was put. Gives that node for the mark or cell `number`, with the
 /// node's place in the marked term. None if `places` has no such number.
+#[inline(always)]
 pub(crate) fn node_by(nodes: &Nodes, places: &Vec<u32>, number: u64) -> Option<(u32, Node)>
     ensures { result ≡ node_by nodes.now.items (slice_get places.now.items number) }
 {
@@ -27,6 +28,7 @@ pub(crate) fn node_by(nodes: &Nodes, places: &Vec<u32>, number: u64) -> Option<(
 
 /// The tip of a node of this kind, if the token with mark `s` is on that node: the token stands on a node of the program, or on a value. None where
 /// the token isn't there, since the node has become another one.
+#[inline(always)]
 pub(crate) fn tip_with(kind: Kind, s: u64) -> Option<Tip>
     ensures { result ≡ tip_with kind s }
 {
@@ -40,6 +42,7 @@ pub(crate) fn tip_with(kind: Kind, s: u64) -> Option<Tip>
 }
 
 /// Whether a node of this kind still waits for call `k`: the call that was put there may have returned since.
+#[inline(always)]
 pub(crate) fn waits_with(kind: Kind, k: u64) -> bool
     ensures { result ≡ waits_with kind k }
 {

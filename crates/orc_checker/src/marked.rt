@@ -124,6 +124,7 @@ pub(crate) struct Holder {
 }
 
 /// A new node of the marked term below that of `spot`: token `mark`, which stands on node `node` of the program, in the scope of `spot`.
+#[inline(always)]
 pub(crate) fn token_node(mark: u64, node: u32, spot: Spot) -> Node
     ensures { result ≡ record { kind = AtLeaf (IsToken mark node spot.scope); parent = spot.at } }
 {
@@ -134,6 +135,7 @@ pub(crate) fn token_node(mark: u64, node: u32, spot: Spot) -> Node
 }
 
 /// Tests the second new mark of an entry, `b`: it has to be the one after the first, `a`. The error is Number: `b` is another number.
+#[inline(always)]
 pub(crate) fn expect_after(a: u64, b: u64) -> Result<(), RuleFault>
     ensures next { IfOk result (λ _. b ≡ suc a) }
     ensures refused { IfErr result (λ r. (r ≡ reason.Number) × (b ≡ suc a → ⊥)) }
@@ -276,6 +278,7 @@ impl Marked {
 
     /// Where the token with mark `s` stands: on a node of the program, or on a value that a call gave. None if there is no such token: no node was
     /// given this mark, or its node has become another one.
+    #[inline(always)]
     fn token(&self, s: u64) -> Option<Holder>
         ensures there { IfSome result (λ t. at self.now.nodes t.parent t.at (AtLeaf t.tip)) }
         ensures carries { IfSome result (λ t. Carries s t.tip) }
@@ -293,6 +296,7 @@ impl Marked {
 
     /// Where the token with mark `s` stands: on a node of the program, or on a value that a call gave. The errors: Cancel where a cancel is due, so
     /// that the next entry has to be a `cancel`; Mark where there is no such token. `Lacks` says that the error is one of these, with its cause.
+    #[inline(always)]
     pub(crate) fn holder(&self, s: u64) -> Result<Holder, RuleFault>
         ensures free { IfOk result (λ _. self.now.rest.to_cancel ≡ []) }
         ensures there { IfOk result (λ t. at self.now.nodes t.parent t.at (AtLeaf t.tip)) }
@@ -308,6 +312,7 @@ impl Marked {
 
     /// Where the token with mark `s` stands, if it is on a node of the program. The errors: Cancel where a cancel is due, Mark where there is no such
     /// token, Form where it stands on a value that a call gave.
+    #[inline(always)]
     pub(crate) fn spot(&self, s: u64) -> Result<Spot, RuleFault>
         ensures free { IfOk result (λ _. self.now.rest.to_cancel ≡ []) }
         ensures there { IfOk result (λ t. at self.now.nodes t.parent t.at (AtLeaf (IsToken s t.node t.scope))) }
@@ -368,6 +373,7 @@ impl Marked {
     }
 
     /// Tests that `a`, the mark of a new token, is the next mark. The error is Number: `a` is another number.
+    #[inline(always)]
     pub(crate) fn expect_mark(&self, a: u64) -> Result<(), RuleFault>
         ensures next { IfOk result (λ _. a ≡ length self.now.marks) }
         ensures refused { IfErr result (λ r. (r ≡ reason.Number) × (a ≡ length self.now.marks → ⊥)) }

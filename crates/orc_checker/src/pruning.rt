@@ -31,7 +31,7 @@ use orc_rules::program::{Program, TermNode};
 use orc_rules::value::Value;
 use orc_term::arena::{Double, Kind, Node, Single};
 use orc_term::flags::{both, flag_at, push_flag, settle};
-use orc_term::room::{fits, push_within, reserve_numbered};
+use orc_term::room::{fits, push_within, reserve_numbered, reserve_one};
 use orc_term::side::{drop_nodes, falling_calls, nodes_of};
 use orc_term::walk::{Taker, way_up};
 use std::alloc::AllocError;
@@ -58,7 +58,7 @@ pub(crate) fn reserve_scope(scopes: &mut Vec<StoredScope>) -> Result<(), AllocEr
 {
     // Scope 0 has no record, so the new scope's number is one more than there are records.
     fits(scopes.len() + 1)?;
-    scopes.try_reserve(1)
+    reserve_one(scopes)
 }
 
 /// Reserves memory for one more scope and one more cell with its pruning. The error is refused memory, or a scope's number of over 32 bits.
@@ -74,8 +74,8 @@ fn reserve_cell(
     ensures number { IfOk result (λ _. vec_len scopes.new + 1 < 2 ^ 32) }
 {
     reserve_scope(scopes)?;
-    cells.try_reserve(1)?;
-    prunings.try_reserve(1)?;
+    reserve_one(cells)?;
+    reserve_one(prunings)?;
     Ok(())
 }
 

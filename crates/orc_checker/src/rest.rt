@@ -14,7 +14,7 @@ use orc_calls::{Counts, check_due};
 use orc_rules::answers::Answers;
 use orc_rules::entry::RuleFault;
 use orc_rules::value::{Answer, Args, Found};
-use orc_term::room::push_within;
+use orc_term::room::{push_within, reserve_one};
 use std::alloc::{AllocError, Global};
 use std::marker::Model;
 
@@ -116,7 +116,7 @@ impl Rest {
         ensures why { IfErr result (λ r. r ≡ reason.Memory) }
     {
         // The room comes first, so that no call is counted that can't be added.
-        self.calls.try_reserve(1).map_err(|_| RuleFault::Memory)?;
+        reserve_one(&mut self.calls).map_err(|_| RuleFault::Memory)?;
         count(&mut self.counts, answers, site, args)?;
         push_within(&mut self.calls, Kept::new(called));
         Ok(())

@@ -165,6 +165,7 @@ fn can_term_move(
 
 /// Whether the token on a node of this kind of the marked term can move; false where no token is on it. Of `halts` only the scratch flags `queued`
 /// change.
+#[inline(always)]
 fn can_token_move(
     program: &Program,
     halts: &mut Halts,

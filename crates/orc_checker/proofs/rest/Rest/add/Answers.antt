@@ -10,6 +10,6 @@ returns-clause-added c =
     let counts = c.count.new.counts in
     let more : List Called → Rest = λ cs. record { calls = cs; counts = counts; time = old.time; to_cancel = reverse old.to_cancel.items; cancels = old.cancels } in
     record {
-      same = ap more (c.push_within.ensures.items ∙ (λ j. c.try_reserve.ensures.items j ++ c.new.ensures j ∷ [])) ∙ ap (λ (z : Rest). record z { calls = z.calls ++ c.args.called ∷ []; counts = counts }) c.self.view_is;
+      same = ap more (c.push_within.ensures.items ∙ (λ j. c.reserve_one.ensures.items j ++ c.new.ensures j ∷ [])) ∙ ap (λ (z : Rest). record z { calls = z.calls ++ c.args.called ∷ []; counts = counts }) c.self.view_is;
       counted = subst (λ (z : Rest). CountsCall c.args.answers.now.sites c.args.site c.args.args.now z.counts counts) c.self.view_is c.in_ok-count.ensures.added;
     }
