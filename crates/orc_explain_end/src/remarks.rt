@@ -1,5 +1,5 @@
 //! What looks like a mistake in a run that has halted, though the language allows it: no publication, calls that halted, values that were lost, lines
-//! of the script that no call has, and definitions with the name of a built-in site.
+//! of the script that were chosen for no call, and definitions with the name of a built-in site.
 //!
 //! Each function here with a `page` writes what its comment names at the end of that page. `note` begins a line there, which the function ends;
 //! `rest` writes a last line `and N more`. Calls count from 1, in the order in which they were made; lines of the script count from 1 in its text,
@@ -258,7 +258,7 @@ impl Remarks {
         }
     }
 
-    // How many lines of the script no call has. A call that was cancelled has its line, too.
+    // How many lines of the script were chosen for no call. One whose call was cancelled was chosen, too.
     fn unused(&self) -> u64 {
         let mut count: u64 = 0;
         for used in &self.used {

@@ -10,8 +10,8 @@ pub(crate) enum Mismatch {
     Gone,
     /// By the ledger: the token does something else next than the entry says, or waits.
     Word,
-    /// The side that the entry ends still has a token, a call, a group or a pass. By the rules it may have halted even so: all that is left to be
-    /// written there are ends of tokens, or of sides within it. Ledger and book refuse to end the side before these. By the book also: a pass still
+    /// The side that the entry ends still has a token, a call, a group or a pass. By the rules it may have halted even so, if all that is left to be
+    /// written there are ends of tokens, or of sides within it: ledger and book refuse to end the side before these. By the book also: a pass still
     /// names the word that the entry's new group would take.
     Live,
     /// The call has another answer, or is due at another time. By the book also: the token does something else next.

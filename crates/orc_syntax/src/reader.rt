@@ -495,8 +495,8 @@ impl<'a> Reader<'a> {
             parameters,
             body: Expr { nodes },
         })?;
-        // Bodies are often alike, so the next one gets room for as many nodes at once. The room that is left over in all bodies together is for no
-        // more nodes than they have.
+        // Bodies are often alike, so the next one gets room for as many nodes at once. What the bodies don't use of this room is, taken together, for
+        // no more nodes than they have.
         self.nodes.reserve(room)?;
         Ok(())
     }

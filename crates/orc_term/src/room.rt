@@ -15,8 +15,8 @@ pub fn push_within<T: Drop>(items: &mut Vec<T>, item: T)
     items.push_reserved(item);
 }
 
-/// Reserves memory for one more item. Mostly there is room for it, which is asked in place, since that takes less than a call. The error is refused
-/// memory. The items stay.
+/// Reserves memory for one more item. Mostly there is room for it, which is asked in place, since that takes less than a call. (`orc_indexes` has a
+/// `reserve` as well; this crate doesn't stand on it.) The error is refused memory. The items stay.
 #[inline(always)]
 pub fn reserve_one<T: Drop>(items: &mut Vec<T>) -> Result<(), AllocError>
     ensures items { items.new.items ≡ items.old.items }

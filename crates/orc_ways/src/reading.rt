@@ -96,8 +96,8 @@ fn unknown(others: &Answers, lines: &[ServiceLine<'_>], sites: &[SiteName<'_>]) 
 /// behind the lines of each way.
 ///
 /// The error is `Long` for over `LONGEST_SOURCE` bytes; else `Line` or `Place` of the first line that is none of a test, names one site too many or
-/// isn't allowed there; else `Unknown` of the line of the first site that neither a service nor the others have; or `Memory` at any of these steps. It
-/// is never `Ways`.
+/// isn't allowed there; else `Unknown` of the line of the first site that neither a service nor the others have; or `Memory` at any of these steps.
+/// It is never `Ways`.
 pub fn read_test<'a>(alloc: Global, text: &'a [u8], others: &Answers) -> Result<Test<'a>, TestFault>
     ensures read { IfOk result (λ t. Says text.now others.now (test_of t)) }
     ensures fault { IfErr result (IsFault text.now others.now) }

@@ -129,7 +129,7 @@ fn denies<P: Run + Naming>(
     Some(())
 }
 
-// Leaves the pass at this place in the hand, and `left` comes of it. No entry does.
+// Leaves the pass at this place in the hand, from 0. `left` comes of it, and the book writes no entry.
 fn leaves<P: Run + Naming>(
     setup: &Setup<'_, P>,
     replay: &mut Replay<P>,
@@ -228,9 +228,10 @@ pub(crate) fn acts<P: Run + Naming>(
                 slot,
                 mut pass,
             } = hand.token.take()?;
-            // `mark` asks for a pass that names a group: an idle one ends the row here. Which group it names doesn't matter.
-            pass.group()?;
+            // `mark` asks for a pass that names a group: an idle one ends the row here. The pass names the same group then.
+            let group = pass.group()?;
             so(setup.groups.mark(&mut pass, Bit::Killed))?;
+            so(pass.group() == Some(group))?;
             hand.token = Some(Token { serial, slot, pass });
             Some(())
         }

@@ -175,7 +175,7 @@ impl<P: Naming> Held<P> {
         Some(slot)
     }
 
-    /// How many slots tokens have come into, at most: each of these slots is below this number.
+    /// One more than the greatest slot into which a token has come; 0 if there is none.
     pub(crate) fn slots_used(&self) -> usize {
         self.out.len()
     }

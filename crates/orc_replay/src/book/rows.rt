@@ -31,7 +31,7 @@ use std::marker::Brand;
 pub(crate) enum Step {
     /// The book does these entries, a line each, and writes exactly these.
     Does(&'static str),
-    /// The book has written these entries, a line each, in the steps before.
+    /// The book has written these entries, a line each, in the steps before: the whole journal is compared in the end.
     Wrote(&'static str),
     /// The book keeps the token with this mark, which waits.
     Keeps(u64),
@@ -60,7 +60,8 @@ pub(crate) enum Step {
     Holds,
     /// The token in the hand has no record any more.
     IsGone,
-    /// The book refuses this call for the token in the hand, for this reason. The token comes back with its pass, and nothing more is to be left.
+    /// The book refuses this call for the token in the hand, for this reason. The token comes back with a pass to its group, and nothing more is to be
+    /// left.
     Denies(Call, BookFault),
     /// The token in the hand binds. The passes that are to be left then come into the hand, and no token that waits for the cell comes out.
     Binds,
@@ -81,7 +82,7 @@ pub(crate) enum Step {
     ToLeave(usize),
     /// The first pass in the hand names the program's own group.
     IsOfRun,
-    /// The pass at this place in the hand is left, and this comes of it.
+    /// The pass at this place in the hand, from 0, is left, and this comes of it.
     Leaves(usize, Left),
 }
 

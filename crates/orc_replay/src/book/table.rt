@@ -3,8 +3,8 @@
 //! The entries in a row's steps are those that Orc's rules allow of its program. A token gets the next mark, a call and a cell the next number, each
 //! from 1; of two tokens that come at once the left one has the lower mark. A line names the token that moves (a `return` the call), then a cell or
 //! call and the new marks. Of a row's steps `Does` has the book do such lines. `Step` says what the others do, or what has to be so then. Some take a
-//! token, or passes that are to be left, into the row's *hand*; a *pass* stands for one record in its group, and the group's *word* counts its
-//! passes.
+//! token, or passes that are to be left, into the row's *hand*. A *group* is what runs in one right side of a `<x<`, one left side of a `;`, or the
+//! whole program; a *pass* stands for one record in its group, and the group's *word* counts its passes.
 
 use crate::book::hand::{Call, Left};
 use crate::book::rows::{Row, Shows, Step};
@@ -166,7 +166,7 @@ const IS_CANCELLED: [Step; 6] = [
 // uses a word. The bind cancels call 1, so the book refuses its answer as Gone. The second pass that is left is the group's last one. To close the
 // group adds no entry, and gives the pass to the group outside it that the book held for it. Token 2 has waited for cell 1, and now it can publish.
 // Once that pass is left, and that of token 2, the run has halted.
-const ENDS_AFTER_A_KILL: [Step; 18] = [
+const ENDS_AFTER_A_KILL: [Step; 19] = [
     Step::Does("open 1 1 2 3\nfork 3 4 5\ncall 4 1 Rwait(0)\n"),
     Step::Takes(5),
     Step::Binds,
@@ -185,6 +185,7 @@ const ENDS_AFTER_A_KILL: [Step; 18] = [
     Step::Wrote("publish 2 1\n"),
     Step::Leaves(0, Left::Nothing),
     Step::Leaves(0, Left::Run),
+    Step::ToLeave(0),
 ];
 
 // In `x <x< 1` token 3, at the 1, is to bind. The book refuses the bind as Gone if the group's mark *killed* was won before: it adds nothing, and the
@@ -247,9 +248,9 @@ const IS_LIVE: [Step; 12] = [
     Step::Leaves(0, Left::Run),
 ];
 
-// In `(1 | 2) >x> Add(x, 10)` token 1 is at the `>x>` and can only enter it: the book refuses each other call as Wrong, adds nothing, and gives the
+// In `(1 | 2) >x> Add(x, 10)` token 1 is at the `>x>` and can only enter it: the book refuses these other calls as Wrong, adds nothing, and gives the
 // token back. Then the token goes on.
-const REFUSES_OTHER_MOVES: [Step; 11] = [
+const REFUSES_OTHER_MOVES: [Step; 12] = [
     Step::Takes(1),
     Step::Denies(Call::End, BookFault::Wrong),
     Step::Denies(Call::Publish, BookFault::Wrong),
@@ -257,6 +258,7 @@ const REFUSES_OTHER_MOVES: [Step; 11] = [
     Step::Denies(Call::Wait, BookFault::Wrong),
     Step::Denies(Call::Bind, BookFault::Wrong),
     Step::Denies(Call::Fork, BookFault::Wrong),
+    Step::Denies(Call::Prune, BookFault::Wrong),
     Step::Entries(0),
     Step::ToLeave(0),
     Step::Holds,
