@@ -14,7 +14,7 @@ pub record Named : Type 0 where
 
 -- the same from the code's names
 abbrev pub named_of : Names → Named
-named_of n = record { source = n.source.now; test = n.test.now; script = option_map (λ p. p.now) n.script }
+named_of n = record { source = n.program.file.now; test = n.test.now; script = option_map (λ p. p.now) n.program.script }
 
 -- the option that names the script, as a shell takes it
 abbrev pub script_text : Option (List ℕ) → List ℕ

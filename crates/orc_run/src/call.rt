@@ -3,7 +3,7 @@
 ghost use Rattle.std.specs.Prelude.{◌≡◌, ◌++◌, IfOk, OnOk, option_map};
 ghost use Rattle.orc_run.specs.Called.{option_text, options_text, script_text};
 
-use orc_cli::{DEFAULT_STATES, DEFAULT_TRIALS, DEFAULT_WAYS, TestOptions};
+use orc_cli::{DEFAULT_STATES, DEFAULT_TRIALS, DEFAULT_WAYS, ProgramPaths, TestOptions};
 use orc_rules::limits::DEFAULT_ENTRIES;
 use orc_tally::write_word;
 use std::alloc::{AllocError, Global};
@@ -11,12 +11,10 @@ use std::alloc::{AllocError, Global};
 /// The names that a command line has for the files of a test, which the table's title and commands repeat.
 #[derive(Clone, Copy)]
 pub struct Names<'n> {
-    /// The program's file.
-    pub source: &'n str,
+    /// The program's file, and that of the script beside the test.
+    pub program: ProgramPaths<'n>,
     /// The test's file.
     pub test: &'n str,
-    /// The file of the script beside the test. None where the command line has none.
-    pub script: Option<&'n str>,
 }
 
 // Writes the option that names the script, as a shell takes it; nothing if the command line names no script. The error is refused memory.

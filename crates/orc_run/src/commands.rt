@@ -34,7 +34,7 @@ use crate::picture::{Undrawn, draw_run, draw_text};
 use crate::printer::print_text;
 use crate::runner::run_source;
 use crate::shown::{Unshown, show_text};
-use crate::test_command::{TestTexts, Untested, test_text};
+use crate::test_command::{TestInputs, TestTexts, Untested, test_text};
 use clap::error::ErrorKind;
 use orc_cli::{
     ArgumentTexts, Asked, DrawRunOptions, Job, ProgramPaths, RunOptions, SearchOptions,
@@ -526,39 +526,38 @@ fn print_file<'a, F: Files, W: Write>(
     }
 }
 
-// `orc test`: judges the claims of a test on runs of a file's program. The status says whether all hold. `claims` is the test's text, and `names` are
-// for the commands that the table shows. The failure is a file that can't be read, a fault, or that what is to be shown isn't there (`NoFailure`,
-// `NoJournal`). `explained` gets a fault, with the names and texts of the files.
+// `orc test`: judges the claims of a test on runs of a file's program. The status says whether all hold. The failure is a file that can't be read, a
+// fault, or that what is to be shown isn't there (`NoFailure`, `NoJournal`). `explained` gets a fault, with the names and texts of the files.
 #[tactic(auto, using(crate::proofs::Statuses::unread, crate::proofs::Causing::unread_test, crate::proofs::Statuses::cut_or_kept, crate::proofs::Sound::unread_sound))]
 fn test_file<'a, R: Threads + Sync, F: Files, W: Write>(
     rt: &R,
     alloc: Global,
-    program: ProgramPaths<'a>,
-    test: &'a str,
+    names: Names<'a>,
     options: &TestOptions,
     files: &mut F,
     out: &mut W,
     explained: &mut Explained,
 ) -> Result<u8, Failure<'a>>
-    ensures done { IfOk result (HasTested (F.holds files.old) program.entry.file.now test.now (option_map (λ p. p.now) program.entry.script) options.now (is_asked explained.old) (W.contents out.old) (W.contents out.new)) }
+    ensures done { IfOk result (HasTested (F.holds files.old) names.entry.program.file.now names.entry.test.now (option_map (λ p. p.now) names.entry.program.script) options.now (is_asked explained.old) (W.contents out.old) (W.contents out.new)) }
     ensures undone { IfErr result (λ f. LeavesUndone f (W.contents out.old) (W.contents out.new)) }
-    ensures cause { IfErr result (IsTestUndone (F.holds files.old) program.entry.file.now test.now (option_map (λ p. p.now) program.entry.script) options.now) }
+    ensures cause { IfErr result (IsTestUndone (F.holds files.old) names.entry.program.file.now names.entry.test.now (option_map (λ p. p.now) names.entry.program.script) options.now) }
     ensures sound { IfErr result (λ f. IsInRange options.now.workers options.now.limit → failure_status f ≢ 7) }
 {
+    let Names { program, test } = names;
     let source = read(program.file, files)?;
     let claims = read(test, files)?;
     let script_text = read_script_text(alloc, program.script, files)?;
-    let names = Names {
-        source: program.file,
-        test,
-        script: program.script,
-    };
     let texts = TestTexts {
         source: source.as_slice(),
         test: claims.as_slice(),
         script: script_text.as_slice(),
     };
-    match test_text(rt, alloc, &names, &texts, options, out, explained) {
+    let inputs = TestInputs {
+        names: &names,
+        texts: &texts,
+        options,
+    };
+    match test_text(rt, alloc, &inputs, out, explained) {
         // `failing` is how many claims fail.
         Ok(failing) => Ok(claims_status(failing)),
         // `Explained::test` shows the fault in the test's text, which a `Subject` doesn't have.
@@ -634,7 +633,10 @@ fn do_job<'a, R: Threads + Wait + Sync, F: Files, W: Write>(
             program,
             test,
             options,
-        } => test_file(rt, alloc, program, test, &options, files, out, explained),
+        } => {
+            let names = Names { program, test };
+            test_file(rt, alloc, names, &options, files, out, explained)
+        }
     }
 }
 

@@ -98,7 +98,7 @@ impl<R: Threads + Sync> Tester<'_, '_, R> {
             self.rt,
             self.alloc,
             self.trials,
-            self.workers,
+            self.options.workers as usize,
             claims,
             scripts,
         )?;
@@ -204,7 +204,7 @@ impl<R: Threads + Sync> Tester<'_, '_, R> {
             test,
             cases: &[],
             reports: &[],
-            most: self.states,
+            most: self.options.states,
         };
         let Ok(found) = searcher.see(script, claim) else {
             return Err(NO_MEMORY);

@@ -66,4 +66,4 @@ pub use picture::{Undrawn, draw_run, draw_text};
 pub use printer::print_text;
 pub use runner::run_text;
 pub use shown::{Unshown, show_text};
-pub use test_command::{TestTexts, Untested, test_text};
+pub use test_command::{TestInputs, TestTexts, Untested, test_text};

@@ -78,6 +78,14 @@ pub struct TestTexts<'t> {
     pub script: &'t [u8],
 }
 
+/// What a test is made of: the names of its files, which the table shows, their texts, and the options.
+#[derive(Clone, Copy)]
+pub struct TestInputs<'t> {
+    pub names: &'t Names<'t>,
+    pub texts: &'t TestTexts<'t>,
+    pub options: &'t TestOptions,
+}
+
 /// Memory for what is to be written was refused: status 6, as if the output had failed.
 pub(crate) const NO_TEXT: Untested = Untested::Fault(RunFault::Write(WriteFault));
 
@@ -95,10 +103,8 @@ pub(crate) struct Tester<'s, 'a, R> {
     names: &'s Names<'s>,
     /// The program, the claims, and the orders and the limit of each run.
     pub(crate) trials: &'s Trials<'s, 'a>,
-    /// How many threads make the runs of the trials.
-    pub(crate) workers: usize,
-    /// How many states one search through all schedules looks at, at most; 0 for no search.
-    pub(crate) states: u64,
+    /// How many threads make the runs of the trials, how many states a search looks at, and what is to be written.
+    pub(crate) options: &'s TestOptions,
     /// Whether failures are explained: the numbers of ranges that fail, and a picture of the run that shows it.
     pub(crate) explains: bool,
 }
@@ -127,7 +133,7 @@ impl<R: Threads + Sync> Tester<'_, '_, R> {
     // out of range or memory was refused, but the engine itself is never to blame (`sound`).
     fn try_case(&self, scripts: &CaseScripts) -> Result<CaseReport, Untested>
         ensures tried { IfOk result (IsTried self.now.trials.now scripts.now) }
-        ensures cause { IfErr result (AreUntried self.now.trials.now.source.now self.now.workers self.now.trials.now.limit (texts scripts.now.scripts.items)) }
+        ensures cause { IfErr result (AreUntried self.now.trials.now.source.now self.now.options.now.workers self.now.trials.now.limit (texts scripts.now.scripts.items)) }
         ensures sound { IfErr result (λ f. IsOwnFault f → ⊥) }
     {
         let Ok(mut told) = CaseTold::new(self.alloc, self.trials.claims) else {
@@ -137,7 +143,7 @@ impl<R: Threads + Sync> Tester<'_, '_, R> {
             self.rt,
             self.alloc,
             self.trials,
-            self.workers,
+            self.options.workers as usize,
             scripts.scripts.as_slice(),
             &mut told,
         ) {
@@ -162,7 +168,7 @@ impl<R: Threads + Sync> Tester<'_, '_, R> {
     #[tactic(auto, using(crate::proofs::Testing::one_tried, crate::proofs::Untold::memory_untried, crate::proofs::Untold::untried_case))]
     fn try_cases(&self, cases: &[CaseScripts]) -> Result<Vec<CaseReport>, Untested>
         ensures tried { IfOk result (λ reports. AllZip (IsTried self.now.trials.now) cases.now reports.items) }
-        ensures cause { IfErr result (AreUntried self.now.trials.now.source.now self.now.workers self.now.trials.now.limit (all_texts cases.now)) }
+        ensures cause { IfErr result (AreUntried self.now.trials.now.source.now self.now.options.now.workers self.now.trials.now.limit (all_texts cases.now)) }
         ensures sound { IfErr result (λ f. IsOwnFault f → ⊥) }
     {
         let mut reports = Vec::new(self.alloc);
@@ -200,7 +206,7 @@ impl<R: Threads + Sync> Tester<'_, '_, R> {
             test,
             cases,
             reports,
-            most: self.states,
+            most: self.options.states,
         };
         match searcher.search() {
             Ok(searched) => Ok(searched),
@@ -258,10 +264,9 @@ impl<R: Threads + Sync> Tester<'_, '_, R> {
         ways: &[Ways],
         report: &Report<'_, '_>,
         rows: &[Row],
-        options: &TestOptions,
         out: &mut W,
     ) -> Result<(), Untested>
-        ensures ok { OnOk result ((details : List (List ℕ)) × AreDetails self.now.trials.now self.now.explains ways.now cases.now 1 rows.now details × Appends (W.contents out.old) (W.contents out.new) (table_of (named_of self.now.names.now) options.now report.now details)) }
+        ensures ok { OnOk result ((details : List (List ℕ)) × AreDetails self.now.trials.now self.now.explains ways.now cases.now 1 rows.now details × Appends (W.contents out.old) (W.contents out.new) (table_of (named_of self.now.names.now) self.now.options.now report.now details)) }
         ensures err { IfErr result (LeavesUntested (W.contents out.old) (W.contents out.new)) }
         ensures cause { IfErr result (AreUnshown self.now.trials.now.source.now self.now.trials.now.limit (all_texts cases.now)) }
         ensures sound { IfErr result (λ f. IsOwnFault f → ⊥) }
@@ -270,12 +275,12 @@ impl<R: Threads + Sync> Tester<'_, '_, R> {
         let details = self.all_details(report.test, cases, ways, rows)?;
         let names = self.names;
         // The options on which failures depend, which the commands repeat.
-        let Ok(known) = options_text(self.alloc, names.script, options) else {
+        let Ok(known) = options_text(self.alloc, names.program.script, self.options) else {
             return Err(NO_TEXT);
         };
         // `Call` (of `orc_tally`) says how the commands that the text shows name the files and the options. It is no call of a site.
         let call = Call {
-            source: names.source,
+            source: names.program.file,
             test: names.test,
             options: known.as_slice(),
         };
@@ -327,7 +332,14 @@ impl<R: Threads + Sync> Tester<'_, '_, R> {
         ensures sound { IfErr result (λ f. IsOwnFault f → ⊥) }
     {
         // `write_witness` answers whether it found such a run, and then has written its journal.
-        if write_witness(self.alloc, self.trials, self.states, script, claim, out)? {
+        if write_witness(
+            self.alloc,
+            self.trials,
+            self.options.states,
+            script,
+            claim,
+            out,
+        )? {
             Ok(())
         } else {
             Err(Untested::NoJournal(number))
@@ -368,10 +380,10 @@ impl<R: Threads + Sync> Tester<'_, '_, R> {
         }
     }
 
-    // Writes what `options` want of a test whose ways were tried: the table, or the script or the journal of one failure. `cases` has the scripts of
-    // each case's tried ways, `ways` all ways of each case, and `rows` are those of `report`. The fault is that there is no failure with the number
-    // that `options` have, or no run of it is found; that of a run that is made again; refused memory; or one of the output. Nothing was written
-    // then, but at one of the output a prefix.
+    // Writes what the options want of a test whose ways were tried: the table, or the script or the journal of one failure. `cases` has the scripts
+    // of each case's tried ways, `ways` all ways of each case, and `rows` are those of `report`. The fault is that there is no failure with the
+    // number that the options have, or no run of it is found; that of a run that is made again; refused memory; or one of the output. Nothing was
+    // written then, but at one of the output a prefix.
     #[tactic(auto, using(crate::proofs::Untold::unshown_unwritten))]
     fn write_shown<W: Write>(
         &self,
@@ -379,138 +391,123 @@ impl<R: Threads + Sync> Tester<'_, '_, R> {
         ways: &[Ways],
         report: &Report<'_, '_>,
         rows: &[Row],
-        options: &TestOptions,
         out: &mut W,
     ) -> Result<(), Untested>
         requires rows { rows.now ≡ rows_of report.now }
-        ensures ok { OnOk result (Writes self.now.trials.now self.now.explains ways.now (named_of self.now.names.now) options.now cases.now report.now options.now.shown (W.contents out.old) (W.contents out.new)) }
+        ensures ok { OnOk result (Writes self.now.trials.now self.now.explains ways.now (named_of self.now.names.now) self.now.options.now cases.now report.now self.now.options.now.shown (W.contents out.old) (W.contents out.new)) }
         ensures err { IfErr result (LeavesUntested (W.contents out.old) (W.contents out.new)) }
-        ensures cause { IfErr result (AreUnwritten self.now.trials.now.source.now self.now.trials.now.limit (all_texts cases.now) options.now.shown rows.now) }
+        ensures cause { IfErr result (AreUnwritten self.now.trials.now.source.now self.now.trials.now.limit (all_texts cases.now) self.now.options.now.shown rows.now) }
         ensures sound { IfErr result (λ f. IsOwnFault f → ⊥) }
     {
-        match options.shown {
-            Shown::Table => self.write_table(cases, ways, report, rows, options, out),
+        match self.options.shown {
+            Shown::Table => self.write_table(cases, ways, report, rows, out),
             Shown::Script(number) => self.write_script(cases, rows, number, out),
             Shown::Journal(number) => self.write_journal(cases, rows, number, out),
         }
     }
 
-    // Writes what `options` want of a test whose ways were tried, the table or what shows one failure, and answers how many claims fail. `cases` has
-    // the scripts of each case's tried ways, and `ways` all ways of each case. The fault is that there is no failure with the number that `options`
-    // have, or no run of it is found; that of a run that is made again; refused memory; or one of the output. Nothing was written then, but at one of
-    // the output a prefix.
+    // Writes what the options want of a test whose ways were tried, the table or what shows one failure, and answers how many claims fail. `cases`
+    // has the scripts of each case's tried ways, and `ways` all ways of each case. The fault is that there is no failure with the number that the
+    // options have, or no run of it is found; that of a run that is made again; refused memory; or one of the output. Nothing was written then, but
+    // at one of the output a prefix.
     #[tactic(auto, using(crate::proofs::Testing::unwritten))]
     fn write_test<W: Write>(
         &self,
         cases: &[CaseScripts],
         ways: &[Ways],
         report: &Report<'_, '_>,
-        options: &TestOptions,
         out: &mut W,
     ) -> Result<usize, Untested>
-        ensures ok { IfOk result (λ n. Writes self.now.trials.now self.now.explains ways.now (named_of self.now.names.now) options.now cases.now report.now options.now.shown (W.contents out.old) (W.contents out.new)) }
+        ensures ok { IfOk result (λ n. Writes self.now.trials.now self.now.explains ways.now (named_of self.now.names.now) self.now.options.now cases.now report.now self.now.options.now.shown (W.contents out.old) (W.contents out.new)) }
         ensures number { IfOk result (λ n. n ≡ failing (rows_of report.now)) }
         ensures err { IfErr result (LeavesUntested (W.contents out.old) (W.contents out.new)) }
-        ensures cause { IfErr result (AreUnwritten self.now.trials.now.source.now self.now.trials.now.limit (all_texts cases.now) options.now.shown (rows_of report.now)) }
+        ensures cause { IfErr result (AreUnwritten self.now.trials.now.source.now self.now.trials.now.limit (all_texts cases.now) self.now.options.now.shown (rows_of report.now)) }
         ensures sound { IfErr result (λ f. IsOwnFault f → ⊥) }
     {
         let Ok(all) = report.rows(self.alloc) else {
             return Err(NO_TEXT);
         };
         let rows = all.as_slice();
-        self.write_shown(cases, ways, report, rows, options, out)?;
+        self.write_shown(cases, ways, report, rows, out)?;
         // The number of rows of a claim that fails.
         Ok(failing(rows))
     }
-}
 
-// The text on what looks like a mistake in a test: services that no run asked, and calls that no line answers. It is empty if nothing does. `script`
-// is the script beside the test, `cases` has the scripts of each case's tried ways, and `workers` threads make their runs again. The error is refused
-// memory.
-fn remarks<'t, 'a, R: Threads + Sync>(
-    rt: &R,
-    alloc: Global,
-    trials: &'t Trials<'t, 'a>,
-    test: &'t Test<'a>,
-    cases: &'t [CaseScripts],
-    script: &[u8],
-    workers: usize,
-) -> Result<String, AllocError> {
-    let services = services_never_asked(rt, alloc, trials, test, cases, workers)?;
-    let calls = calls_never_answered(alloc, trials, test, cases, script)?;
-    let mut page = Page::new(alloc);
-    page.say(services.as_str());
-    page.say(calls.as_str());
-    page.finish()
-}
-
-// Explains what looks like a mistake, where the table is wanted and explanations are asked for; else it does nothing. It makes the test's runs again.
-// `script` is the script beside the test, and `cases` has the scripts of each case's tried ways.
-fn tell_remarks<'t, 'a, R: Threads + Sync>(
-    rt: &R,
-    alloc: Global,
-    trials: &'t Trials<'t, 'a>,
-    test: &'t Test<'a>,
-    cases: &'t [CaseScripts],
-    script: &[u8],
-    options: &TestOptions,
-    explained: &mut Explained,
-) {
-    match options.shown {
-        Shown::Table if explained.is_asked() => {
-            let workers = options.workers as usize;
-            explained.remarks(remarks(rt, alloc, trials, test, cases, script, workers));
-        }
-        // A script or a journal is wanted, or no explanation is asked for.
-        _ => {}
+    // The text on what looks like a mistake in a test: services that no run asked, and calls that no line answers. It is empty if nothing does.
+    // `script` is the script beside the test, and `cases` has the scripts of each case's tried ways, whose runs are made again. The error is refused
+    // memory.
+    fn remarks(
+        &self,
+        test: &Test<'_>,
+        cases: &[CaseScripts],
+        script: &[u8],
+    ) -> Result<String, AllocError> {
+        let workers = self.options.workers as usize;
+        let services = services_never_asked(
+            self.rt,
+            self.alloc,
+            self.trials,
+            test,
+            cases,
+            workers,
+        )?;
+        let calls = calls_never_answered(self.alloc, self.trials, test, cases, script)?;
+        let mut page = Page::new(self.alloc);
+        page.say(services.as_str());
+        page.say(calls.as_str());
+        page.finish()
     }
-}
 
-// Tries the ways of a test's cases (choices of what their services answer), searches all schedules, and writes what is wanted of the test: how many
-// claims fail. `cases` has the scripts of the ways that are tried, `ways` all ways of each case, and `explains` says whether failures are explained.
-// `trials` and `options` have the same limit of entries. The fault is that of a run, refused memory, one of the output, or that what is to be shown
-// isn't there; the engine itself is never to blame (`sound`).
-#[tactic(auto, using(crate::proofs::Testing::unwritten, crate::proofs::Untold::untried_untold, crate::proofs::Untold::memory_untold))]
-fn try_and_write<'t, 'a, R: Threads + Sync, W: Write>(
-    rt: &'t R,
-    alloc: Global,
-    names: &'t Names<'t>,
-    trials: &'t Trials<'t, 'a>,
-    test: &'t Test<'a>,
-    cases: &'t [CaseScripts],
-    ways: &[Ways],
-    options: &TestOptions,
-    explains: bool,
-    out: &mut W,
-) -> Result<usize, Untested>
-    requires limit { trials.now.limit ≡ options.now.limit }
-    ensures tested { IfOk result (λ n. (r : Report) × (r.test.now ≡ test.now) × AllZip (IsTried trials.now) cases.now r.cases.now × (r.orders ≡ options.now.orders) × AreSaid trials.now r.test.now.claim_lines.items cases.now r.cases.now r.searched.now × Writes trials.now explains ways.now (named_of names.now) options.now cases.now r options.now.shown (W.contents out.old) (W.contents out.new) × (n ≡ failing (rows_of r))) }
-    ensures fault { IfErr result (LeavesUntested (W.contents out.old) (W.contents out.new)) }
-    ensures cause { IfErr result (AreUntold trials.now test.now options.now cases.now) }
-    ensures sound { IfErr result (λ f. IsOwnFault f → ⊥) }
-{
-    let tester = Tester {
-        rt,
-        alloc,
-        names,
-        trials,
-        workers: options.workers as usize,
-        states: options.states,
-        explains,
-    };
-    // What the trials came to in each case, and what the search found of each claim.
-    let reports = tester.try_cases(cases)?;
-    let tried = reports.as_slice();
-    let searched = tester.search_all(test, cases, tried)?;
-    let found = searched.as_slice();
-    let report = Report {
-        test,
-        cases: tried,
-        orders: options.orders,
-        searched: found,
-    };
-    let number = tester.write_test(cases, ways, &report, options, out)?;
-    Ok(number)
+    // Explains what looks like a mistake, where the table is wanted and explanations are asked for; else it does nothing. It makes the test's runs
+    // again. `script` is the script beside the test, and `cases` has the scripts of each case's tried ways.
+    fn tell_remarks(
+        &self,
+        test: &Test<'_>,
+        cases: &[CaseScripts],
+        script: &[u8],
+        explained: &mut Explained,
+    ) {
+        match self.options.shown {
+            Shown::Table if explained.is_asked() => {
+                explained.remarks(self.remarks(test, cases, script));
+            }
+            // A script or a journal is wanted, or no explanation is asked for.
+            _ => {}
+        }
+    }
+
+    // Tries the ways of a test's cases (choices of what their services answer), searches all schedules, and writes what is wanted of the test: how
+    // many claims fail. `cases` has the scripts of the ways that are tried, and `ways` all ways of each case. The trials and the options have the
+    // same limit of entries. The fault is that of a run, refused memory, one of the output, or that what is to be shown isn't there; the engine
+    // itself is never to blame (`sound`).
+    #[tactic(auto, using(crate::proofs::Testing::unwritten, crate::proofs::Untold::untried_untold, crate::proofs::Untold::memory_untold))]
+    fn try_and_write<W: Write>(
+        &self,
+        test: &Test<'_>,
+        cases: &[CaseScripts],
+        ways: &[Ways],
+        out: &mut W,
+    ) -> Result<usize, Untested>
+        requires limit { self.now.trials.now.limit ≡ self.now.options.now.limit }
+        ensures tested { IfOk result (λ n. (r : Report) × (r.test.now ≡ test.now) × AllZip (IsTried self.now.trials.now) cases.now r.cases.now × (r.orders ≡ self.now.options.now.orders) × AreSaid self.now.trials.now r.test.now.claim_lines.items cases.now r.cases.now r.searched.now × Writes self.now.trials.now self.now.explains ways.now (named_of self.now.names.now) self.now.options.now cases.now r self.now.options.now.shown (W.contents out.old) (W.contents out.new) × (n ≡ failing (rows_of r))) }
+        ensures fault { IfErr result (LeavesUntested (W.contents out.old) (W.contents out.new)) }
+        ensures cause { IfErr result (AreUntold self.now.trials.now test.now self.now.options.now cases.now) }
+        ensures sound { IfErr result (λ f. IsOwnFault f → ⊥) }
+    {
+        // What the trials came to in each case, and what the search found of each claim.
+        let reports = self.try_cases(cases)?;
+        let tried = reports.as_slice();
+        let searched = self.search_all(test, cases, tried)?;
+        let found = searched.as_slice();
+        let report = Report {
+            test,
+            cases: tried,
+            orders: self.options.orders,
+            searched: found,
+        };
+        let number = self.write_test(cases, ways, &report, out)?;
+        Ok(number)
+    }
 }
 
 // Adds the claim that a run ends by itself, halted (the first `true`) or quiet (the second), at whatever time (None). It has no line in the test, so
@@ -526,34 +523,32 @@ fn add_end(alloc: Global, test: &mut Test<'_>) -> Result<(), AllocError>
     Ok(())
 }
 
-// Judges the claims of a test that was read, to which `add_end` has added the one that runs end, in these ways of its cases: how many fail. `script`
-// is the script beside the test. The remarks on what looks like a mistake come last, once the table has been written. The fault is that of a run,
-// refused memory, one of the output, or that what is to be shown isn't there. The clauses *tested* and *cause* hold of each text that says this test
-// beside that script.
+// Judges the claims of a test that was read, to which `add_end` has added the one that runs end, in these ways of its cases: how many fail. The
+// remarks on what looks like a mistake come last, once the table has been written. The fault is that of a run, refused memory, one of the output, or
+// that what is to be shown isn't there. The clauses *tested* and *cause* hold of each text that says this test beside the script of `inputs`.
 #[tactic(auto, using(crate::proofs::Testing::unwritten))]
 fn hold<'t, 'a, R: Threads + Sync, W: Write>(
-    rt: &R,
+    rt: &'t R,
     alloc: Global,
-    names: &'t Names<'t>,
-    source: &'t [u8],
+    inputs: &'t TestInputs<'t>,
     test: &'t Test<'a>,
     ways: &[Ways],
-    script: &[u8],
-    options: &TestOptions,
     out: &mut W,
     explained: &mut Explained,
 ) -> Result<usize, Untested>
-    ensures tested { IfOk result (λ n. (text : List ℕ) (others : Table) (read : ATest) → Says script.now others → SaysTest text others (test_of read) → IsJudged read test.now → AreWays (test_of read) 0 ways.now → (length ways.now ≡ length read.cases.items) → HasFailing source.now text script.now (named_of names.now) options.now (is_asked explained.old) (W.contents out.old) (W.contents out.new) n) }
+    ensures tested { IfOk result (λ n. (text : List ℕ) (others : Table) (read : ATest) → Says inputs.now.texts.now.script.now others → SaysTest text others (test_of read) → IsJudged read test.now → AreWays (test_of read) 0 ways.now → (length ways.now ≡ length read.cases.items) → HasFailing inputs.now.texts.now.source.now text inputs.now.texts.now.script.now (named_of inputs.now.names.now) inputs.now.options.now (is_asked explained.old) (W.contents out.old) (W.contents out.new) n) }
     ensures fault { IfErr result (LeavesUntested (W.contents out.old) (W.contents out.new)) }
-    ensures cause { (text : List ℕ) (others : Table) (s : Source) (read : ATest) → SpellsTree source.now s → Says script.now others → SaysTest text others (test_of read) → IsJudged read test.now → AreWays (test_of read) 0 ways.now → (length ways.now ≡ length read.cases.items) → IfErr result (IsUntestedFor source.now text script.now options.now) }
+    ensures cause { (text : List ℕ) (others : Table) (s : Source) (read : ATest) → SpellsTree inputs.now.texts.now.source.now s → Says inputs.now.texts.now.script.now others → SaysTest text others (test_of read) → IsJudged read test.now → AreWays (test_of read) 0 ways.now → (length ways.now ≡ length read.cases.items) → IfErr result (IsUntestedFor inputs.now.texts.now.source.now text inputs.now.texts.now.script.now inputs.now.options.now) }
     ensures sound { IfErr result (λ f. IsOwnFault f → ⊥) }
 {
+    let options = inputs.options;
+    let texts = inputs.texts;
     // The scripts of each case's first ways, as many of a case as the options say.
-    let cases = all_scripts(alloc, ways, options.ways, script)?;
+    let cases = all_scripts(alloc, ways, options.ways, texts.script)?;
     let sites = test.sites.as_slice();
     let claims = test.claims.as_slice();
     let trials = Trials {
-        source,
+        source: texts.source,
         sites,
         claims,
         orders: options.orders,
@@ -561,10 +556,16 @@ fn hold<'t, 'a, R: Threads + Sync, W: Write>(
     };
     let tried = cases.as_slice();
     let explains = explained.is_asked();
-    let number = try_and_write(
-        &*rt, alloc, names, &trials, &*test, tried, ways, options, explains, out,
-    )?;
-    tell_remarks(rt, alloc, &trials, test, tried, script, options, explained);
+    let tester = Tester {
+        rt,
+        alloc,
+        names: inputs.names,
+        trials: &trials,
+        options,
+        explains,
+    };
+    let number = tester.try_and_write(test, tried, ways, out)?;
+    tester.tell_remarks(test, tried, texts.script, explained);
     Ok(number)
 }
 
@@ -605,20 +606,19 @@ fn known_of<'a>(alloc: Global, text: &'a [u8], others: &Answers) -> Result<Test<
 /// taken whole; `NoFailure` where there are fewer failures than the number of the one that is to be shown; and `NoJournal` where the journal is
 /// wanted of a failure that no order showed, and no run of it is found. Nothing is written then, but at a fault of the output a prefix of the text.
 #[tactic(auto, using(crate::proofs::Testing::unwritten, crate::proofs::Untold::unscripted_for, crate::proofs::Untold::unread_for))]
-pub fn test_text<R: Threads + Sync, W: Write>(
-    rt: &R,
+pub fn test_text<'t, R: Threads + Sync, W: Write>(
+    rt: &'t R,
     alloc: Global,
-    names: &Names<'_>,
-    texts: &TestTexts<'_>,
-    options: &TestOptions,
+    inputs: &'t TestInputs<'t>,
     out: &mut W,
     explained: &mut Explained,
 ) -> Result<usize, Untested>
-    ensures tested { IfOk result (HasFailing texts.now.source.now texts.now.test.now texts.now.script.now (named_of names.now) options.now (is_asked explained.old) (W.contents out.old) (W.contents out.new)) }
+    ensures tested { IfOk result (HasFailing inputs.now.texts.now.source.now inputs.now.texts.now.test.now inputs.now.texts.now.script.now (named_of inputs.now.names.now) inputs.now.options.now (is_asked explained.old) (W.contents out.old) (W.contents out.new)) }
     ensures fault { IfErr result (LeavesUntested (W.contents out.old) (W.contents out.new)) }
-    ensures cause { IfErr result (IsUntestedFor texts.now.source.now texts.now.test.now texts.now.script.now options.now) }
+    ensures cause { IfErr result (IsUntestedFor inputs.now.texts.now.source.now inputs.now.texts.now.test.now inputs.now.texts.now.script.now inputs.now.options.now) }
     ensures sound { IfErr result (λ f. IsOwnFault f → ⊥) }
 {
+    let texts = inputs.texts;
     // The tree isn't used: each way's program is loaded from the text. But a fault of the source's text comes before those of the script and the
     // test.
     if let Err(fault) = parse(alloc, texts.source) {
@@ -633,17 +633,6 @@ pub fn test_text<R: Threads + Sync, W: Write>(
         return Err(NO_MEMORY);
     };
     let ways = counted.as_slice();
-    let number = hold(
-        rt,
-        alloc,
-        names,
-        texts.source,
-        &known,
-        ways,
-        texts.script,
-        options,
-        out,
-        explained,
-    )?;
+    let number = hold(rt, alloc, inputs, &known, ways, out, explained)?;
     Ok(number)
 }

@@ -12,4 +12,4 @@ decreases-loop-rest g l = length l.rest
 
 abbrev pub invariant-loop-rest : goal.invariant-loop-rest
 invariant-loop-rest g l = ((ys : List CaseReport) → AllZip (IsTried l.fn.self.trials.now) l.rest ys → AllZip (IsTried l.fn.self.trials.now) l.fn.cases (l.reports.items ++ ys))
-    × ((f : Untested) → AreUntried l.fn.self.trials.now.source.now l.fn.self.workers l.fn.self.trials.now.limit (all_texts l.rest) f → AreUntried l.fn.self.trials.now.source.now l.fn.self.workers l.fn.self.trials.now.limit (all_texts l.fn.cases) f)
+    × ((f : Untested) → AreUntried l.fn.self.trials.now.source.now l.fn.self.options.now.workers l.fn.self.trials.now.limit (all_texts l.rest) f → AreUntried l.fn.self.trials.now.source.now l.fn.self.options.now.workers l.fn.self.trials.now.limit (all_texts l.fn.cases) f)
