@@ -10,7 +10,7 @@
 ghost use Rattle.std.specs.Prelude.{◌≡◌, ◌+◌, ◌≤◌, ◌++◌, ◌∷◌, [], List, None, Some, length, map, take, true, false, IfOk, OnOk, OnErr};
 ghost use Rattle.std.specs.List.{slice_get};
 ghost use Rattle.orc_rules.specs.declared.entry.Entry.{Entry as EntryOf};
-ghost use Rattle.orc_rules.specs.declared.entry.Entry.TheVariants.{Send, Call, Return, Bind, Publish, Cancel};
+ghost use Rattle.orc_rules.specs.declared.entry.Entry.TheVariants.{Call, Bind, Cancel};
 ghost use Rattle.orc_rules.specs.declared.limits.TheConstants.{MOST_ARGUMENTS};
 ghost use Rattle.orc_rules.specs.Trace.{published};
 ghost use Rattle.orc_journal.specs.Rows.{entry_of, given, plain, AreWithin, HasValue, IsPlain};
@@ -164,33 +164,6 @@ impl Journal {
         let row = self.tables.add_given(kind, first, second, value)?;
         self.rows.push_reserved(row);
         Ok(())
-    }
-
-    /// Adds a `send` as `push` does: the token with the mark `token` publishes the value, and the new token gets `mark`. It builds no `Entry`, which
-    /// is large since it has room for a call's arguments. The error is refused memory, and then nothing changes.
-    pub fn push_send(&mut self, token: u64, mark: u64, value: Value) -> Result<(), AllocError>
-        ensures added { OnOk result (self.new ≡ journal_with self.old (Send token mark value ∷ [])) }
-        ensures refused { OnErr result (self.new ≡ self.old) }
-    {
-        self.push_given(Kind::Send, token, mark, value)
-    }
-
-    /// Adds a `return` of this call with a value as `push` does, without an `Entry`. `mark` is that of the new token. The error is refused memory,
-    /// and then nothing changes.
-    pub fn push_return(&mut self, call: u64, mark: u64, value: Value) -> Result<(), AllocError>
-        ensures added { OnOk result (self.new ≡ journal_with self.old (Return call mark value ∷ [])) }
-        ensures refused { OnErr result (self.new ≡ self.old) }
-    {
-        self.push_given(Kind::Return, call, mark, value)
-    }
-
-    /// Adds a `publish` as `push` does, without an `Entry`. `token` is the mark of the token that publishes. The error is refused memory, and then
-    /// nothing changes.
-    pub fn push_publish(&mut self, token: u64, value: Value) -> Result<(), AllocError>
-        ensures added { OnOk result (self.new ≡ journal_with self.old (Publish token value ∷ [])) }
-        ensures refused { OnErr result (self.new ≡ self.old) }
-    {
-        self.push_given(Kind::Publish, token, 0, value)
     }
 
     /// Adds a `call` as `push` does, without an `Entry`: by the mark of the token that calls, the call's number, and its site's. The arguments,

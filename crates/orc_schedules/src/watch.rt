@@ -9,7 +9,7 @@
 
 ghost use Rattle.std.specs.Prelude.{◌≡◌, ◌++◌, ◌∷◌, [], IfOk, OnOk};
 ghost use Rattle.orc_claims.specs.declared.happening.Occurrence.{Occurrence as What};
-ghost use Rattle.orc_schedules.specs.Watch.{all_seen, counts_none_out, is_named, is_same_phase, is_seen, is_watchable, last_time, latest_by, latest_of_plain, latest_within, names_it, publications, sees, watched, watched_conditions, watched_plain, IsWatchOf, NameSame};
+ghost use Rattle.orc_schedules.specs.Watch.{all_seen, counts_none_out, is_named, is_same_phase, is_seen, is_watchable, last_time, latest_by, latest_of_plain, latest_within, names_it, sees, watched, watched_conditions, watched_plain, IsWatchOf, NameSame};
 
 use orc_claims::claim::{Claim, Condition, Event, Plain, Simple, Slot, Wanted};
 use orc_claims::happening::{Occurrence, Phase};
@@ -269,15 +269,6 @@ impl Watch {
             return Ok(None);
         }
         Ok(Some(watch))
-    }
-
-    /// A watch for publications alone, without times. The error is refused memory.
-    pub fn of_publications(alloc: Global) -> Result<Watch, AllocError>
-        ensures { IfOk result (λ w. w ≡ record { names = publications; latest = 0 }) }
-    {
-        let mut names = Vec::new(alloc);
-        names.push(Simple::Published(Slot::Any))?;
-        Ok(Watch { names, latest: 0 })
     }
 
     /// The latest time that the watch tells apart: every later one counts as this one.

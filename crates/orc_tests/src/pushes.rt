@@ -1,4 +1,4 @@
-//! Entries that are pushed onto a journal without an `Entry` value, one by one or all those of a sub-run. A *sub-run* is the run of a call of a
+//! Entries that are pushed onto a journal, one by one or all those of a sub-run. A *sub-run* is the run of a call of a
 //! definition, made apart and merged afterwards. A *mark* is the number of a token.
 
 use orc_journal::{Journal, Version};
@@ -29,11 +29,11 @@ fn keeps_what_is_pushed(rt: HostRuntime) -> Result<(), Fail> {
     // Seven entries: the bind comes with two cancels.
     journal.reserve(7)?;
     journal.push_call(1, 2, 3, &[Value::Number(-1), Value::Signal])?;
-    journal.push_return(2, 5, Value::Number(-9))?;
-    journal.push_send(5, 6, Value::Truth(true))?;
+    journal.push(&Entry::Return(2, 5, Value::Number(-9)))?;
+    journal.push(&Entry::Send(5, 6, Value::Truth(true)))?;
     // The second call has a number of over 32 bits.
     journal.push_bind(6, 1, Value::Signal, &[3, 4_294_967_296])?;
-    journal.push_publish(7, Value::Number(8))?;
+    journal.push(&Entry::Publish(7, Value::Number(8)))?;
     let text = text_of(rt.alloc(), &journal)?;
     let wanted =
         b"orc-journal 2\ncall 1 2 Lt(-1, signal)\nreturn 2 5 -9\nsend 5 6 true\nbind 6 1 signal\ncancel 3\ncancel 4294967296\npublish 7 8\n";
@@ -45,8 +45,8 @@ fn keeps_what_is_pushed(rt: HostRuntime) -> Result<(), Fail> {
 fn appended(alloc: Global, mark: u64) -> Result<Vec<u8>, AllocError> {
     let mut part = Journal::new(alloc, Version::Two);
     part.push_call(1, 1, 7, &[Value::Number(4), Value::Signal])?;
-    part.push_return(1, 2, Value::Number(5))?;
-    part.push_publish(2, Value::Number(5))?;
+    part.push(&Entry::Return(1, 2, Value::Number(5)))?;
+    part.push(&Entry::Publish(2, Value::Number(5)))?;
     let mut journal = Journal::new(alloc, Version::Two);
     journal.push(&Entry::Fork(1, 2, 3))?;
     journal.push_call(2, 1, 6, &[Value::Truth(false)])?;
