@@ -4,6 +4,7 @@
 //! book for a cell. `inputs` has the program and the table of what sites answer, `groups` has the words. A token's *slot* is the place of its record,
 //! its *serial* its number. `P` names the run and its table of words, `J` such a table, for contracts alone. `leave` gets passes that the caller is
 //! to *leave*, so that no word counts them.
+
 ghost use Rattle.std.specs.Prelude.{◌≡◌, ◌≤◌, ◌+◌, ◌⊎◌, ℕ, IfOk, IfErr, IfSome, OnOk, OnErr, vec_len, vec_capacity};
 ghost use Rattle.orc_rules.specs.Timed.{IsIn};
 ghost use Rattle.orc_tables.specs.declared.records.Token.{Token as Its};

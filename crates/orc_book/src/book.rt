@@ -3,6 +3,7 @@
 //! program. A *slot* is the place of a token's record, and is used again; a *serial* is a token's number, and never is. A *cell* stands for the x of
 //! an opened `<x<`. `inputs` has the program (its graph) and the table of what sites answer. `P` names the run and its table of words, for contracts
 //! alone.
+
 ghost use Rattle.std.specs.Prelude.{◌≡◌, ◌≤◌, true, [], Some, IfOk, IfErr, count_by};
 ghost use Rattle.orc_ledger_spec.specs.Whole.{IsWhole};
 ghost use Rattle.orc_rules.specs.declared.limits.TheConstants.{MOST_ENTRIES};

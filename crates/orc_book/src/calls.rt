@@ -2,6 +2,7 @@
 //! call in its group (what runs in one right side of a `<x<`, one left side of a `;`, or the whole program), whose *word*, an atomic counter, counts
 //! the passes. The book *keeps* the tokens that wait for a cell. `inputs` has the program and the table of what sites answer. `P` names the run and
 //! its table of words, for contracts alone. A pass that is *left* is counted no more.
+
 ghost use Rattle.std.specs.Prelude.{◌≡◌, ◌≤◌, ◌<◌, ◌+◌, ◌⊎◌, ℕ, List, length, true, Some, IfOk, IfErr, IfSome, MatchOption, OnOk, OnErr};
 ghost use Rattle.orc_rules.specs.Timed.{IsIn};
 ghost use Rattle.orc_tables.specs.declared.records.Token.{Token as Its};

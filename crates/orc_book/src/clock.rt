@@ -2,6 +2,7 @@
 //! which logical time goes on to the next answer of a call. Tokens are *out* while workers have them, and *kept* while they wait in the book. A
 //! *word* counts a group's passes, each of which stands for a token, a call or a group in it. `inputs` has the program and the table of what sites
 //! answer. `P` names the run and its table of words, for contracts alone.
+
 ghost use Rattle.std.specs.Prelude.{◌≡◌, ◌+◌, ◌++◌, ◌∷◌, [], IfOk, IfErr, OnOk, OnErr};
 ghost use Rattle.orc_rules.specs.declared.entry.Entry.TheVariants.{Tick};
 ghost use Rattle.orc_ledger_spec.specs.Answers.{MayTick};

@@ -4,6 +4,7 @@
 //! what it does next. `inputs` has the program and the table of what sites answer. `P` names the run and its table of words, for contracts alone. In
 //! contracts `Moves` says that the ledger has made the token's move, with the answer `moved.On`: the token's successor is in its slot, the place of
 //! its record. `ks`, the calls that a bind cancels, say nothing here.
+
 ghost use Rattle.std.specs.Prelude.{◌≡◌, ◌⊎◌, ℕ, List, IfOk, IfErr};
 ghost use Rattle.orc_tables.specs.declared.records.Token.{Token as Its};
 ghost use Rattle.orc_ledger_spec.specs.Moves.{Moves};

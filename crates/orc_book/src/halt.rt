@@ -3,6 +3,7 @@
 //! group's *word*, an atomic counter, counts the passes. A token is *out* while a worker has it, and *kept* while it waits in the book for a cell,
 //! which stands for the x of an opened `<x<`. The ledger has the records and the journal. `leave` gets passes that the caller is to *leave*, so that
 //! no word counts them. `P` names the run and its table of words, for contracts alone.
+
 ghost use Rattle.std.specs.Prelude.{◌≡◌, ◌≤◌, ◌+◌, ◌⊎◌, ℕ, IfOk, IfErr, OnOk, OnErr, None, Some};
 ghost use Rattle.orc_rules.specs.Nodes.{code};
 ghost use Rattle.orc_rules.specs.Term.{Halted as HasStopped};

@@ -1,5 +1,6 @@
 //! Which tokens the book keeps while they wait for cells. Contracts call the serial of the token that is kept in a slot the slot's *mark*. All other
 //! tokens are *out*, with workers. A *cell* stands for the x of an opened `f <x< g`; tokens wait for it until g gives it a value or can't any more.
+
 ghost use Rattle.std.specs.Prelude.{◌≡◌, ◌<◌, ◌≤◌, ℕ, [], length, true, false, OnOk, OnErr};
 ghost use Rattle.orc_book.specs.Held.{IsMarked, mark_at};
 

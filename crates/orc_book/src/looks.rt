@@ -2,6 +2,7 @@
 //! what runs in one right side of a `<x<`, one left side of a `;`, or the whole program. A token is found by its *slot*, the place of its record, and
 //! its *serial*, its number. It is *out* while a worker has it, and *kept* while it waits in the book. A *due* call is to be answered now. `inputs`
 //! has the program and the table of what sites answer. `P` names the run and its table of words, for contracts alone.
+
 ghost use Rattle.std.specs.Prelude.{◌≡◌, ◌≤◌, ℕ, All, Some, true, IfSome, IfNone, MatchOption};
 ghost use Rattle.orc_word.specs.Views.{group_of};
 ghost use Rattle.orc_rules.specs.Timed.{IsIn};

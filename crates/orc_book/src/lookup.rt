@@ -2,6 +2,7 @@
 //! stands for it in its group (what runs in one right side of a `<x<`, one left side of a `;`, or the whole program), whose *word*, an atomic
 //! counter, counts the passes. `inputs` has the program and the table of what sites answer. `P` names the run and its table of words, for contracts
 //! alone.
+
 ghost use Rattle.std.specs.Prelude.{◌≡◌, IfOk, IfErr};
 ghost use Rattle.orc_book.specs.Held.{IsGone};
 ghost use Rattle.orc_book.specs.Refusals.{HasFound};

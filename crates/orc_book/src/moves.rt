@@ -5,6 +5,7 @@
 //! sites answer. A *slot* is the place of a token's record. `P` names the run and its table of words, for contracts alone. In contracts `Moves` says
 //! that the ledger has made the token's move: the token is gone (`moved.Gone`), or has a successor in its slot and one in another (`moved.Forked`).
 //! `ks`, the calls that a bind cancels, say nothing here. A pass that is *left* is counted no more.
+
 ghost use Rattle.std.specs.Prelude.{◌≡◌, ◌⊎◌, ℕ, List, Some, IfOk, IfErr, OnOk};
 ghost use Rattle.orc_tables.specs.declared.records.Token.{Token as Its};
 ghost use Rattle.orc_ledger_spec.specs.Moves.{Moves, IsHindered};

@@ -6,6 +6,7 @@
 //! names the run and its table of words, for contracts alone. In contracts `Moves` says that the ledger has made the token's move: its successor is
 //! in its slot (`moved.On`), or one is there and the other in another slot (`moved.Forked`). `ks`, the calls that a bind cancels, say nothing here. A
 //! pass that is *left* is counted no more.
+
 ghost use Rattle.std.specs.Prelude.{◌≡◌, ◌≤◌, ◌+◌, ◌<◌, ℕ, List, length, true, Some, None, IfOk, OnOk, IfErr};
 ghost use Rattle.orc_tables.specs.declared.records.Token.{Token as Its};
 ghost use Rattle.orc_ledger_spec.specs.Moves.{Moves};

@@ -1,6 +1,7 @@
 //! What a worker lends to a book's calls: passes for new records, and room for what comes out. A *group* is what runs in one right side of a `<x<`,
 //! one left side of a `;`, or the whole program; its members are tokens, pending calls and groups right inside it, and an *idle* pass names no group.
 //! `P` names the table of words, for contracts alone.
+
 ghost use Rattle.std.specs.Prelude.{◌≡◌, ◌+◌, ◌≤◌, ◌++◌, ◌∷◌, [], None, vec_len, vec_capacity, IfNone, OnOk, MatchOption};
 ghost use Rattle.orc_word.specs.Views.{group_of};
 ghost use Rattle.orc_book.specs.Refusals.{HasNone};

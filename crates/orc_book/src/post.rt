@@ -5,6 +5,7 @@
 //! member, and the group's *word*, an atomic counter, counts the passes; an *idle* pass names no group. A token is *out* while a worker has it, with
 //! its pass, and *kept* while it waits in the book. `J` names the table of words, for contracts alone. `leave` gets passes that the caller is to
 //! *leave*, so that no word counts them.
+
 ghost use Rattle.std.specs.Prelude.{◌≡◌, ◌+◌, ◌-◌, ◌<◌, ◌≤◌, ◌^◌, ◌∷◌, ◌++◌, [], Some, None, true, false, length, vec_len, vec_capacity, All, IfOk, OnOk, MatchOption, MatchResult};
 ghost use Rattle.orc_indexes.specs.Same.{weight};
 ghost use Rattle.orc_word.specs.Views.{group_of};

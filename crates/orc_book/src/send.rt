@@ -5,6 +5,7 @@
 //! of passes. `P` names the run and its table of words, for contracts alone. In contracts `SpendsIdle` says that no idle pass is used and the new
 //! token has the old one's pass, or that the last idle one is used and the old token's pass is added to `out.leave`; `HaveCome` says which passes the
 //! tokens have that are added to `out.born`. A pass that is *left* is counted no more.
+
 ghost use Rattle.std.specs.Prelude.{◌≡◌, ◌≤◌, ◌+◌, ◌++◌, ◌∷◌, [], ℕ, MatchResult, List, vec_len, vec_capacity, IfErr, OnOk};
 ghost use Rattle.orc_rules.specs.Nodes.{code, definitions};
 ghost use Rattle.orc_ledger_spec.specs.Doing.{what_of};

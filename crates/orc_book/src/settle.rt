@@ -5,6 +5,7 @@
 //! are *kept* in the book and *out* with workers. The ledger has the records. `P` names the run, `J` its table of words, for contracts alone.
 //! `in_posts f` and `in_words f` are what the passes in posts and words weigh, where `f` gives each pass any weight: so a clause says that none is
 //! lost. `leave` gets passes that the caller is to *leave*, so that no word counts them.
+
 ghost use Rattle.std.specs.Prelude.{◌≡◌, ◌+◌, ◌≤◌, ◌<◌, ℕ, true, false, length, vec_len, vec_capacity};
 ghost use Rattle.orc_rules.specs.declared.limits.TheConstants.{MOST_GROUPS};
 ghost use Rattle.orc_indexes.specs.Same.{weight};

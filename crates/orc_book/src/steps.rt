@@ -4,6 +4,7 @@
 //! `births` has passes that the worker lends; `out` gets what comes of the move. `found` has what the book has found of the token: its record, what
 //! it does next and its group. `inputs` has the program and the table of what sites answer, `groups` has the words. `P` names the run and its table
 //! of words, for contracts alone. A pass that is *left* is counted no more.
+
 ghost use Rattle.std.specs.Prelude.{◌≡◌, ◌≤◌, ◌+◌, ◌⊎◌, ◌++◌, ◌∷◌, [], List, vec_len, vec_capacity, IfErr, MatchResult, OnErr, OnOk};
 ghost use Rattle.orc_book.specs.Held.{HasStayed, KeepsWords, AreBorn};
 ghost use Rattle.orc_book.specs.Refusals.{is_end, is_opening, HasFound, IsRefusedMove, IsRefusedStep, IsUnopened};

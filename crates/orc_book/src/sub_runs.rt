@@ -3,6 +3,7 @@
 //! of a `;`, or the whole program), whose *word* counts the passes. The book *keeps* the tokens that wait for a cell. `inputs` has the program and
 //! the table of what sites answer. `found` has what the book has found of the token: its record (`its`) and its group. `P` names the run and its
 //! table of words, for contracts alone. A pass that is *left* is counted no more.
+
 ghost use Rattle.std.specs.Prelude.{◌≡◌, IfOk, OnOk, IfErr};
 ghost use Rattle.orc_tables.specs.declared.records.Token.{Token as Its};
 ghost use Rattle.orc_ledger_spec.specs.Parts.{StandsFor, TakesIn};

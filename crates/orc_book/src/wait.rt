@@ -3,6 +3,7 @@
 //! right side of a `<x<`, one left side of a `;`, or the whole program). A token is found by its *slot*, the place of its record, and its *serial*,
 //! its number. A slot's *mark* is the serial of the token that the book keeps there, 0 for none. `P` names the run and its table of words, for
 //! contracts alone.
+
 ghost use Rattle.std.specs.Prelude.{◌≡◌, ◌≤◌, ◌+◌, ℕ, Some, true, IfErr, IfSome, MatchOption, OnOk};
 ghost use Rattle.orc_rules.specs.Nodes.{code, definitions};
 ghost use Rattle.orc_frames.specs.Doing.{is_wait};

@@ -3,6 +3,7 @@
 //! token, a pending call or a group right inside it. The ledger, which has the records, has each *open* group. It has a *killed* one no more, since a
 //! bind has dropped that; but workers may still have passes to it. `P` names the table of words, for contracts alone. A pass that is *left* is
 //! counted no more.
+
 ghost use Rattle.std.specs.Prelude.{◌≡◌, Some};
 ghost use Rattle.orc_book.specs.Held.{owed_to};
 

@@ -1,6 +1,6 @@
 //! With which delays of a range a case fails: `Pay(_) = 1 after 3..7, 12`. A `Line` is the line of a service, and a `Choice` is what the service does
-//! in a way: its answers (`Found`: an answer with its delay, or never one) to one call after the other. A choice has a range if the alternative that
-//! it takes has a range of delays.
+//! in a way: its answers (`Found`: an answer with its delay, or never one) to one call after the other. A choice has a range if one of the
+//! alternatives that its calls take has a range of delays.
 //!
 //! The loops take `rest`, what is left of a slice, apart from the front, as the definitions in specs/ take lists apart.
 //!

@@ -166,8 +166,9 @@ fn operand_at(program: &Program, node: usize, position: usize) -> Option<Operand
 }
 
 impl Marked {
-    /// What the token with the mark `token` can do next. None where there is no such token, or a cancel is due: then the next entry has to be that
-    /// `cancel`. `Offers` promises that the entry of the answer fits here, whatever new numbers it takes.
+    /// What the token with the mark `token` can do next. None where there is no such token, or it is on a call of a definition that isn't there (no
+    /// checked program has one), or a cancel is due: then the next entry has to be that `cancel`. `Offers` promises that the entry of the answer fits
+    /// here, whatever new numbers it takes.
     pub fn next(&self, program: &Program, token: u64) -> Option<Next>
         ensures { IfSome result (λ n. (x : Context) (p : Place) → x.definitions ≡ definitions program.now → Spells x (code program.now) self.now p → Offers x p token n) }
     {

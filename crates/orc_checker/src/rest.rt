@@ -40,7 +40,7 @@ pub struct Rest {
     pub(crate) time: u64,
     /// The calls whose cancel is due, the least last, since that is the next one.
     pub(crate) to_cancel: Vec<u64>,
-    /// Whether the journal records cancels: only then they come due.
+    /// Whether the journal records cancels: only then do they come due.
     pub(crate) cancels: bool,
 }
 

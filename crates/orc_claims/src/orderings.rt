@@ -16,8 +16,8 @@ use std::alloc::{AllocError, Global};
 
 impl Event {
     /// Whether one of these happenings meets the event (is what it describes), where variables have the values `given`, and at most `most` units
-    /// after the time `since`; `most` as None is no bound. `found` is scratch memory: what is in it before and after doesn't matter. The error is
-    /// refused memory.
+    /// after the time `since`; `most` as None is no bound. A happening before `since` counts, too; no caller has one. `found` is scratch memory: what
+    /// is in it before and after doesn't matter. The error is refused memory.
     pub(crate) fn any_meets(
         &self,
         given: &[Bound],

@@ -176,7 +176,7 @@ impl Rows {
                 ahead.push(Ahead { span: next, depth })?;
             }
             let is_kept = kept.get(span).copied().unwrap_or(false);
-            // A span without a row indents nothing: what is in it has the depth of its place.
+            // A span without a row indents nothing: what is in it has the depth that its row would have had.
             let is_shown = is_kept && self.add(spans, span, depth, texts)?;
             if let Some(inner) = tree.inner(span) {
                 ahead.push(Ahead {

@@ -24,7 +24,7 @@ pub enum Taker {
     Whole,
     /// A `>x>`: the number of its name, the node of its right side, the scope in which the whole `f >x> g` is, and the step around that.
     SeqLeft(u32, u32, usize, usize),
-    /// A `<x<`, of whose right side the value comes: the number of the cell that gets the value, and the step around the whole `f <x< g`.
+    /// A `<x<`, from whose right side the value comes: the number of the cell that gets the value, and the step around the whole `f <x< g`.
     PruneRight(u64, usize),
 }
 

@@ -4,8 +4,8 @@
 //! has dropped the right side of a `<x<` in which it was.
 //!
 //! A call that adds an entry makes room for its row, then adds to the tables, and puts the row in last, which can't fail. So where memory is refused
-//! no row was added; what the tables have more is named by none. In calls that add an entry `token` is the mark of the token that moves,
-//! `mark` that of the new token, and `call` and `cell` are numbers.
+//! no row was added; what the tables have more is named by none. In calls that add an entry `token` is the mark of the token that moves, and `call`
+//! and `cell` are numbers.
 
 ghost use Rattle.std.specs.Prelude.{◌≡◌, ◌+◌, ◌≤◌, ◌++◌, ◌∷◌, [], List, None, Some, length, map, take, true, false, IfOk, OnOk, OnErr};
 ghost use Rattle.std.specs.List.{slice_get};

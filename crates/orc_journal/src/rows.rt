@@ -20,8 +20,8 @@ use std::alloc::{AllocError, Global};
 use std::marker::Model;
 use std::mem::size_of;
 
-/// An entry's numbers in the order of its line, 0 for those that it hasn't. If it has a value, the third one is the value's place; if it is a call,
-/// the third one is the place of its site and arguments among the calls.
+/// An entry's numbers in the order of its line, 0 for those that it doesn't have. If it has a value, the third one is the value's place; if it is a
+/// call, the third one is the place of its site and arguments among the calls.
 #[derive(Clone, Copy)]
 pub struct Parts {
     pub kind: Kind,
@@ -40,7 +40,7 @@ pub enum Row {
     Wide(usize),
 }
 
-// The docstring of `Journal` says that an entry takes 16 bytes.
+// The doc comment of `Journal` says that an entry takes 16 bytes.
 const _: () = prove!(size_of::<Row>() == 16);
 
 /// A call's site, by its number in the program's table, the place of its first argument among the values, and how many arguments it has.
@@ -51,7 +51,7 @@ pub struct Called {
     pub count: u8,
 }
 
-// The docstring of `Journal` says that a call takes 12 bytes more.
+// The doc comment of `Journal` says that a call takes 12 bytes more.
 const _: () = prove!(size_of::<Called>() == 12);
 
 /// What the rows of a journal name by its place: values, calls and parts of wide rows.

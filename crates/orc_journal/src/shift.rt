@@ -1,7 +1,8 @@
 //! A part's rows, moved to the end of the enclosing journal's rows: most of them by adding to each number what the enclosing run has used before. A
-//! *row* stands for an entry: a narrow one has the entry's first three numbers in 32 bits each, a wide one names the place of its numbers. The
-//! *tables* have the values and calls that rows name. A `Numbering` has the mark of the token that stood where the part is, the enclosing run's next
-//! mark, and how many calls and cells that run had before. A *mark* is the number of a token. A *cell* stands for the x of an opened `f <x< g`.
+//! *part* is the journal of a sub-run, a call of a definition that was run by itself. A *row* stands for an entry: a narrow one has the entry's first
+//! three numbers in 32 bits each, a wide one names the place of its numbers. The *tables* have the values and calls that rows name. A `Numbering` has
+//! the mark of the token that stood where the part is, the enclosing run's next mark, and how many calls and cells that run had before. A *mark* is
+//! the number of a token. A *cell* stands for the x of an opened `f <x< g`.
 
 ghost use Rattle.std.specs.Prelude.{◌≡◌, ◌+◌, ◌≤◌, ◌++◌, [], true, false, length, map, IfOk, IfSome, OnErr, OnSome, vec_len, vec_capacity};
 ghost use Rattle.std.specs.List.{All};

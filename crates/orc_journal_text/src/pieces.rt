@@ -149,6 +149,7 @@ impl<R: Read + Drop> Pieces<R> {
         self.came += count;
         Ok(count > 0)
     }
+
     // Keeps the first of the bytes that aren't used, and drops the others.
     fn keep_first(&mut self)
         requires { 0 < length self.old.rest }

@@ -12,6 +12,7 @@ pub enum LoadFault {
     Syntax(SyntaxFault),
     /// The source's text spells a program, and the script's text is no script (L1, L3), or memory was refused for it (L2).
     Script(ScriptFault),
-    /// Both texts are read, and a name of the source means nothing that fits, or the program is too large (C1 to C8), or memory was refused (C9).
+    /// Both texts are read, and a name of the source means nothing that fits or is defined twice, or the program is too large (C1 to C8), or memory
+    /// was refused (C9).
     Scope(ScopeFault),
 }

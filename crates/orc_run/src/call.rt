@@ -11,7 +11,7 @@ use std::alloc::{AllocError, Global};
 /// The names that a command line has for the files of a test, which the table's title and commands repeat.
 #[derive(Clone, Copy)]
 pub struct Names<'n> {
-    /// The program's file, and that of the script beside the test.
+    /// The program's source, and the script beside the test if there is one.
     pub program: ProgramPaths<'n>,
     /// The test's file.
     pub test: &'n str,

@@ -272,9 +272,9 @@ fn show_file<'a, R: Threads + Sync, F: Files, W: Write>(
     }
 }
 
-// `orc check`: checks the journal of a file. The journal is read piece by piece; but where an explanation is asked for, its text is kept (`lines`),
-// so that `explained` can show a fault in it. `subject` has the names and texts of the files, the journal too. The status is 0 if the check accepts
-// the journal. The failure is a file that can't be read, or a fault.
+// `orc check`: checks the journal of a file. `check_read` reads the journal piece by piece; but where an explanation is asked for, `lines` has its
+// text, so that `explained` can show a fault in it. `subject` has the names and texts of the files, the journal too. The status is 0 if the check
+// accepts the journal. The failure is a file that can't be read, or a fault.
 #[tactic(auto, using(crate::proofs::Statuses::unread, crate::proofs::Causing::unread_check, crate::proofs::Statuses::cut_or_kept, crate::proofs::Sound::unread_sound, crate::proofs::Statuses::unread_refused))]
 fn check_file<'a, F: Files, W: Write>(
     alloc: Global,
@@ -407,7 +407,7 @@ fn claims_file<'a, F: Files, W: Write>(
 
 // The title of a picture of a file's program: the file's name without its folders, or the whole path where it has no such name, as `..`. Of standard
 // input it is `standard input`.
-fn name_of(path: &str) -> &str {
+fn picture_title(path: &str) -> &str {
     let title = title_of(path);
     Path::new(title).file_name().unwrap_or(title)
 }
@@ -437,7 +437,7 @@ fn draw_file<'a, F: Files, W: Write>(
     let script_text = read_script_text(alloc, program.script, files)?;
     match draw_text(
         alloc,
-        name_of(program.file),
+        picture_title(program.file),
         source.as_slice(),
         script_text.as_slice(),
         text.as_slice(),
@@ -484,7 +484,7 @@ fn draw_run_of<'a, R: Threads + Wait + Sync, F: Files, W: Write>(
     match draw_run(
         rt,
         alloc,
-        name_of(program.file),
+        picture_title(program.file),
         source.as_slice(),
         script_text.as_slice(),
         options,
@@ -526,8 +526,9 @@ fn print_file<'a, F: Files, W: Write>(
     }
 }
 
-// `orc test`: judges the claims of a test on runs of a file's program. The status says whether all hold. The failure is a file that can't be read, a
-// fault, or that what is to be shown isn't there (`NoFailure`, `NoJournal`). `explained` gets a fault, with the names and texts of the files.
+// `orc test`: judges the claims of a test on runs of a file's program. The status says whether all hold. `names` has the paths of the files, which
+// the table repeats, and `claims` is the test's text. The failure is a file that can't be read, a fault, or that what is to be shown isn't there
+// (`NoFailure`, `NoJournal`). `explained` gets a fault, with the names and texts of the files, or what looks like a mistake in the test.
 #[tactic(auto, using(crate::proofs::Statuses::unread, crate::proofs::Causing::unread_test, crate::proofs::Statuses::cut_or_kept, crate::proofs::Sound::unread_sound))]
 fn test_file<'a, R: Threads + Sync, F: Files, W: Write>(
     rt: &R,

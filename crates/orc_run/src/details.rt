@@ -1,9 +1,9 @@
 //! What stands below each failure of a test.
 //!
 //! A run in an order shows a failure (`Trial`), or only the search through all schedules found it (`Schedule`). What is shown is made again from the
-//! failure's script and order: the runs of the trials aren't kept. A `Tester` has the trials, and what the options say of them. `shown` (a `Failing`)
-//! names the way, the order, and where in the run the claim fails. A *way* is one choice of what the services of a case answer, a *schedule* any
-//! sequence of moves that the rules allow.
+//! failure's script and order: the runs of the trials aren't kept. A `Tester` has the trials and the options. `shown` (a `Failing`) names the way,
+//! the order, and where in the run the claim fails. A *way* is one choice of what the services of a case answer, a *schedule* any sequence of moves
+//! that the rules allow.
 //!
 //! In the functions here `cases` has the scripts of each case's tried ways, and `ways` all ways of each case. `script` is that of the failure's way,
 //! `lines` are the unusual lines of that way (`unusual_lines`), and `ranges` those with the numbers of a range with which the claim fails

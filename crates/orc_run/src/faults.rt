@@ -16,12 +16,12 @@ use orc_ways::fault::TestFault;
 use std::error::Error;
 use std::fmt;
 
-/// Why a program was not run, or its output not written.
+/// Why a program was not run, a journal or a test not accepted, or the output not written.
 #[derive(Clone, Copy, Debug, PartialEq, Eq)]
 pub enum RunFault {
     /// The source is no program.
     Syntax(SyntaxFault),
-    /// A name of the source means nothing that fits.
+    /// A name of the source means nothing that fits or is defined twice, or the program is too large.
     Scope(ScopeFault),
     /// The script's text is no script.
     Script(ScriptFault),

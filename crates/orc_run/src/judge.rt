@@ -39,7 +39,7 @@ pub struct Judged {
 }
 
 /// The verdict on a journal's text, by the program that a source spells, with the built-in sites and those of a script. The fault is the
-/// first of one of the source's text, of the script, of the source's names, of the journal's text and of its entries.
+/// first that there is, in this order: of the source's text, the script, the source's names, the journal's text, its entries.
 pub fn judge(
     alloc: Global,
     source: &[u8],

@@ -136,7 +136,7 @@ fn cost_of(found: &ClaimSearched, most: usize) -> u64 {
     }
 }
 
-/// What is searched, and by how much.
+/// What is searched, and how far.
 #[derive(Drop)]
 pub(crate) struct Searcher<'s, 'a> {
     /// Where memory comes from.
@@ -227,9 +227,9 @@ impl Searcher<'_, '_> {
         number
     }
 
-    // Whether a search of so many `states` in each way that is to come, this one among them, would need more than the `left` ones. It is asked at the
-    // first way of a case alone: then the claim is given up at once, and not after the states have been spent on some of its ways. `section` is the
-    // place of the claim's own case, from 0, or None below `always`.
+    // Whether a search of so many `states` in each way that is to come, this one among them, would need more than the `left` ones. It can be true
+    // at the first way of a case alone: so a claim is given up at once, and not after the states have been spent on some of its ways. `section` is
+    // the place of the claim's own case, from 0, or None below `always`.
     fn is_too_much(&self, place: Broken, section: Option<usize>, states: usize, left: u64) -> bool {
         place.way == 0
             && self
@@ -270,10 +270,10 @@ impl Searcher<'_, '_> {
         Ok(found)
     }
 
-    // What is said of a claim, at its place in the test from 0, after the way at this place (its case, and its number there). Before that way the
-    // claim was `Whole`: no schedule broke it. It stays so if it is one of another case. The answer is true of this way (`IsAfter`). `explorer` is
-    // that of this way's program. `left` is how many states all searches may still look at; this search takes those at which it looked. The error is
-    // refused memory, here and in the functions that call this one.
+    // Gives what is said of a claim after a way. `claim` is the claim's place in the test, from 0, and `place` is the way's: its case, and its number
+    // there. Before that way the claim was `Whole`: no schedule broke it. It stays so if it is one of another case. The answer is true of this way
+    // (`IsAfter`). `explorer` is that of this way's program. `left` is how many states all searches may still look at; this search takes those at
+    // which it looked. The error is refused memory, here and in the functions that call this one.
     #[tactic(auto, using(crate::proofs::Schedules::untouched_word, crate::proofs::Schedules::unknown_word))]
     fn say_again(
         &self,
@@ -302,9 +302,9 @@ impl Searcher<'_, '_> {
         }
     }
 
-    // What is said of a claim, at its place in the test from 0, after the way at this place (its case, and its number there), where `before` was said
-    // of it. What is new in the answer is true of this way (`IsAfter`). Once a schedule broke the claim, or a search gave it up, no search changes
-    // what is said. `left` is how many states all searches may still look at.
+    // Gives what is said of a claim after a way, where `before` was said of it. `claim` is the claim's place in the test, from 0, and `place` is the
+    // way's: its case, and its number there. What is new in the answer is true of this way (`IsAfter`). Once a schedule broke the claim, or a search
+    // gave it up, no search changes what is said. `left` is how many states all searches may still look at.
     #[tactic(auto, using(crate::proofs::Schedules::untouched_word))]
     fn say(
         &self,

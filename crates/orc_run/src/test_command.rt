@@ -78,7 +78,7 @@ pub struct TestTexts<'t> {
     pub script: &'t [u8],
 }
 
-/// What a test is made of: the names of its files, which the table shows, their texts, and the options.
+/// What `test_text` gets: the names of a test's files, which the table's title and commands repeat, the texts of these files, and the options.
 #[derive(Clone, Copy)]
 pub struct TestInputs<'t> {
     pub names: &'t Names<'t>,
@@ -92,18 +92,19 @@ pub(crate) const NO_TEXT: Untested = Untested::Fault(RunFault::Write(WriteFault)
 /// Memory for what is tried was refused: status 5.
 pub(crate) const NO_MEMORY: Untested = Untested::Fault(RunFault::Engine(EngineFault::Memory));
 
-/// What is tried, and how.
+/// What is tried, how, and what is written of it.
 #[derive(Drop)]
 pub(crate) struct Tester<'s, 'a, R> {
     /// The runtime, which starts the threads.
     pub(crate) rt: &'s R,
     /// Where memory comes from.
     pub(crate) alloc: Global,
-    /// The names of the files, for the commands that the table shows.
+    /// The names of the files, for the table's title and the commands that it shows.
     names: &'s Names<'s>,
     /// The program, the claims, and the orders and the limit of each run.
     pub(crate) trials: &'s Trials<'s, 'a>,
-    /// How many threads make the runs of the trials, how many states a search looks at, and what is to be written.
+    /// The options: how many threads make the runs of the trials, how many states a search looks at, what is to be written, and what the commands
+    /// of the table repeat. The orders and the limit are those of `trials`.
     pub(crate) options: &'s TestOptions,
     /// Whether failures are explained: the numbers of ranges that fail, and a picture of the run that shows it.
     pub(crate) explains: bool,
@@ -128,9 +129,10 @@ pub(crate) fn run_fault(fault: TrialFault) -> RunFault
 }
 
 impl<R: Threads + Sync> Tester<'_, '_, R> {
-    // Tries the ways of a case that have these scripts (each one choice of what the case's services answer), each in all orders: how many there were,
-    // and what is reported of each claim. The fault is that of the first script with which the source isn't loaded, or one of the engine: a number is
-    // out of range or memory was refused, but the engine itself is never to blame (`sound`).
+    // Tries the ways of a case that have these scripts (a way is one choice of what the case's services answer), each in all orders of `trials`. The
+    // report says how many ways the case has, how many were tried, how many runs were cut, and what came of each claim. The fault is that of the
+    // first script with which the source isn't loaded, or one of the engine: a number is out of range or memory was refused, but the engine itself is
+    // never to blame (`sound`).
     fn try_case(&self, scripts: &CaseScripts) -> Result<CaseReport, Untested>
         ensures tried { IfOk result (IsTried self.now.trials.now scripts.now) }
         ensures cause { IfErr result (AreUntried self.now.trials.now.source.now self.now.options.now.workers self.now.trials.now.limit (texts scripts.now.scripts.items)) }
@@ -188,8 +190,8 @@ impl<R: Threads + Sync> Tester<'_, '_, R> {
         }
     }
 
-    // Searches all schedules for the claims that failed in no run; `reports` says which these are. The result has what is found of each claim of the
-    // test's lines, and all of it is true (`AreSaid`). The fault is refused memory.
+    // Searches all schedules for runs that break a claim which failed in no trial; `reports` says which claims failed. The result has what is found
+    // of each claim of the test's lines, and all of it is true (`AreSaid`). The fault is refused memory.
     fn search_all(
         &self,
         test: &Test<'_>,
@@ -274,15 +276,15 @@ impl<R: Threads + Sync> Tester<'_, '_, R> {
         // One text for each failure, in the order of the rows: it stands below the failure.
         let details = self.all_details(report.test, cases, ways, rows)?;
         let names = self.names;
-        // The options on which failures depend, which the commands repeat.
-        let Ok(known) = options_text(self.alloc, names.program.script, self.options) else {
+        // The script's name and the options on which failures depend, which the commands repeat.
+        let Ok(repeated) = options_text(self.alloc, names.program.script, self.options) else {
             return Err(NO_TEXT);
         };
         // `Call` (of `orc_tally`) says how the commands that the text shows name the files and the options. It is no call of a site.
         let call = Call {
             source: names.program.file,
             test: names.test,
-            options: known.as_slice(),
+            options: repeated.as_slice(),
         };
         // The whole table, in which `call` gives the commands that show the first failure.
         let Ok(text) = report.table(self.alloc, &call, details.as_slice()) else {
@@ -291,9 +293,9 @@ impl<R: Threads + Sync> Tester<'_, '_, R> {
         write_whole(out, text.as_slice())
     }
 
-    // Writes the script of the way (one choice of what the services answer) in which the failure with this number, from 1, is. `cases` has the
-    // scripts of each case's tried ways, and `rows` the failures. The fault is that there is no such failure, or one of the output. Nothing was
-    // written then, but at one of the output a prefix.
+    // Writes the script of the way (one choice of what the services answer) in which the claim of a failure fails. `number` is the failure's, from 1,
+    // `cases` has the scripts of each case's tried ways, and `rows` the failures. The fault is that there is no such failure, or one of the output.
+    // Nothing was written then, but at one of the output a prefix.
     #[tactic(auto, using(crate::proofs::Testing::unwritten, crate::proofs::Untold::texts_unshown, crate::proofs::Untold::unshown_unwritten))]
     fn write_script<W: Write>(
         &self,
@@ -468,7 +470,7 @@ impl<R: Threads + Sync> Tester<'_, '_, R> {
         explained: &mut Explained,
     ) {
         match self.options.shown {
-            Shown::Table if explained.is_asked() => {
+            Shown::Table if self.explains => {
                 explained.remarks(self.remarks(test, cases, script));
             }
             // A script or a journal is wanted, or no explanation is asked for.
@@ -476,10 +478,10 @@ impl<R: Threads + Sync> Tester<'_, '_, R> {
         }
     }
 
-    // Tries the ways of a test's cases (choices of what their services answer), searches all schedules, and writes what is wanted of the test: how
-    // many claims fail. `cases` has the scripts of the ways that are tried, and `ways` all ways of each case. The trials and the options have the
-    // same limit of entries. The fault is that of a run, refused memory, one of the output, or that what is to be shown isn't there; the engine
-    // itself is never to blame (`sound`).
+    // Tries the ways of a test's cases (choices of what their services answer), searches all schedules, writes what is wanted of the test, and
+    // answers how many claims fail. `cases` has the scripts of the ways that are tried, and `ways` all ways of each case. The trials and the options
+    // have the same limit of entries. The fault is that of a run, refused memory, one of the output, or that what is to be shown isn't there; the
+    // engine itself is never to blame (`sound`).
     #[tactic(auto, using(crate::proofs::Testing::unwritten, crate::proofs::Untold::untried_untold, crate::proofs::Untold::memory_untold))]
     fn try_and_write<W: Write>(
         &self,
@@ -523,9 +525,10 @@ fn add_end(alloc: Global, test: &mut Test<'_>) -> Result<(), AllocError>
     Ok(())
 }
 
-// Judges the claims of a test that was read, to which `add_end` has added the one that runs end, in these ways of its cases: how many fail. The
-// remarks on what looks like a mistake come last, once the table has been written. The fault is that of a run, refused memory, one of the output, or
-// that what is to be shown isn't there. The clauses *tested* and *cause* hold of each text that says this test beside the script of `inputs`.
+// Judges the claims of a test that was read, to which `add_end` has added the one that a run ends by itself, in the first of these ways of its cases,
+// as many of a case as the options say, and answers how many fail. The remarks on what looks like a mistake come last, once the table has been
+// written. The fault is that of a run, refused memory, one of the output, or that what is to be shown isn't there. The clauses *tested* and *cause*
+// hold of each text that says this test beside the script of `inputs`.
 #[tactic(auto, using(crate::proofs::Testing::unwritten))]
 fn hold<'t, 'a, R: Threads + Sync, W: Write>(
     rt: &'t R,
@@ -554,7 +557,7 @@ fn hold<'t, 'a, R: Threads + Sync, W: Write>(
         orders: options.orders,
         limit: options.limit,
     };
-    let tried = cases.as_slice();
+    let scripts = cases.as_slice();
     let explains = explained.is_asked();
     let tester = Tester {
         rt,
@@ -564,8 +567,8 @@ fn hold<'t, 'a, R: Threads + Sync, W: Write>(
         options,
         explains,
     };
-    let number = tester.try_and_write(test, tried, ways, out)?;
-    tester.tell_remarks(test, tried, texts.script, explained);
+    let number = tester.try_and_write(test, scripts, ways, out)?;
+    tester.tell_remarks(test, scripts, texts.script, explained);
     Ok(number)
 }
 
@@ -595,11 +598,12 @@ fn known_of<'a>(alloc: Global, text: &'a [u8], others: &Answers) -> Result<Test<
 }
 
 /// Judges the claims of a test on the program that a source spells, with the built-in sites, those of the test and those of a script: each case in
-/// its first ways, as many as the options say, each way in as many orders; and then, for a claim that failed in none of these runs, all schedules of
-/// each way. Writes the names of the program and the test, a line for each claim, below one that fails what shows it, and the commands that show the
-/// first failure; or instead the script or the journal that shows one failure. That runs end by themselves is claimed in each case in which no claim
-/// says how they end, and has a line where it fails. Answers how many claims fail. Where explanations are asked for, the picture of the run stands
-/// below each failure that a run showed, and `explained` gets which services no run asked, and which calls no line answers.
+/// its first ways, as many as the options say, each way in as many orders as they say; and then, for a claim that failed in none of these runs, all
+/// schedules of each way. Writes the names of the program and the test, a line for each claim, below one that fails what shows it, and the commands
+/// that show the first failure; or instead the script or the journal that shows one failure. That runs end by themselves is claimed in each case in
+/// which no claim says how they end, and has a line where it fails. Answers how many claims fail. Where explanations are asked for, the ranges'
+/// numbers with which a claim fails and the picture of the run stand below each failure that a run showed; and with the table `explained` gets which
+/// services no run asked, and which calls no line answers.
 ///
 /// The faults are those of the source's text, of the script, of the test and of the source's names, in this order; `Engine` where the number of
 /// workers or the limit is out of range, or memory is refused for what is tried; `Write` where memory for the text is refused or the output isn't
@@ -624,11 +628,11 @@ pub fn test_text<'t, R: Threads + Sync, W: Write>(
     if let Err(fault) = parse(alloc, texts.source) {
         return Err(Untested::Fault(RunFault::Syntax(fault)));
     }
-    // The sites of the script beside the test; the test that the text says; and all ways of each of its cases.
+    // The built-in sites and those of the script beside the test; the test that the text says; and all ways of each of its cases.
     let others = others_of(alloc, texts.script)?;
     let mut known = known_of(alloc, texts.test, &others)?;
     let counted = ways_of(alloc, &known)?;
-    // Behind the claims of the test's lines stands one more: that each run halts or goes quiet, so isn't cut by the limit.
+    // Behind the claims of the test's lines stands one more: that each run halts or goes quiet, so isn't cut.
     let Ok(()) = add_end(alloc, &mut known) else {
         return Err(NO_MEMORY);
     };

@@ -18,7 +18,7 @@ const UNSEEN: u32 = 64;
 
 /// An order in which turns come: a sequence of pseudo-random numbers says whose turn is next.
 ///
-/// A token whose next step nobody outside sees goes on without a draw, since such a step commutes with all others. So an order draws among the tokens
+/// A token whose next move nobody outside sees goes on without a draw, since such a move commutes with all others. So an order draws among the tokens
 /// that publish, bind or call a script's site next, and the calls that are due. In an even order all of them have the same chance, so their moves
 /// mix. In an odd order each node of the program and each call has a rank. The order draws eight candidates, and the one with the highest rank goes
 /// on, so that one part of the program may be far ahead of another. One turn in sixteen changes all ranks. This follows Burckhardt, Kothari,
@@ -33,7 +33,7 @@ pub(crate) struct Order {
     ranks: u64,
     // Whether ranks count: in odd orders.
     is_ranked: bool,
-    // How many tokens at the front of the run queue are *settled*: known to have a next step that somebody outside sees.
+    // How many tokens at the front of the run queue are *settled*: known to have a next move that somebody outside sees.
     pub(crate) settled: usize,
     // How many turns that nobody outside sees have followed one another.
     unseen: u32,
@@ -60,7 +60,7 @@ impl Order {
         ensures { 0 < count → result < count }
     {
         self.last = self.numbers.next_u64();
-        // 1 for an empty list, so that nothing is divided by 0.
+        // 1 if there is no candidate, so that nothing is divided by 0.
         let most = count.max(1) as u64;
         (self.last % most) as usize
     }
@@ -101,7 +101,8 @@ impl Order {
     }
 
     /// Whether the newest of the `count` tokens in the run queue goes on without a draw: it does if nobody outside sees its next move. After `UNSEEN`
-    /// such turns in a row one is drawn all the same, so that a token whose moves nobody ever sees doesn't starve the others.
+    /// such turns in a row one is drawn all the same, so that a token whose moves nobody ever sees doesn't starve the others. A true
+    /// answer counts as one more such turn, and a false one begins the count anew.
     pub(crate) fn goes_unseen(&mut self, count: usize) -> bool {
         if self.settled < count && self.unseen < UNSEEN {
             self.unseen += 1;

@@ -2,9 +2,9 @@
 //! end (`IsNearer`, `Advances`), and each stop has a cause (`Stops`, all in `specs/Stops.antt`). An error of type `Stop` is the reason why the run
 //! stops: the entry that was refused isn't in the journal, and the caller gives no turn any more. A *token* marks a part of the program's term that
 //! runs. The *ledger* has the records of a run and its journal: it keeps a token in a *slot*, and a `Handle` names the token. `inputs` are the
-//! program's nodes and the table that answers its calls. A *group* is what runs in one *side*, the right one of a `<x<` or the left one of a `;`. A
-//! turn has `MOVES` moves at most: 64. In contracts the type `P` names the run: `P.listing` is its program, and `P.keeps` says whether its journal is
-//! kept.
+//! program's nodes and the table that answers its calls. A *group* is what runs in one *side*, the right one of a `<x<` or the left one of a `;`,
+//! or in the whole program (group 0). A turn has `MOVES` moves at most: 64. In contracts the type `P` names the run: `P.listing` is its program, and
+//! `P.keeps` says whether its journal is kept.
 
 ghost use Rattle.std.specs.Prelude.{◌≡◌, ◌≤◌, ◌<◌, ◌+◌, ◌^◌, ℕ, true, false, IfOk, IfErr, IfSome, IfNone, OnErr};
 ghost use Rattle.std.specs.VecDeque.{deque_len};
@@ -399,9 +399,10 @@ impl<P: Run> Scheduler<P> {
         self.join_held(slot)
     }
 
-    /// One move of the token in this slot, and all that follows from it: tokens that the move wakes or adds are put into the run queue, groups (what
-    /// runs in one side) that it leaves without members end. The answer says how the token goes on. After `Waits` the records are the same as before;
-    /// after any other answer the run is further (`Advances`): it has more entries, or as many and fewer open groups. The error is why the run stops.
+    /// One move of the token in this slot, and all that follows from it: tokens that the move wakes or adds are put into the run queue, and groups
+    /// (what runs in one side) that it leaves without members end. The answer says how the token goes on. After `Waits` the records are the same as
+    /// before; after any other answer the run is further (`Advances`): it has more entries, or as many and fewer open groups. The error is why the
+    /// run stops.
     #[inline(always)]
     pub(crate) fn step(
         &mut self,
@@ -429,7 +430,7 @@ impl<P: Run> Scheduler<P> {
     }
 
     // One move of the token in this slot, of any kind, and all that follows from it: tokens that the move wakes or adds are put into the run queue,
-    // groups (what runs in one side) that it leaves without members end. The answer says how the token goes on. After `Waits` the records are the
+    // and groups (what runs in one side) that it leaves without members end. The answer says how the token goes on. After `Waits` the records are the
     // same as before; after any other answer the run is further (`Advances`). The error is why the run stops.
     #[inline(always)]
     fn step_any(&mut self, inputs: &Inputs<'_, P>, slot: usize, token: Token) -> Result<Step, Stop>
@@ -548,7 +549,7 @@ impl<P: Run> Scheduler<P> {
                 }
             }
             Node::Seq(left, name, right) if self.goes_through => {
-                // `self.args` is lent for the arguments, in case that f is a call of a site.
+                // `self.args` is lent for the arguments, in case f is a call of a site.
                 let args = &mut self.args;
                 let sequence = Sequence { left, name, right };
                 match self

@@ -61,7 +61,7 @@ fn pair_of(numbers: &[usize], joint: Joint, f: usize, g: usize) -> Result<Node, 
     Ok(Node::Pair(joint, left, right))
 }
 
-// The node of the small term of a program's node, which `unfolded` is. `numbers` has the numbers of the small terms of the nodes before it. The error
+// The node of the small term of a program's node, `unfolded`. `numbers` has the numbers of the small terms of the nodes before it. The error
 // is refused memory, or that the number of a part isn't known yet. The contract says that the parts of the node that is given are among the terms,
 // and that the term of this node is that of the program's node.
 fn node_of(

@@ -1,11 +1,11 @@
 //! Runs programs on many workers again and again, and writes how many of the runs were *odd*: ended otherwise than they have to, or left a journal
 //! that the check doesn't accept. `checks/storms` reads that.
 //!
-//!     orc_stress ROUNDS                       runs each program ROUNDS times on 2, 4 and 16 workers
-//!     orc_stress NAME WORKERS [ROUNDS]        runs one program on WORKERS workers, once by default; NAME may also be `due`, `asks` or `nap`
+//!     orc_stress [ROUNDS]                     runs each program ROUNDS times on 2, 4 and 16 workers, and some with calls that are held
+//!     orc_stress NAME [WORKERS [ROUNDS]]      runs one program on WORKERS workers, ROUNDS times; NAME may also be `due`, `asks` or `nap`
 //!
-//! A number that is left out is its default, and so are WORKERS and ROUNDS behind a NAME if they can't be read. If the first word is neither a number
-//! nor a NAME, the program writes the names and ends with status 2.
+//! The first ROUNDS is 3 by default, and behind a NAME both numbers are 1. So are they there if they can't be read. If the first word is neither a
+//! number nor a NAME, the program writes the names and ends with status 2.
 //!
 //! A `Storm` is a program with how its runs have to end. `Played` is a run that has ended: how (`summary`), what it published, and its journal. A
 //! run's *gate* may hold each call before its site makes it.
@@ -100,7 +100,8 @@ fn count_held<R: Threads + Wait + Sync>(
 }
 
 // Runs every program of `STORMS` `rounds` times on each number of workers, and writes how many of the runs are odd: ended otherwise than they have
-// to, or left a journal that the check doesn't accept.
+// to, or left a journal that the check doesn't accept. Then it runs four programs `rounds` times on as many workers as they make calls, with a gate
+// that holds each call until all have come.
 fn run_all<R: Threads + Wait + Sync + Print>(rt: &R, alloc: Global, rounds: u32) -> io::Result<()> {
     for storm in &STORMS {
         for workers in [2, 4, 16] {

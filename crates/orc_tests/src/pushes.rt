@@ -1,5 +1,5 @@
-//! Entries that are pushed onto a journal, one by one or all those of a sub-run. A *sub-run* is the run of a call of a
-//! definition, made apart and merged afterwards. A *mark* is the number of a token.
+//! Entries that are pushed onto a journal, one by one or all those of a sub-run. A *sub-run* is the run of a call of a definition, made apart and
+//! merged afterwards. A *mark* is the number of a token.
 
 use orc_journal::{Journal, Version};
 use orc_journal_text::write_journal;

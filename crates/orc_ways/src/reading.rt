@@ -79,7 +79,7 @@ fn is_served(site: &SiteName<'_>, lines: &[ServiceLine<'_>]) -> bool
     false
 }
 
-// The number of the line that names the first site which no service of the test has, and whose name isn't among `others`, the sites that need no
+// The number of the line that names the first site for which the test has no service, and whose name isn't among `others`, the sites that need no
 // service. None if there is no such site.
 fn unknown(others: &Answers, lines: &[ServiceLine<'_>], sites: &[SiteName<'_>]) -> Option<usize>
     ensures { result ≡ unknown_line others.now (service_lines_of lines.now) (sites_of sites.now) }

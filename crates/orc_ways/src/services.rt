@@ -277,7 +277,7 @@ pub fn service<'a>(alloc: Global, tokens: &[Token<'a>]) -> Result<Option<Service
     let Some(name) = site_name(token) else {
         return Ok(None);
     };
-    // In a scope without a line no name is a variable, so a service with one in its patterns isn't read. Patterns name no site.
+    // In a scope without a line no name is a variable, so a service with a name in its patterns isn't read. Patterns name no site.
     let scope = Scope {
         sites: &[],
         line: &[],

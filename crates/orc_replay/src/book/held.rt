@@ -22,7 +22,8 @@ use std::mem;
 /// for few looks.
 const FEW_DYING: usize = 64;
 
-/// However many slots there are, it looks through them once killed groups use this many words: half of those that open groups leave (`WORDS`).
+/// However many slots there are, it looks through them once killed groups use this many words: half of the words that can't be taken by open groups
+/// (`WORDS`).
 const MOST_DYING: usize = 512;
 
 /// A *slot* is the place at which the book has a token's record. Of a slot the replay notes the token that is *out* there (the replay has that token

@@ -145,8 +145,8 @@ fn state_of<P: Run + Naming>(
     }
 }
 
-/// Reads a journal's text as `replay_text` does, compares it with itself, and gives how many entries it has; `bench/book` takes this time off. None
-/// if a text can't be read, or memory is refused.
+/// Reads a journal's text as `replay_text` does, compares it with itself, and gives how many entries it has; `bench/book` subtracts the time
+/// of this from that of a replay. None if a text can't be read, or memory is refused.
 pub(crate) fn read_text(alloc: Global, source: &[u8], script: &[u8], text: &[u8]) -> Option<usize> {
     let loaded = load(alloc, source, script).ok()?;
     let journal = read_journal(alloc, text, &loaded.answers).ok()?;

@@ -127,7 +127,7 @@ impl<P: Run + Naming> Replay<P> {
             | Entry::Call(mark, _, _, _)
             | Entry::Bind(mark, _, _)
             | Entry::Publish(mark, _) => self.advance(setup, *mark, entry)?,
-            // Not reached.
+            // Not reached: a cancel was taken above.
             Entry::Cancel(_) => {}
         }
         self.settle(setup)

@@ -13,7 +13,7 @@ use Rattle.orc_run.proofs.test_command.hold.Goals as goal
 pub returns-clause-tested : goal.returns-clause-tested
 returns-clause-tested g c = λ text others read says reads judged are every.
     subst (λ e. HasFailing c.args.inputs.now.texts.now.source.now text c.args.inputs.now.texts.now.script.now (named_of c.args.inputs.now.names.now) c.args.inputs.now.options.now e (g.W.Write.contents c.args.out.now) (g.W.Write.contents c.try_and_write.new.out) c.in_ok-number.number) c.is_asked-explains.ensures.asked
-    (report_of c.args.inputs.now.texts.now.source.now c.args.inputs.now.texts.now.script.now text (named_of c.args.inputs.now.names.now) c.args.inputs.now.options.now c.is_asked-explains.result (record { source = c.args.inputs.now.texts.now.source; sites = c.as_slice-sites.result; claims = c.as_slice-claims.result; orders = c.args.inputs.now.options.now.orders; limit = c.args.inputs.now.options.now.limit }) read c.args.test.now c.as_slice-tried.result.now others (g.W.Write.contents c.args.out.now) (g.W.Write.contents c.try_and_write.new.out) c.in_ok-number.number c.args.ways.now are every (subst (AllZip (AreScripts c.args.inputs.now.options.now.ways c.args.inputs.now.texts.now.script.now) c.args.ways.now) (sym c.as_slice-tried.ensures.value) c.in_ok-cases.ensures.scripts)
+    (report_of c.args.inputs.now.texts.now.source.now c.args.inputs.now.texts.now.script.now text (named_of c.args.inputs.now.names.now) c.args.inputs.now.options.now c.is_asked-explains.result (record { source = c.args.inputs.now.texts.now.source; sites = c.as_slice-sites.result; claims = c.as_slice-claims.result; orders = c.args.inputs.now.options.now.orders; limit = c.args.inputs.now.options.now.limit }) read c.args.test.now c.as_slice-scripts.result.now others (g.W.Write.contents c.args.out.now) (g.W.Write.contents c.try_and_write.new.out) c.in_ok-number.number c.args.ways.now are every (subst (AllZip (AreScripts c.args.inputs.now.options.now.ways c.args.inputs.now.texts.now.script.now) c.args.ways.now) (sym c.as_slice-scripts.ensures.value) c.in_ok-cases.ensures.scripts)
     judged refl c.as_slice-sites.ensures.value c.as_slice-claims.ensures.value refl refl says reads c.in_ok-number.ensures.tested)
 
 -- why it wasn't
@@ -28,6 +28,6 @@ returns-in_err-number-clause-cause g c = λ text others s read spells says reads
     let known : IsKnown c.args.inputs.now.texts.now.source.now text c.args.inputs.now.texts.now.script.now (test_of read) = record { spells = (s, spells); others = others; says = says; reads = reads } in
     let p = err_from_is_err_and c.from_residual-in_err-number.result c.from_residual-in_err-number.ensures.1 in
     rw (p.1, p.2) (untold c.args.inputs.now.texts.now.source.now text c.args.inputs.now.texts.now.script.now c.args.inputs.now.options.now read known c.args.ways.now are every c.args.test.now judged
-    (record { source = c.args.inputs.now.texts.now.source; sites = c.as_slice-sites.result; claims = c.as_slice-claims.result; orders = c.args.inputs.now.options.now.orders; limit = c.args.inputs.now.options.now.limit }) c.as_slice-tried.result.now
-    (subst (AllZip (AreScripts c.args.inputs.now.options.now.ways c.args.inputs.now.texts.now.script.now) c.args.ways.now) (sym c.as_slice-tried.ensures.value) c.in_ok-cases.ensures.scripts)
+    (record { source = c.args.inputs.now.texts.now.source; sites = c.as_slice-sites.result; claims = c.as_slice-claims.result; orders = c.args.inputs.now.options.now.orders; limit = c.args.inputs.now.options.now.limit }) c.as_slice-scripts.result.now
+    (subst (AllZip (AreScripts c.args.inputs.now.options.now.ways c.args.inputs.now.texts.now.script.now) c.args.ways.now) (sym c.as_slice-scripts.ensures.value) c.in_ok-cases.ensures.scripts)
     refl c.as_slice-sites.ensures.value c.as_slice-claims.ensures.value refl refl c.in_err-number.field-0.0 c.in_err-number.ensures.cause)
