@@ -13,7 +13,7 @@ pub struct Request {
     pub site: u32,
     /// The values that it is called with.
     pub args: Args,
-    /// How many calls of this site with these arguments the run has made, this one included: from 1 on.
+    /// How many calls of this site with these arguments the run has made, this one included: from 1 on; always 1 for a site that no script answers.
     pub nth: u64,
     /// The logical time at which the call was made.
     pub made_at: u64,

@@ -49,8 +49,8 @@ pub trait Sites {
     /// The engine tells the sites that a bind has cancelled the call of this number, from 1. That may happen before the call is made.
     fn cancel(&self, number: u64);
 
-    /// Whether a call, a poll or a cancel may wait for something that another thread does. Then the engine lets no other work wait behind it. The
-    /// default is true.
+    /// Whether a call, a poll or a cancel may wait for something that another thread does. Then no other work waits behind a call or a poll; behind a
+    /// cancel the tokens of its worker wait. The default is true.
     fn may_wait(&self) -> bool {
         true
     }
